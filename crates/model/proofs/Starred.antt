@@ -1,0 +1,134 @@
+-- 01, "Plans with their verdicts": the starred cases A to I, with B's move, as one table. Each row has what an entry makes
+-- of a case, computed from the definitions, and what 01 says it is: the values of the answer (0 and the value, or a
+-- refusal's number and place), then each lent list. The record is the one statement.
+use Prim.Native.Nat.{ℕ, _+_}
+use mathlib.Core.List.{List, [], _∷_, _++_}
+use mathlib.Core.Path.{_≡_, refl}
+use lib.ListN.{length, replicate}
+use Rattle.model.specs.Answers.{tableValues, verdictValues, moveValues}
+use Rattle.model.specs.Line.{pack}
+use Rattle.model.specs.Claims.{table}
+use Rattle.model.specs.Entries.{TableOutcome, VerdictOutcome, MoveOutcome, tabling, judging, moving}
+use Rattle.model.specs.Board.{devices}
+
+infix 90 _does_
+infix 90 _takes_
+infix 90 _gives_
+infix 90 _starts_
+-- lines, written as 01 writes them
+_does_ : ℕ → ℕ → ℕ
+unfolding pack
+j does code = pack j 0 code
+
+_takes_ : ℕ → ℕ → ℕ
+unfolding pack
+j takes d = pack j 1 d
+
+_gives_ : ℕ → ℕ → ℕ
+unfolding pack
+j gives d = pack j 2 d
+
+_starts_ : ℕ → ℕ → ℕ
+unfolding pack
+j starts k = pack j 3 k
+
+pub planA : List ℕ
+unfolding _does_ _takes_ _gives_ _starts_
+planA = 1 starts 2 ∷ 1 takes 1 ∷ 1 does 7 ∷ 2 takes 0 ∷ 2 takes 1 ∷ 2 gives 1 ∷ []
+
+-- A with line 5 moved to device 2
+pub planB : List ℕ
+unfolding _does_ _takes_ _gives_ _starts_
+planB = 1 starts 2 ∷ 1 takes 1 ∷ 1 does 7 ∷ 2 takes 0 ∷ 2 takes 2 ∷ 2 gives 2 ∷ []
+
+pub planC : List ℕ
+unfolding _takes_ _gives_ _starts_
+planC = 1 starts 2 ∷ 1 takes 0 ∷ 1 takes 1 ∷ 1 gives 1 ∷ 2 takes 1 ∷ 2 takes 0 ∷ 2 gives 0 ∷ []
+
+pub planD : List ℕ
+unfolding _takes_ _gives_ _starts_
+planD =
+    1 starts 2 ∷ 1 takes 0 ∷ 1 takes 1 ∷ 1 gives 1 ∷ 1 gives 0 ∷ 2 takes 1 ∷ 2 takes 0 ∷ 2 gives 0 ∷ 2 gives 1 ∷ []
+
+pub planE : List ℕ
+unfolding _takes_ _gives_ _starts_
+planE = 1 takes 0 ∷ 1 starts 2 ∷ 1 gives 0 ∷ 2 takes 0 ∷ []
+
+pub planF : List ℕ
+unfolding _takes_ _gives_ _starts_
+planF = 1 takes 0 ∷ 1 starts 2 ∷ 2 takes 0 ∷ 2 gives 0 ∷ []
+
+pub planG : List ℕ
+unfolding _takes_ _starts_
+planG = 1 starts 2 ∷ 1 takes 5 ∷ 2 takes 5 ∷ []
+
+pub planH : List ℕ
+unfolding _takes_ _gives_ _starts_
+planH =
+    1 starts 2 ∷ 1 starts 3 ∷ 1 takes 0 ∷ 1 takes 1 ∷ 1 gives 1
+    ∷ 2 takes 1 ∷ 2 takes 2 ∷ 2 gives 2
+    ∷ 3 takes 2 ∷ 3 takes 0 ∷ 3 gives 0 ∷ []
+
+pub planI : List ℕ
+planI = []
+
+-- What an entry makes of a plan. The lent lists are one place longer than needed and filled with 99, which no case has, so
+-- that a row also shows what a refusal leaves and what stays past the last entry.
+pub lent : List ℕ → List ℕ
+lent p = replicate (length p + 1) 99
+
+pub tabled : List ℕ → List (List ℕ)
+unfolding tabling lent
+tabled p = let o : TableOutcome = tabling devices p (lent p) in tableValues (o .answer) ∷ o .sets ∷ []
+
+pub judged : List ℕ → List (List ℕ)
+unfolding judging lent
+judged p = let o : VerdictOutcome = judging devices p (lent p) in verdictValues (o .answer) ∷ o .order ∷ []
+
+-- of a plan with its own table
+pub moved : List ℕ → ℕ → ℕ → List (List ℕ)
+unfolding moving table
+moved p line device =
+    let o : MoveOutcome = moving devices p (table p ++ (99 ∷ [])) line device in
+    moveValues (o .answer) ∷ o .plan ∷ o .sets ∷ []
+
+-- what 01 says: an order and how many devices stay held; or a refusal
+pub accepted : ℕ → List ℕ → List (List ℕ)
+accepted stillHeld order = (0 ∷ stillHeld ∷ []) ∷ (order ++ (99 ∷ [])) ∷ []
+
+pub refused : ℕ → ℕ → List ℕ → List (List ℕ)
+unfolding lent
+refused number place p = (number ∷ place ∷ []) ∷ lent p ∷ []
+
+-- The table.
+pub record Starred : Type 0 where
+  pub A : judged planA ≡ accepted 2 (1 ∷ 4 ∷ 5 ∷ 6 ∷ 2 ∷ 3 ∷ [])
+  pub A-table : tabled planA ≡ (0 ∷ 6 ∷ []) ∷ (3 ∷ 2 ∷ 0 ∷ 3 ∷ 2 ∷ 0 ∷ 99 ∷ []) ∷ []
+  pub B-move : moved planA 5 2 ≡ (0 ∷ 3 ∷ []) ∷ planB ∷ (7 ∷ 2 ∷ 0 ∷ 5 ∷ 4 ∷ 0 ∷ 99 ∷ []) ∷ []
+  pub B-table : tabled planB ≡ (0 ∷ 6 ∷ []) ∷ (7 ∷ 2 ∷ 0 ∷ 5 ∷ 4 ∷ 0 ∷ 99 ∷ []) ∷ []
+  pub B : judged planB ≡ accepted 2 (1 ∷ 4 ∷ 5 ∷ 6 ∷ 2 ∷ 3 ∷ [])
+  pub C : judged planC ≡ refused 10 0 planC
+  pub D : judged planD ≡ accepted 0 (1 ∷ 2 ∷ 3 ∷ 4 ∷ 5 ∷ 6 ∷ 7 ∷ 8 ∷ 9 ∷ [])
+  pub E : judged planE ≡ accepted 1 (1 ∷ 2 ∷ 3 ∷ 4 ∷ [])
+  pub F : judged planF ≡ refused 10 0 planF
+  pub G : judged planG ≡ refused 9 5 planG
+  pub H : judged planH ≡ refused 10 0 planH
+  pub I : judged planI ≡ accepted 0 []
+
+pub starred : Starred
+unfolding tabled judged moved accepted refused lent planA planB planC planD planE planF planG planH planI
+starred =
+    record {
+      A = refl;
+      A-table = refl;
+      B-move = refl;
+      B-table = refl;
+      B = refl;
+      C = refl;
+      D = refl;
+      E = refl;
+      F = refl;
+      G = refl;
+      H = refl;
+      I = refl;
+    }

@@ -1,0 +1,94 @@
+-- 01, "Moving a claim".
+use Prim.Native.Nat.{ℕ, zero, suc}
+use mathlib.Core.Bool.{Bool, true, false, not, _||_}
+use mathlib.Core.List.{List, [], _∷_}
+use mathlib.Core.Option.{Option, none, some}
+use lib.Dec.{eqb, leb}
+use lib.ListN.{length, getD, set}
+use Rattle.model.specs.Lists.{positions, firstOf, those}
+use Rattle.model.specs.Sets.{union}
+use Rattle.model.specs.Answers.{numberOf, refuseIf, refuseAt, firstRefusal, tooShort}
+use Rattle.model.specs.Line.{pack, job, kind, isTake, starts, at, lineNumber}
+use Rattle.model.specs.Mate.{mate}
+use Rattle.model.specs.WellFormed.{fault}
+use Rattle.model.specs.Claims.{own, beyond}
+use Rattle.model.specs.declared.Refusal.{Refusal}
+use Rattle.model.specs.declared.Refusal.the-variants.{NotATake, NoSuchDevice, StaleTable}
+
+-- the plan with the line at i given another device
+unfoldable pub withDevice : List ℕ → ℕ → ℕ → List ℕ
+unfolding pack job kind
+withDevice p e i = set p i (pack (job (at p i)) (kind (at p i)) e)
+
+unfoldable pub alsoMate : List ℕ → ℕ → Option ℕ → List ℕ
+unfolding withDevice
+alsoMate p e none = p
+alsoMate p e (some m) = withDevice p e m
+
+-- the edited plan: device e at the take and at its mate
+unfoldable pub edited : List ℕ → ℕ → ℕ → List ℕ
+unfolding withDevice alsoMate mate
+edited p i e = alsoMate (withDevice p e i) e (mate p i)
+
+-- The way, walked back: below some position, looking for the lines of job j and the line that starts it; from there on its
+-- job is looked for.
+unfoldable pub wayIn : List ℕ → ℕ → ℕ → List ℕ
+unfolding job starts
+wayIn p j zero = []
+wayIn p j (suc i) =
+    elim (eqb (job (at p i)) j || starts (at p i) j) [ true ↦ i ∷ wayIn p (job (at p i)) i | false ↦ wayIn p j i ]
+
+unfoldable pub way : List ℕ → ℕ → List ℕ
+unfolding wayIn job
+way p i = wayIn p (job (at p i)) (suc i)
+
+-- the set that line i should have, going by what the table stores for its successors
+unfoldable pub rejoined : List ℕ → List ℕ → ℕ → ℕ
+unfolding union own beyond
+rejoined p t i = union (own p i) (beyond p t i)
+
+unfoldable pub stale : List ℕ → List ℕ → ℕ → Bool
+unfolding rejoined
+stale p t i = not (eqb (getD t i 0) (rejoined p t i))
+
+-- the table with the sets at some positions rewritten, one after the other
+unfoldable pub rewritten : List ℕ → List ℕ → List ℕ → List ℕ
+unfolding rejoined
+rewritten p t [] = t
+rewritten p t (i ∷ is) = rewritten p (set t i (rejoined p t i)) is
+
+-- how many of the plan's lines have another set than before
+unfoldable pub changed : List ℕ → List ℕ → List ℕ → ℕ
+unfolding those positions
+changed p old new = length (those (λ i. not (eqb (getD new i 0) (getD old i 0))) (positions p))
+
+-- the position of the line asked for, which is counted from 1
+unfoldable pub askedAt : ℕ → ℕ
+askedAt zero = zero
+askedAt (suc i) = i
+
+-- the line asked for is a take of the plan
+unfoldable pub isTakeOf : List ℕ → ℕ → Bool
+unfolding isTake
+isTakeOf p zero = false
+isTakeOf p (suc i) = isTake (at p i)
+
+-- a refusal, if its number is the one asked for
+unfoldable pub ofNumber : ℕ → Option Refusal → Option Refusal
+unfolding refuseIf
+ofNumber n none = none
+ofNumber n (some r) = refuseIf (eqb (numberOf r) n) r
+
+-- the tests, in their order
+unfoldable pub moveRefusal : ℕ → List ℕ → List ℕ → ℕ → ℕ → Option Refusal
+unfolding firstRefusal fault tooShort refuseIf isTakeOf refuseAt firstOf stale way ofNumber edited askedAt lineNumber
+moveRefusal D p t line device =
+    let i : ℕ = askedAt line in
+    firstRefusal
+    (fault D p
+    ∷ tooShort (length t) (length p)
+    ∷ refuseIf (not (isTakeOf p line)) (NotATake line)
+    ∷ refuseIf (leb D device) (NoSuchDevice device)
+    ∷ refuseAt (λ k. StaleTable (lineNumber k)) (firstOf (stale p t) (way p i))
+    ∷ ofNumber 8 (fault D (edited p i device))
+    ∷ [])

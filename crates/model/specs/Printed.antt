@@ -1,0 +1,61 @@
+-- 01, "Plans with their verdicts", its last part: what the program prints for a text, and the screens' entry.
+use Prim.Native.Nat.{ℕ}
+use mathlib.Core.Bool.{Bool, true, false}
+use mathlib.Core.List.{List, [], _∷_, _++_, map, flatMap}
+use mathlib.Core.Option.{Option, none, some}
+use lib.Dec.{ltb}
+use lib.ListN.{length}
+use Rattle.model.specs.Lists.{over}
+use Rattle.model.specs.Answers.{numberOf, placeOf, firstRefusal}
+use Rattle.model.specs.Line.{lineNumber}
+use Rattle.model.specs.Text.{decimal, tabbed, spelt}
+use Rattle.model.specs.Handed.{handed}
+use Rattle.model.specs.Verdict.{noOrder, heldAtEnd}
+use Rattle.model.specs.Entries.{textFault}
+use Rattle.model.specs.declared.Refusal.{Refusal}
+
+-- the words order and refused
+unfoldable pub orderWord : List ℕ
+orderWord = 111 ∷ 114 ∷ 100 ∷ 101 ∷ 114 ∷ []
+
+unfoldable pub refusedWord : List ℕ
+refusedWord = 114 ∷ 101 ∷ 102 ∷ 117 ∷ 115 ∷ 101 ∷ 100 ∷ []
+
+unfoldable pub printedRefusal : Refusal → List ℕ
+unfolding tabbed refusedWord decimal
+printedRefusal r = tabbed (refusedWord ∷ decimal (numberOf r) ∷ decimal (placeOf r) ∷ [])
+
+-- first how many lines and how many devices stay held, then the order, a number to a line
+unfoldable pub printedOrder : List ℕ → ℕ → List ℕ
+unfolding tabbed orderWord decimal flatMap
+printedOrder order stillHeld =
+    tabbed (orderWord ∷ decimal (length order) ∷ decimal stillHeld ∷ []) ++ flatMap (λ n. tabbed (decimal n ∷ [])) order
+
+unfoldable pub printedBy : Option Refusal → List ℕ → ℕ → List ℕ
+unfolding printedOrder printedRefusal
+printedBy none order stillHeld = printedOrder order stillHeld
+printedBy (some r) order stillHeld = printedRefusal r
+
+-- what is printed for a text
+unfoldable pub printed : ℕ → List ℕ → List ℕ
+unfolding printedBy firstRefusal textFault noOrder spelt handed heldAtEnd lineNumber
+printed D text =
+    let p : List ℕ = spelt D text in
+    printedBy (firstRefusal (textFault D text ∷ noOrder D p ∷ [])) (map lineNumber (handed p)) (heldAtEnd D p)
+
+-- The screens' entry: the number of bytes written, and the buffer; with too little room 0, and nothing is written.
+abbrev pub screenRoom : ℕ
+screenRoom = 4027
+
+pub record ScreenOutcome : Type 0 where
+  pub count : ℕ
+  pub out : List ℕ
+
+unfoldable pub screenBy : Bool → List ℕ → List ℕ → ScreenOutcome
+unfolding over
+screenBy true bytes lent = record { count = 0; out = lent }
+screenBy false bytes lent = record { count = length bytes; out = over bytes lent }
+
+unfoldable pub screening : ℕ → List ℕ → List ℕ → ScreenOutcome
+unfolding screenBy printed
+screening D text lent = screenBy (ltb (length lent) screenRoom) (printed D text) lent

@@ -1,0 +1,104 @@
+-- 01, "Rules of a well-formed plan", as its five sentences, and "Refusal numbers", 2 to 8: each fault of a plan with its
+-- place, in the order of the tests. (That a plan has no fault exactly if it is WellFormed is shown in `theory`.)
+use Prim.Native.Nat.{ℕ, zero, suc, _<_, _≤_}
+use mathlib.Core.Bool.{Bool, true, false, not, _&&_, _||_}
+use mathlib.Core.List.{List, [], _∷_, tail, headD}
+use mathlib.Core.Logic.{_⊎_, _≢_}
+use mathlib.Core.Option.{Option, none, some}
+use mathlib.Core.Path.{_≡_}
+use lib.Dec.{eqb, leb}
+use lib.ListN.{length}
+use Rattle.model.specs.Lists.{upFrom, positions, any, has, firstOf}
+use Rattle.model.specs.Answers.{refuseIf, refuseAt, firstRefusal}
+use Rattle.model.specs.Line.{job, operand, isTake, isGive, isStart, starts, isLine, at, lineNumber, hasLines, firstLine}
+use Rattle.model.specs.Line.{maxLines, maxJob}
+use Rattle.model.specs.declared.Refusal.{Refusal}
+use Rattle.model.specs.declared.Refusal.the-variants.{Malformed, TooManyLines, JobOutOfSequence, BadStart}
+use Rattle.model.specs.declared.Refusal.the-variants.{NeverStarted, GiveWithoutTake, TakeOfHeld}
+
+-- the lines before position i, the nearest first
+unfoldable pub before : List ℕ → ℕ → List ℕ
+before p zero = []
+before p (suc i) = at p i ∷ before p i
+
+-- the devices that job j holds after some lines, of which the nearest stands first: the device taken last first
+unfoldable pub heldBy : ℕ → List ℕ → List ℕ
+unfolding job isTake isGive operand
+heldBy j [] = []
+heldBy j (l ∷ b) =
+    elim (eqb (job l) j) [
+      | false ↦ heldBy j b
+      | true ↦ elim (isTake l) [
+        | true ↦ operand l ∷ heldBy j b
+        | false ↦ elim (isGive l) [ true ↦ tail (heldBy j b) | false ↦ heldBy j b ]
+      ]
+    ]
+
+-- device d is the latest of those still held
+unfoldable pub isLast : ℕ → List ℕ → Bool
+isLast d [] = false
+isLast d (x ∷ xs) = eqb d x
+
+-- The five rules: first and next; the three about starts; started; give; take. Past the end stands 0, a do of no job, so
+-- that starts, gives and takes need no bound on i.
+pub record Rules (p : List ℕ) : Type 0 where
+  pub first : 0 < length p → job (at p 0) ≡ 1
+  pub next : (i : ℕ) → suc i < length p → (job (at p (suc i)) ≡ job (at p i)) ⊎ (job (at p (suc i)) ≡ suc (job (at p i)))
+  pub startHigher : (i j : ℕ) → starts (at p i) j ≡ true → job (at p i) < j
+  pub startOnce : (i k j : ℕ) → k < i → starts (at p i) j ≡ true → starts (at p k) j ≡ false
+  pub startHasLines : (i j : ℕ) → starts (at p i) j ≡ true → hasLines p j ≡ true
+  pub started : (i : ℕ) → i < length p → job (at p i) ≢ 1 → any (λ l. starts l (job (at p i))) p ≡ true
+  pub give : (i : ℕ) → isGive (at p i) ≡ true → isLast (operand (at p i)) (heldBy (job (at p i)) (before p i)) ≡ true
+  pub take : (i : ℕ) → isTake (at p i) ≡ true → has (operand (at p i)) (heldBy (job (at p i)) (before p i)) ≡ false
+
+-- A well-formed plan with D devices: at most 1,024 numbers, each a line's, that obey the rules.
+pub record WellFormed (D : ℕ) (p : List ℕ) : Type 0 where
+  pub few : length p ≤ maxLines
+  pub lines : (i : ℕ) → i < length p → isLine D (at p i) ≡ true
+  pub rules : Rules p
+
+-- The faults. A line is tested against the lines before it, the nearest first.
+
+unfoldable pub inSequence : List ℕ → ℕ → Bool
+unfolding job
+inSequence [] l = eqb (job l) 1
+inSequence (q ∷ b) l = eqb (job l) (job q) || eqb (job l) (suc (job q))
+
+unfoldable pub lineFault : ℕ → List ℕ → ℕ → Option Refusal
+unfolding firstRefusal refuseIf lineNumber isLine inSequence isStart isGive isTake operand job any starts has heldBy isLast
+lineFault D b l =
+    let n : ℕ = lineNumber (length b) in
+    let held : List ℕ = heldBy (job l) b in
+    firstRefusal
+    (refuseIf (leb maxLines (length b)) TooManyLines
+    ∷ refuseIf (not (isLine D l)) (Malformed n)
+    ∷ refuseIf (not (inSequence b l)) (JobOutOfSequence n)
+    ∷ refuseIf (isStart l && (leb (operand l) (job l) || any (λ q. starts q (operand l)) b)) (BadStart n)
+    ∷ refuseIf (isGive l && not (isLast (operand l) held)) (GiveWithoutTake n)
+    ∷ refuseIf (isTake l && has (operand l) held) (TakeOfHeld n)
+    ∷ [])
+
+-- the fault of the first line that has one, of lines that stand after some others
+unfoldable pub firstFault : ℕ → List ℕ → List ℕ → Option Refusal
+unfolding lineFault
+firstFault D b [] = none
+firstFault D b (l ∷ ls) = elim (lineFault D b l) [ some r ↦ some r | none ↦ firstFault D (l ∷ b) ls ]
+
+-- After the last line. 5: the lowest line that starts a job without lines.
+unfoldable pub emptyStart : List ℕ → Option Refusal
+unfolding refuseAt firstOf positions isStart operand hasLines lineNumber
+emptyStart p =
+    refuseAt (λ i. BadStart (lineNumber i))
+    (firstOf (λ i. isStart (at p i) && not (hasLines p (operand (at p i)))) (positions p))
+
+-- 6: the first line of the lowest job, other than 1, that no line starts.
+unfoldable pub neverStarted : List ℕ → Option Refusal
+unfolding refuseAt firstOf upFrom hasLines any starts firstLine lineNumber headD
+neverStarted p =
+    refuseAt (λ j. NeverStarted (lineNumber (headD (firstLine j p) 0)))
+    (firstOf (λ j. hasLines p j && not (eqb j 1) && not (any (λ l. starts l j) p)) (upFrom 1 maxJob))
+
+-- the fault of a plan, if it has one
+unfoldable pub fault : ℕ → List ℕ → Option Refusal
+unfolding firstRefusal firstFault emptyStart neverStarted
+fault D p = firstRefusal (firstFault D [] p ∷ emptyStart p ∷ neverStarted p ∷ [])

@@ -1,0 +1,77 @@
+// The answers that the entries give, as Rattle enums. No code stands here: what each entry answers, for every input, is
+// defined in specs/, and specs/Answers.antt lists the number and the values of each case.
+
+// A refusal, one case for each number of 01, in its order. A case holds the place, unless that is fixed (0 for 1, 1,025 for 3).
+pub enum Refusal {
+    // 1: the text has over 12,288 bytes
+    TextTooLong,
+    // 2: the line is malformed, lacks its newline, or is the packed number of no line
+    Malformed(u32),
+    // 3: there is a line 1,025
+    TooManyLines,
+    // 4: the line's job does not follow on
+    JobOutOfSequence(u32),
+    // 5: the line starts a job that is not higher, is started already, or has no lines
+    BadStart(u32),
+    // 6: no line starts the job whose first line this is
+    NeverStarted(u32),
+    // 7: the line gives a device that is not the latest its job still holds
+    GiveWithoutTake(u32),
+    // 8: the line takes a device that its job holds
+    TakeOfHeld(u32),
+    // 9: two lasting takes of this device
+    TwoLasting(u32),
+    // 10: this device leads back to itself
+    LeadsBack(u32),
+    // 11: a lent list has too little room; it needs this length
+    ListTooShort(u32),
+    // 12: the line asked for is no take of the plan
+    NotATake(u32),
+    // 13: there is no such device
+    NoSuchDevice(u32),
+    // 14: the stored set of this line is stale
+    StaleTable(u32),
+}
+
+// Where the line reader stands: the offset of the next line, and how many lines were handed out before it.
+pub struct Cursor {
+    pub offset: usize,
+    pub lines: usize,
+}
+
+// The line reader's: the line's packed number with the next cursor, a refusal, or the end.
+pub enum LineAnswer {
+    Line(u32, Cursor),
+    Refused(Refusal),
+    End,
+}
+
+// Reading's: the number of lines.
+pub enum ReadAnswer {
+    Lines(u32),
+    Refused(Refusal),
+}
+
+// Writing's: the number of bytes.
+pub enum WriteAnswer {
+    Bytes(u32),
+    Refused(Refusal),
+}
+
+// The table's: the number of lines.
+pub enum TableAnswer {
+    Lines(u32),
+    Refused(Refusal),
+}
+
+// The verdict's: how many devices stay held once the order is through.
+pub enum VerdictAnswer {
+    Held(u32),
+    Refused(Refusal),
+}
+
+// The move's: how many lines got another set.
+pub enum MoveAnswer {
+    Changed(u32),
+    Refused(Refusal),
+}

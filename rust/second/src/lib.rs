@@ -1,0 +1,22 @@
+//! The second program: document 01 read once more, apart from the library, so that the two can be
+//! compared. It shares no code with the library and knows nothing of how the library works.
+//!
+//! Inside it stand two readings that are kept apart from each other as well:
+//!
+//! * the first, [`read`] and [`orders`], knows the text, the rules of a well-formed plan and what a
+//!   legal order is, and finds out by trying whether a plan has one;
+//! * the second, [`plain`], knows claims, rows, circles, the order handed out and the move.
+//!
+//! [`orders`] and [`read`] never call [`plain`], and [`plain`] never calls [`orders`]; the run
+//! `readings` is the only place where their answers meet. [`random`] makes the plans for it.
+
+#![forbid(unsafe_code)]
+#![warn(missing_docs)]
+
+pub mod line;
+pub mod orders;
+pub mod plain;
+pub mod random;
+pub mod read;
+
+pub use line::{Line, Refusal, Verb};

@@ -1,0 +1,145 @@
+//! The first reading, part two: all orders, tried one step after another.
+//!
+//! Reads, of document 01: "Legal orders", and nothing else. Claims, rows and circles are unknown
+//! here on purpose: what this file finds is what the other reading is held against.
+//!
+//! The plans are well-formed; line numbers count from 1 outside and from nought inside.
+
+use crate::line::{Line, Verb, DEVICES};
+use std::collections::HashSet;
+
+/// What has to be known of a plan before its orders can be judged.
+struct Plan<'a> {
+    lines: &'a [Line],
+    /// For each line the one its own job, or its job's start, puts before it.
+    before: Vec<Option<usize>>,
+}
+
+impl<'a> Plan<'a> {
+    fn new(lines: &'a [Line]) -> Plan<'a> {
+        let before = |at: usize| match at.checked_sub(1) {
+            Some(above) if lines[above].job == lines[at].job => Some(above),
+            _ => {
+                let start = Verb::Start(lines[at].job);
+                lines.iter().position(|line| line.verb == start)
+            }
+        };
+        Plan { lines, before: (0..lines.len()).map(before).collect() }
+    }
+}
+
+/// An order as far as it has come.
+struct Course {
+    done: Vec<bool>,
+    /// The job that holds each device. A give can only return what its own job holds, for it
+    /// follows its take in every order that keeps to the jobs' line order.
+    holder: [Option<u8>; DEVICES as usize],
+}
+
+impl Course {
+    fn new(plan: &Plan) -> Course {
+        Course { done: vec![false; plan.lines.len()], holder: [None; DEVICES as usize] }
+    }
+
+    /// Whether the line may come next. One line before it is enough to look at: that one has
+    /// come only after those before itself.
+    fn may_come(&self, plan: &Plan, at: usize) -> bool {
+        if self.done[at] || plan.before[at].is_some_and(|before| !self.done[before]) {
+            return false;
+        }
+        match plan.lines[at].verb {
+            Verb::Take(device) => self.holder[usize::from(device)].is_none(),
+            _ => true,
+        }
+    }
+
+    fn come(&mut self, plan: &Plan, at: usize) {
+        let line = plan.lines[at];
+        self.done[at] = true;
+        match line.verb {
+            Verb::Take(device) => self.holder[usize::from(device)] = Some(line.job),
+            Verb::Give(device) => self.holder[usize::from(device)] = None,
+            _ => {}
+        }
+    }
+
+    /// Undoes the line that came last.
+    fn go_back(&mut self, plan: &Plan, at: usize) {
+        let line = plan.lines[at];
+        self.done[at] = false;
+        match line.verb {
+            Verb::Take(device) => self.holder[usize::from(device)] = None,
+            Verb::Give(device) => self.holder[usize::from(device)] = Some(line.job),
+            _ => {}
+        }
+    }
+}
+
+/// The number of devices still held after the order, or nothing where the order is not legal.
+pub fn held_after(plan: &[Line], order: &[usize]) -> Option<u32> {
+    let plan = Plan::new(plan);
+    let mut course = Course::new(&plan);
+    for &number in order {
+        let at = number.checked_sub(1)?;
+        if at >= plan.lines.len() || !course.may_come(&plan, at) {
+            return None;
+        }
+        course.come(&plan, at);
+    }
+    if course.done.contains(&false) {
+        return None;
+    }
+    Some(course.holder.iter().flatten().count() as u32)
+}
+
+/// Whether the order is a legal one.
+pub fn is_legal(plan: &[Line], order: &[usize]) -> bool {
+    held_after(plan, order).is_some()
+}
+
+/// A search through all orders, depth first.
+struct Search<'a> {
+    plan: Plan<'a>,
+    course: Course,
+    order: Vec<usize>,
+    /// Sets of done lines from which no order reached the end. Which lines may follow hangs on
+    /// the set of lines done and not on their sequence: it tells how far each job has come, which
+    /// jobs are started, and which takes have come without their gives. So one try a set is
+    /// enough, and leaving out the others leaves out no legal order where none was found before.
+    nowhere: HashSet<u128>,
+}
+
+impl Search<'_> {
+    fn reaches_the_end(&mut self, done: u128) -> bool {
+        let lines = self.plan.lines.len();
+        if self.order.len() == lines {
+            return true;
+        }
+        if self.nowhere.contains(&done) {
+            return false;
+        }
+        for at in 0..lines {
+            if self.course.may_come(&self.plan, at) {
+                self.course.come(&self.plan, at);
+                self.order.push(at + 1);
+                if self.reaches_the_end(done | 1 << at) {
+                    return true;
+                }
+                self.order.pop();
+                self.course.go_back(&self.plan, at);
+            }
+        }
+        self.nowhere.insert(done);
+        false
+    }
+}
+
+/// Some legal order of the plan, or nothing when every order has been tried and none is legal.
+/// The plan has at most 128 lines, the width of a set of lines.
+pub fn some_legal_order(plan: &[Line]) -> Option<Vec<usize>> {
+    assert!(plan.len() <= 128, "too many lines for trying all orders");
+    let plan = Plan::new(plan);
+    let course = Course::new(&plan);
+    let mut search = Search { plan, course, order: Vec::new(), nowhere: HashSet::new() };
+    search.reaches_the_end(0).then_some(search.order)
+}
