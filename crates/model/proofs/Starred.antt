@@ -1,6 +1,6 @@
--- 01, "Plans with their verdicts": the starred cases A to I, with B's move, as one table. Each row has what an entry makes
--- of a case, computed from the definitions, and what 01 says it is: the values of the answer (0 and the value, or a
--- refusal's number and place), then each lent list. The record is the one statement.
+-- 01, "Plans with their verdicts": the starred cases A to I, with B's move, as one table. Each row has what an entry
+-- makes of a case, computed from the definitions, and what 01 says it is: the values of the answer (0 and the value,
+-- or a refusal's number and place), then each lent list. The record is the one statement.
 use Prim.Native.Nat.{ℕ, _+_}
 use mathlib.Core.List.{List, [], _∷_, _++_}
 use mathlib.Core.Path.{_≡_, refl}
@@ -72,8 +72,8 @@ planH =
 pub planI : List ℕ
 planI = []
 
--- What an entry makes of a plan. The lent lists are one place longer than needed and filled with 99, which no case has, so
--- that a row also shows what a refusal leaves and what stays past the last entry.
+-- What an entry makes of a plan. The lent lists are one place longer than needed and filled with 99, which no case
+-- has, so that a row also shows what a refusal leaves and what stays past the last entry.
 pub lent : List ℕ → List ℕ
 lent p = replicate (length p + 1) 99
 

@@ -1,5 +1,5 @@
--- The outcome of each entry: its answer and the contents of every lent list, for every input. A refusal leaves what was
--- lent as it was; a success leaves what lies past the last entry written (01, "Refusal numbers").
+-- The outcome of each entry: its answer and the contents of every lent list, for every input. A refusal leaves what
+-- was lent as it was; a success leaves what lies past the last entry written (01, "Refusal numbers").
 use Prim.Native.Nat.{ℕ}
 use mathlib.Core.List.{List, [], _∷_, map}
 use mathlib.Core.Option.{Option, none, some}
@@ -22,7 +22,8 @@ use Rattle.model.specs.declared.TableAnswer.{TableAnswer}
 use Rattle.model.specs.declared.VerdictAnswer.{VerdictAnswer}
 use Rattle.model.specs.declared.MoveAnswer.{MoveAnswer}
 
--- The line reader writes to nothing that is lent; its outcome is `Text.nextLine`. The screens' entry stands in `Printed`.
+-- The line reader writes to nothing that is lent; its outcome is `Text.nextLine`. The screens' entry stands in
+-- `Printed`.
 
 -- Reading: a text into a lent list of packed numbers.
 pub record ReadOutcome : Type 0 where

@@ -1,4 +1,5 @@
--- 01, "The order handed out". The state is the list of the lines done; each turn hands out a run of lines by (a) or (b).
+-- 01, "The order handed out". The state is the list of the lines done; each turn hands out a run of lines by (a) or
+-- (b).
 use Prim.Native.Nat.{ℕ, zero, suc, _-_}
 use mathlib.Core.Bool.{Bool, cond, not, _&&_}
 use mathlib.Core.List.{List, [], _++_}

@@ -1,5 +1,5 @@
--- Document 01 as definitions, by subject, in the order in which they build on each other. Who trusts nothing else reads
--- these files next to 01; each opens with the paragraph that it answers, or says that it answers none.
+-- Document 01 as definitions, by subject, in the order in which they build on each other. Who trusts nothing else
+-- reads these files next to 01; each opens with the paragraph that it answers, or says that it answers none.
 pub mod Lists
 pub mod Sets
 pub mod Answers

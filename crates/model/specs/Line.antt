@@ -1,5 +1,5 @@
--- 01, "The plan as text" (its table and limits) and "Packed": a line as its packed number, with D devices. A plan is the
--- list of its packed numbers. Positions count from 0; the number of a line is its position plus one.
+-- 01, "The plan as text" (its table and limits) and "Packed": a line as its packed number, with D devices. A plan is
+-- the list of its packed numbers. Positions count from 0; the number of a line is its position plus one.
 use Prim.Native.Nat.{ℕ, suc, _+_, _*_, _/_, _%_}
 use mathlib.Core.Bool.{Bool, true, false, _&&_, _||_}
 use mathlib.Core.List.{List, [], _∷_, map}

@@ -1,5 +1,5 @@
--- Words for lists of numbers, which no paragraph of 01 defines and every one uses: positions, tests over a list, and what
--- a lent list holds after it was written to.
+-- Words for lists of numbers, which no paragraph of 01 defines and every one uses: positions, tests over a list, and
+-- what a lent list holds after it was written to.
 use Prim.Native.Nat.{ℕ, zero, suc}
 use mathlib.Core.Bool.{Bool, true, false, _&&_, _||_}
 use mathlib.Core.List.{List, [], _∷_, _++_}

@@ -1,5 +1,6 @@
--- 01, "Rules of a well-formed plan": takes, the give that matches a take, and the lasting takes. Gives match the take made
--- last, so the mate is found by depth: a take goes one deeper, a give comes one back, and the give at depth 0 is the mate.
+-- 01, "Rules of a well-formed plan": takes, the give that matches a take, and the lasting takes. Gives match the take
+-- made last, so the mate is found by depth: a take goes one deeper, a give comes one back, and the give at depth 0 is
+-- the mate.
 use Prim.Native.Nat.{ℕ, zero, suc}
 use mathlib.Core.Bool.{Bool, true, false, _&&_}
 use mathlib.Core.List.{List, [], _∷_}
@@ -21,7 +22,8 @@ unfoldable pub takes : List ℕ → ℕ → ℕ → Bool
 unfolding takesAt deviceAt
 takes p i d = takesAt p i && eqb (deviceAt p i) d
 
--- among the lines from position i on, at some depth; the search ends where the lines of job j end, which stand together
+-- among the lines from position i on, at some depth; the search ends where the lines of job j end, which stand
+-- together
 unfoldable pub mateIn : ℕ → ℕ → ℕ → List ℕ → Option ℕ
 unfolding job isTake isGive
 mateIn j depth i [] = none

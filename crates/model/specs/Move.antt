@@ -30,8 +30,8 @@ unfoldable pub edited : List ℕ → ℕ → ℕ → List ℕ
 unfolding withDevice alsoMate mate
 edited p i e = alsoMate (withDevice p e i) e (mate p i)
 
--- The way, walked back: below some position, looking for the lines of job j and the line that starts it; from there on its
--- job is looked for.
+-- The way, walked back: below some position, looking for the lines of job j and the line that starts it; from there
+-- on its job is looked for.
 unfoldable pub wayIn : List ℕ → ℕ → ℕ → List ℕ
 unfolding job starts
 wayIn p j zero = []

@@ -29,7 +29,8 @@ printedRefusal r = tabbed (refusedWord ∷ decimal (numberOf r) ∷ decimal (pla
 unfoldable pub printedOrder : List ℕ → ℕ → List ℕ
 unfolding tabbed orderWord decimal flatMap
 printedOrder order stillHeld =
-    tabbed (orderWord ∷ decimal (length order) ∷ decimal stillHeld ∷ []) ++ flatMap (λ n. tabbed (decimal n ∷ [])) order
+    tabbed (orderWord ∷ decimal (length order) ∷ decimal stillHeld ∷ []) ++ flatMap
+    (λ n. tabbed (decimal n ∷ [])) order
 
 unfoldable pub printedBy : Option Refusal → List ℕ → ℕ → List ℕ
 unfolding printedOrder printedRefusal

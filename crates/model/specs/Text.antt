@@ -51,7 +51,8 @@ decimal n = decimalIn n n
 
 unfoldable pub verbs : List (List ℕ)
 verbs =
-    (100 ∷ 111 ∷ []) ∷ (116 ∷ 97 ∷ 107 ∷ 101 ∷ []) ∷ (103 ∷ 105 ∷ 118 ∷ 101 ∷ []) ∷ (115 ∷ 116 ∷ 97 ∷ 114 ∷ 116 ∷ []) ∷ []
+    (100 ∷ 111 ∷ []) ∷ (116 ∷ 97 ∷ 107 ∷ 101 ∷ []) ∷ (103 ∷ 105 ∷ 118 ∷ 101 ∷ []) ∷ (115 ∷ 116 ∷ 97 ∷ 114 ∷ 116 ∷ [])
+    ∷ []
 
 unfoldable pub verb : ℕ → List ℕ
 unfolding verbs
@@ -121,8 +122,8 @@ unfoldable pub spelt : ℕ → List ℕ → List ℕ
 unfolding linesOf packedLine
 spelt D text = map (λ l. Option·getD (packedLine D l) 0) (linesOf text)
 
--- The line reader, at any cursor, also one that no answer gave: 1; the end where nothing is left; 3; 2; or the line and the
--- cursor past it.
+-- The line reader, at any cursor, also one that no answer gave: 1; the end where nothing is left; 3; 2; or the line
+-- and the cursor past it.
 
 unfoldable pub handedLine : ℕ → Cursor → List (List ℕ) → LineAnswer
 unfolding packedLine lineNumber
@@ -137,7 +138,8 @@ handedLine D c (l ∷ ls) =
 unfoldable pub nextLine : ℕ → List ℕ → Cursor → LineAnswer
 unfolding handedLine linesOf
 nextLine D text c =
-    cond (ltb maxBytes (length text)) (LineAnswer.Refused TextTooLong) (handedLine D c (linesOf (drop (c .offset) text)))
+    cond (ltb maxBytes (length text)) (LineAnswer.Refused TextTooLong)
+    (handedLine D c (linesOf (drop (c .offset) text)))
 
 -- past the line; otherwise the reader stays, so that its next answer is the same
 unfoldable pub cursorAfter : Cursor → LineAnswer → Cursor

@@ -1,5 +1,5 @@
--- 01, "Rules of a well-formed plan", as its five sentences, and "Refusal numbers", 2 to 8: each fault of a plan with its
--- place, in the order of the tests. (That a plan has no fault exactly if it is WellFormed is shown in `theory`.)
+-- 01, "Rules of a well-formed plan", as its five sentences, and "Refusal numbers", 2 to 8: each fault of a plan with
+-- its place, in the order of the tests. (That a plan has no fault exactly if it is WellFormed is shown in `theory`.)
 use Prim.Native.Nat.{ℕ, zero, suc, _<_, _≤_}
 use mathlib.Core.Bool.{Bool, true, false, not, _&&_, _||_}
 use mathlib.Core.List.{List, [], _∷_, tail, headD}
@@ -10,7 +10,8 @@ use lib.Dec.{eqb, leb}
 use lib.ListN.{length}
 use Rattle.model.specs.Lists.{upFrom, positions, any, has, firstOf}
 use Rattle.model.specs.Answers.{refuseIf, refuseAt, firstRefusal}
-use Rattle.model.specs.Line.{job, operand, isTake, isGive, isStart, starts, isLine, at, lineNumber, hasLines, firstLine}
+use Rattle.model.specs.Line.{job, operand, isTake, isGive, isStart, starts, isLine, at, lineNumber, hasLines}
+use Rattle.model.specs.Line.{firstLine}
 use Rattle.model.specs.Line.{maxLines, maxJob}
 use Rattle.model.specs.declared.Refusal.{Refusal}
 use Rattle.model.specs.declared.Refusal.the-variants.{Malformed, TooManyLines, JobOutOfSequence, BadStart}
@@ -39,11 +40,12 @@ unfoldable pub isLast : ℕ → List ℕ → Bool
 isLast d [] = false
 isLast d (x ∷ xs) = eqb d x
 
--- The five rules: first and next; the three about starts; started; give; take. Past the end stands 0, a do of no job, so
--- that starts, gives and takes need no bound on i.
+-- The five rules: first and next; the three about starts; started; give; take. Past the end stands 0, a do of no job,
+-- so that starts, gives and takes need no bound on i.
 pub record Rules (p : List ℕ) : Type 0 where
   pub first : 0 < length p → job (at p 0) ≡ 1
-  pub next : (i : ℕ) → suc i < length p → (job (at p (suc i)) ≡ job (at p i)) ⊎ (job (at p (suc i)) ≡ suc (job (at p i)))
+  pub next : (i : ℕ) → suc i < length p
+      → (job (at p (suc i)) ≡ job (at p i)) ⊎ (job (at p (suc i)) ≡ suc (job (at p i)))
   pub startHigher : (i j : ℕ) → starts (at p i) j ≡ true → job (at p i) < j
   pub startOnce : (i k j : ℕ) → k < i → starts (at p i) j ≡ true → starts (at p k) j ≡ false
   pub startHasLines : (i j : ℕ) → starts (at p i) j ≡ true → hasLines p j ≡ true
@@ -65,7 +67,8 @@ inSequence [] l = eqb (job l) 1
 inSequence (q ∷ b) l = eqb (job l) (job q) || eqb (job l) (suc (job q))
 
 unfoldable pub lineFault : ℕ → List ℕ → ℕ → Option Refusal
-unfolding firstRefusal refuseIf lineNumber isLine inSequence isStart isGive isTake operand job any starts has heldBy isLast
+unfolding firstRefusal refuseIf lineNumber isLine inSequence isStart isGive isTake operand job any starts has heldBy
+    isLast
 lineFault D b l =
     let n : ℕ = lineNumber (length b) in
     let held : List ℕ = heldBy (job l) b in

@@ -1,7 +1,8 @@
 // The answers that the entries give, as Rattle enums. No code stands here: what each entry answers, for every input, is
 // defined in specs/, and specs/Answers.antt lists the number and the values of each case.
 
-// A refusal, one case for each number of 01, in its order. A case holds the place, unless that is fixed (0 for 1, 1,025 for 3).
+// A refusal, one case for each number of 01, in its order. A case holds the place, unless that is fixed: 0 for 1, and
+// 1,025 for 3.
 pub enum Refusal {
     // 1: the text has over 12,288 bytes
     TextTooLong,

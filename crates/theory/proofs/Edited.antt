@@ -1,0 +1,421 @@
+-- The edited plan, with another device at a take and at its mate. It is as long as the plan and has the same job and
+-- kind at each place, so that starts, successors, mates and open takes are the same and one own claim alone differs.
+-- Where the plan is well-formed, the edited one has no fault but 8: a move need look for no other.
+use Prim.Native.Nat.{ℕ, zero, suc, _+_, _<_, _≤_}
+use mathlib.Core.Bool.{Bool, true, false, not, _&&_}
+use mathlib.Core.List.{List, [], _∷_, map, tail}
+use mathlib.Core.Logic.{_⊎_, inl, inr, _≢_}
+use mathlib.Core.Option.{Option, none, some, Option·some-injective, Option·none-ne-some}
+use mathlib.Core.Path.{_≡_, refl, sym, _∙_, ap}
+use native.Mathlib.Omega.{arith}
+use lib.Dec.{eqb, leb}
+use lib.ListN.{length, drop, getElem?, length-drop, length-set}
+use lib.Seq.{getD-drop, getD-set-same, getD-set-other}
+use borrow.Author.Tests.{eqb-true, eq-eqb, eqb-false, lt-ltb, not-true}
+use Rattle.model.specs.Lists.{any}
+use Rattle.model.specs.Sets.{only}
+use Rattle.model.specs.Answers.{numberOf, refuseIf}
+use Rattle.model.specs.Line.{pack, job, kind, operand, isTake, isGive, isStart, starts, operandFits, isLine, at}
+use Rattle.model.specs.Line.{maxJob, hasLines, firstLine}
+use Rattle.model.specs.Mate.{takesAt, deviceAt, mateIn, mate}
+use Rattle.model.specs.WellFormed.{isLast, Rules, WellFormed, fault}
+use Rattle.model.specs.Claims.{successors, own}
+use Rattle.model.specs.Move.{withDevice, alsoMate, edited, ofNumber}
+use Rattle.model.specs.declared.Refusal.{Refusal}
+use Rattle.theory.proofs.Tests.{clash, no-some, test, and-split, and-both}
+use Rattle.theory.proofs.Line.{job-pack, kind-pack, operand-pack, kind-small, start-of, take-no-give}
+use Rattle.theory.proofs.Line.{take-no-start, give-no-start}
+use Rattle.theory.proofs.WellFormed.{take-line}
+use Rattle.theory.proofs.WellFormed.{FollowsOn, heldThere, Sound, FaultView, sound, startsEmpty, unstarted}
+use Rattle.theory.proofs.WellFormed.{BrokenAt, tooMany, malformed, outOfSequence, badStart, badGive, takeOfHeld}
+use Rattle.theory.proofs.WellFormed.{Broken, atLine, noLines, noStart}
+use Rattle.theory.proofs.WellFormed.{fault-view, fault-exactly, no-fault-exactly}
+use Rattle.theory.proofs.Mate.{Pair, pair, openTakes, held-open, take-open-at-mate, mate-names-device}
+use Rattle.theory.proofs.Mate.{give-has-take}
+
+-- ---- plans that are alike: they differ in the devices of takes and gives, and in the operands of dos, at most
+
+pub record Alike (p q : List ℕ) : Type 0 where
+  pub long : length q ≡ length p
+  pub jobs : (k : ℕ) → job (at q k) ≡ job (at p k)
+  pub kinds : (k : ℕ) → kind (at q k) ≡ kind (at p k)
+  pub named : (k : ℕ) → isStart (at p k) ≡ true → operand (at q k) ≡ operand (at p k)
+
+alike-drop : (n : ℕ) (p q : List ℕ) → Alike p q → Alike (drop n p) (drop n q)
+alike-drop n p q a = record {
+  long = simp length-drop (omega (arith, a .long));
+  jobs = λ k. rw (getD-drop n p k 0, getD-drop n q k 0) (a .jobs (n + k));
+  kinds = λ k. rw (getD-drop n p k 0, getD-drop n q k 0) (a .kinds (n + k));
+  named = λ k. rw (getD-drop n p k 0, getD-drop n q k 0) (a .named (n + k));
+}
+
+alike-tail : (l m : ℕ) (ls ms : List ℕ) → Alike (l ∷ ls) (m ∷ ms) → Alike ls ms
+alike-tail l m ls ms a = alike-drop 1 (l ∷ ls) (m ∷ ms) a
+
+module _ (p q : List ℕ) (a : Alike p q) where
+  pub same-take : (k : ℕ) → isTake (at q k) ≡ isTake (at p k)
+  unfolding isTake
+  same-take k = rw (a .kinds k)
+
+  pub same-give : (k : ℕ) → isGive (at q k) ≡ isGive (at p k)
+  unfolding isGive
+  same-give k = rw (a .kinds k)
+
+  pub same-start : (k : ℕ) → isStart (at q k) ≡ isStart (at p k)
+  unfolding isStart
+  same-start k = rw (a .kinds k)
+
+  pub same-starts : (k j : ℕ) → starts (at q k) j ≡ starts (at p k) j
+  unfolding starts
+  same-starts k j = go (test (isStart (at p k)))
+    where
+      go : (isStart (at p k) ≡ true) ⊎ (isStart (at p k) ≡ false) → starts (at q k) j ≡ starts (at p k) j
+      go (inl s) = rw (same-start k, a .named k s)
+      go (inr s) = rw (same-start k, s)
+
+same-any : (f : ℕ → Bool) (p q : List ℕ) → length q ≡ length p → ((k : ℕ) → f (at q k) ≡ f (at p k))
+    → any f q ≡ any f p
+unfolding any
+same-any f [] [] e h = refl
+same-any f [] (m ∷ ms) e h = absurd (omega arith)
+same-any f (l ∷ ls) [] e h = absurd (omega arith)
+same-any f (l ∷ ls) (m ∷ ms) e h = rw (h 0, same-any f ls ms (omega arith) (λ k. h (suc k)))
+
+same-first : (j : ℕ) (p q : List ℕ) → Alike p q → firstLine j q ≡ firstLine j p
+unfolding firstLine
+same-first j [] [] a = refl
+same-first j [] (m ∷ ms) a = absurd (omega (arith, a .long))
+same-first j (l ∷ ls) [] a = absurd (omega (arith, a .long))
+same-first j (l ∷ ls) (m ∷ ms) a = cc (a .jobs 0, same-first j ls ms (alike-tail l m ls ms a))
+
+same-mateIn : (j d i : ℕ) (p q : List ℕ) → Alike p q → mateIn j d i q ≡ mateIn j d i p
+unfolding mateIn
+same-mateIn j d i [] [] a = refl
+same-mateIn j d i [] (m ∷ ms) a = absurd (omega (arith, a .long))
+same-mateIn j d i (l ∷ ls) [] a = absurd (omega (arith, a .long))
+same-mateIn j d i (l ∷ ls) (m ∷ ms) a = go d (λ e. same-mateIn j e (suc i) ls ms (alike-tail l m ls ms a))
+  where
+    take′ : isTake m ≡ isTake l
+    take′ = same-take (l ∷ ls) (m ∷ ms) a 0
+
+    give′ : isGive m ≡ isGive l
+    give′ = same-give (l ∷ ls) (m ∷ ms) a 0
+
+    go : (d : ℕ) → ((e : ℕ) → mateIn j e (suc i) ms ≡ mateIn j e (suc i) ls)
+        → mateIn j d i (m ∷ ms) ≡ mateIn j d i (l ∷ ls)
+    go zero ih = cc (a .jobs 0, take′, give′, ih 1, ih 0)
+    go (suc d) ih = cc (a .jobs 0, take′, give′, ih (suc (suc d)), ih (suc d), ih d)
+
+module _ (p q : List ℕ) (a : Alike p q) where
+  pub same-successors : (k : ℕ) → successors (at q k) (drop (suc k) q) ≡ successors (at p k) (drop (suc k) p)
+  unfolding successors
+  same-successors k = go (test (isStart (at p k)))
+    where
+      first : (j : ℕ) → firstLine j (drop (suc k) q) ≡ firstLine j (drop (suc k) p)
+      first j = same-first j (drop (suc k) p) (drop (suc k) q) (alike-drop (suc k) p q a)
+
+      go : (isStart (at p k) ≡ true) ⊎ (isStart (at p k) ≡ false)
+          → successors (at q k) (drop (suc k) q) ≡ successors (at p k) (drop (suc k) p)
+      go (inl s) = rw (a .jobs k, same-start p q a k, a .named k s, first (job (at p k)), first (operand (at p k)))
+      go (inr s) = rw (a .jobs k, same-start p q a k, s, first (job (at p k)))
+
+  pub same-mate : (k : ℕ) → mate q k ≡ mate p k
+  unfolding mate
+  same-mate k =
+      rw (a .jobs k) (same-mateIn (job (at p k)) 0 (suc k) (drop (suc k) p) (drop (suc k) q)
+      (alike-drop (suc k) p q a))
+
+  pub same-open : (j k : ℕ) → openTakes q j k ≡ openTakes p j k
+  unfolding openTakes
+  same-open j zero = refl
+  same-open j (suc k) = cc (a .jobs k, same-take p q a k, same-give p q a k, same-open j k)
+
+-- ---- one line given another device
+
+module _ (p : List ℕ) (e i : ℕ) where
+  given-elsewhere : (k : ℕ) → k ≢ i → at (withDevice p e i) k ≡ at p k
+  unfolding withDevice
+  given-elsewhere k ne = getD-set-other p i k (pack (job (at p i)) (kind (at p i)) e) 0 ne
+
+  given-there : i < length p → at (withDevice p e i) i ≡ pack (job (at p i)) (kind (at p i)) e
+  unfolding withDevice
+  given-there h = getD-set-same p i (pack (job (at p i)) (kind (at p i)) e) 0 h
+
+  given-device : i < length p → e < 256 → operand (at (withDevice p e i) i) ≡ e
+  given-device h s = rw (given-there h) (operand-pack (job (at p i)) (kind (at p i)) e s)
+
+  given-alike : i < length p → e < 256 → isStart (at p i) ≡ false → Alike p (withDevice p e i)
+  unfolding withDevice
+  given-alike h s n = record {
+    long = length-set p i (pack (job (at p i)) (kind (at p i)) e);
+    jobs = λ k. go job k (rw (given-there h) (job-pack (job (at p i)) (kind (at p i)) e (kind-small (at p i)) s));
+    kinds = λ k. go kind k (rw (given-there h) (kind-pack (job (at p i)) (kind (at p i)) e (kind-small (at p i)) s));
+    named = λ k u. ap operand (given-elsewhere k (λ z. clash (isStart (at p k)) u (rw z n)));
+  }
+    where
+      go : (f : ℕ → ℕ) (k : ℕ) → f (at (withDevice p e i) i) ≡ f (at p i) → f (at (withDevice p e i) k) ≡ f (at p k)
+      go f k q = split (test (eqb k i))
+        where
+          split : (eqb k i ≡ true) ⊎ (eqb k i ≡ false) → f (at (withDevice p e i) k) ≡ f (at p k)
+          split (inl z) = rw (eqb-true k i z) q
+          split (inr z) = ap f (given-elsewhere k (eqb-false k i z))
+
+-- ---- the edited plan
+
+-- q is the plan p with device e at the take i and at its mate
+pub record EditOf (p : List ℕ) (i e : ℕ) (q : List ℕ) : Type 0 where
+  pub alike : Alike p q
+  pub atTake : operand (at q i) ≡ e
+  pub atMate : (m : ℕ) → mate p i ≡ some m → operand (at q m) ≡ e
+  pub elsewhere : (k : ℕ) → k ≢ i → (mate p i ≡ some k → ⊥) → at q k ≡ at p k
+
+alike-trans : (p q r : List ℕ) → Alike p q → Alike q r → Alike p r
+alike-trans p q r a b = record {
+  long = b .long ∙ a .long;
+  jobs = λ k. b .jobs k ∙ a .jobs k;
+  kinds = λ k. b .kinds k ∙ a .kinds k;
+  named = λ k s. b .named k (same-start p q a k ∙ s) ∙ a .named k s;
+}
+
+pub edit : (p : List ℕ) (i e : ℕ) → isTake (at p i) ≡ true → e < 256 → EditOf p i e (edited p i e)
+unfolding edited alsoMate
+edit p i e t s = go (mate p i) refl
+  where
+    q : List ℕ
+    q = withDevice p e i
+
+    inPlan : i < length p
+    inPlan = take-line p i t
+
+    a : Alike p q
+    a = given-alike p e i inPlan s (take-no-start (at p i) t)
+
+    go : (o : Option ℕ) → mate p i ≡ o → EditOf p i e (alsoMate q e o)
+    go none h = record {
+      alike = a;
+      atTake = given-device p e i inPlan s;
+      atMate = λ m g. no-some (sym h ∙ g);
+      elsewhere = λ k n g. given-elsewhere p e i k n;
+    }
+    go (some m) h = record {
+      alike = alike-trans p q (withDevice q e m) a
+          (given-alike q e m inQ s (same-start p q a m ∙ give-no-start (at p m) (r .gives)));
+      atTake = ap operand (given-elsewhere q e m i (omega (arith, r .below))) ∙ given-device p e i inPlan s;
+      atMate = λ n g. let z : m ≡ n = Option·some-injective m n (sym h ∙ g) in rw (← z) (given-device q e m inQ s);
+      elsewhere = λ k n g. given-elsewhere q e m k (λ z. g (rw z h)) ∙ given-elsewhere p e i k n;
+    }
+      where
+        r : Pair p i m
+        r = pair p i m h
+
+        inQ : m < length q
+        inQ = omega (arith, r .inPlan, a .long)
+
+-- a place is the take's, its mate's, or another
+data Spot (p : List ℕ) (i k : ℕ) : Type 0 where
+  theTake : k ≡ i → Spot p i k
+  theMate : mate p i ≡ some k → Spot p i k
+  another : k ≢ i → (mate p i ≡ some k → ⊥) → Spot p i k
+
+spot : (p : List ℕ) (i k : ℕ) → Spot p i k
+spot p i k = go (test (eqb k i)) (mate p i) refl
+  where
+    go : (eqb k i ≡ true) ⊎ (eqb k i ≡ false) → (o : Option ℕ) → mate p i ≡ o → Spot p i k
+    go (inl z) o h = theTake (eqb-true k i z)
+    go (inr z) none h = another (eqb-false k i z) (λ g. no-some (sym h ∙ g))
+    go (inr z) (some m) h = split (test (eqb m k))
+      where
+        split : (eqb m k ≡ true) ⊎ (eqb m k ≡ false) → Spot p i k
+        split (inl y) = theMate (rw (eqb-true m k y) at h)
+        split (inr y) = another (eqb-false k i z) (λ g. eqb-false m k y (Option·some-injective m k (sym h ∙ g)))
+
+give-no-take : (l : ℕ) → isGive l ≡ true → isTake l ≡ false
+give-no-take l g = go (test (isTake l))
+  where
+    go : (isTake l ≡ true) ⊎ (isTake l ≡ false) → isTake l ≡ false
+    go (inl t) = clash (isGive l) g (take-no-give l t)
+    go (inr t) = t
+
+-- open takes are takes
+open-are-takes : (p : List ℕ) (j k n t : ℕ) → getElem? (openTakes p j k) n ≡ some t → isTake (at p t) ≡ true
+unfolding openTakes
+open-are-takes p j zero n t h = no-some h
+open-are-takes p j (suc k) n t h =
+    go (eqb (job (at p k)) j) (isTake (at p k)) (isGive (at p k)) refl n (openTakes p j k) h
+    (λ n. open-are-takes p j k n t)
+  where
+    go : (x y z : Bool) → isTake (at p k) ≡ y → (n : ℕ) (xs : List ℕ)
+        → getElem?
+        (elim x [ false ↦ xs | true ↦ elim y [ true ↦ k ∷ xs | false ↦ elim z [ true ↦ tail xs | false ↦ xs ] ] ]) n
+        ≡ some t
+        → ((n : ℕ) → getElem? xs n ≡ some t → isTake (at p t) ≡ true) → isTake (at p t) ≡ true
+    go false y z e n xs h ih = ih n h
+    go true true z e zero xs h ih = rw (Option·some-injective k t h) at e
+    go true true z e (suc n) xs h ih = ih n h
+    go true false true e n [] h ih = no-some h
+    go true false true e n (x ∷ xs) h ih = ih (suc n) h
+    go true false false e n xs h ih = ih n h
+
+last-is : (f : ℕ → ℕ) (xs : List ℕ) (d t : ℕ) → getElem? xs 0 ≡ some t → d ≡ f t → isLast d (map f xs) ≡ true
+unfolding isLast
+last-is f [] d t h e = no-some h
+last-is f (x ∷ xs) d t h e = eq-eqb d (f x) (rw (Option·some-injective x t h) e)
+
+-- a line that takes or gives is still one with another device
+line-with-device : (D l m : ℕ) → isLine D l ≡ true → (isTake l ≡ true) ⊎ (isGive l ≡ true) → job m ≡ job l
+    → kind m ≡ kind l → operand m < D → isLine D m ≡ true
+unfolding isLine isTake isGive
+line-with-device D l m h s j k o =
+    and-both (leb 1 (job m) && leb (job m) maxJob) (operandFits D (kind m) (operand m))
+    (rw j (and-split (leb 1 (job l) && leb (job l) maxJob) (operandFits D (kind l) (operand l)) h .0)) (fits s)
+  where
+    fits : (isTake l ≡ true) ⊎ (isGive l ≡ true) → operandFits D (kind m) (operand m) ≡ true
+    fits (inl t) = rw (k, eqb-true (kind l) 1 t, lt-ltb (operand m) D o)
+    fits (inr g) = rw (k, eqb-true (kind l) 2 g, lt-ltb (operand m) D o)
+
+-- ---- what an edit keeps
+
+module _ (p q : List ℕ) (i e : ℕ) (t : isTake (at p i) ≡ true) (d : EditOf p i e q) where
+  take-owns : own q i ≡ only e
+  unfolding own takesAt deviceAt
+  take-owns = rw (same-take p q (d .alike) i, t, d .atTake)
+
+  others-own : (k : ℕ) → k ≢ i → own q k ≡ own p k
+  unfolding own takesAt deviceAt
+  others-own k n = go (spot p i k)
+    where
+      go : Spot p i k → own q k ≡ own p k
+      go (theTake z) = absurd (n z)
+      go (theMate h) = rw (same-take p q (d .alike) k, give-no-take (at p k) (pair p i k h .gives))
+      go (another x y) = rw (d .elsewhere k x y)
+
+  -- a give names the device of its take
+  pair-named : Rules p → (m u : ℕ) → isGive (at p m) ≡ true → isTake (at p u) ≡ true → mate p u ≡ some m
+      → getElem? (openTakes p (job (at p m)) m) 0 ≡ some u
+      → operand (at q m) ≡ operand (at q u)
+  unfolding deviceAt
+  pair-named rules m u g v h o = go (spot p i u)
+    where
+      no-take : m ≢ i
+      no-take z = clash (isGive (at p m)) g (take-no-give (at p m) (rw z t))
+
+      the-take : mate p i ≡ some m → u ≡ i
+      the-take y =
+          let r = pair p i m y in
+          Option·some-injective u i
+          (sym o ∙ (rw (r .sameJob m (omega (arith, r .below)) (omega arith)) (take-open-at-mate p i m t y)))
+
+      go : Spot p i u → operand (at q m) ≡ operand (at q u)
+      go (theTake z) = d .atMate m (rw z at h) ∙ sym (d .atTake) ∙ rw z
+      go (theMate y) = clash (isGive (at p u)) (pair p i u y .gives) (take-no-give (at p u) v)
+      go (another x y) =
+          rw (d .elsewhere m no-take (λ k. x (the-take k)), d .elsewhere u x y) (mate-names-device p rules u m v h)
+
+  give-kept : Rules p → (m : ℕ) → isGive (at q m) ≡ true
+      → isLast (operand (at q m)) (heldThere q m) ≡ true
+  unfolding deviceAt
+  give-kept rules m g =
+      let g′ = sym (same-give p q (d .alike) m) ∙ g in
+      let r = give-has-take p rules m g′ in
+      rw (
+        held-open q (job (at q m)) m,
+        d .alike .jobs m,
+        same-open p q (d .alike) (job (at p m)) m,
+      )
+      (last-is (deviceAt q) (openTakes p (job (at p m)) m) (operand (at q m)) (r .0) (r .1)
+      (pair-named rules m (r .0) g′ (open-are-takes p (job (at p m)) m 0 (r .0) (r .1)) (r .2) (r .1)))
+
+-- nothing is broken in a plan without a fault
+nothing-broken : (D : ℕ) (p : List ℕ) → WellFormed D p → Sound D p
+nothing-broken D p w = go (fault D p) (no-fault-exactly D p .1 w) (fault-view D p)
+  where
+    go : (x : Option Refusal) → x ≡ none → FaultView D p x → Sound D p
+    go none h (sound v) = v
+    go (some r) h v = absurd (Option·none-ne-some r (sym h))
+
+module _ (D : ℕ) (p q : List ℕ) (i e : ℕ) (w : WellFormed D p) (t : isTake (at p i) ≡ true) (b : e < D)
+    (d : EditOf p i e q) where
+  a : Alike p q
+  a = d .alike
+
+  line-kept : (k : ℕ) → k < length p → isLine D (at q k) ≡ true
+  line-kept k h = go (spot p i k)
+    where
+      with : (isTake (at p k) ≡ true) ⊎ (isGive (at p k) ≡ true) → operand (at q k) ≡ e
+          → isLine D (at q k) ≡ true
+      with v o = line-with-device D (at p k) (at q k) (w .lines k h) v (a .jobs k) (a .kinds k) (rw o b)
+
+      go : Spot p i k → isLine D (at q k) ≡ true
+      go (theTake z) = with (inl (rw z t)) (rw z (d .atTake))
+      go (theMate y) = with (inr (pair p i k y .gives)) (d .atMate k y)
+      go (another x y) = rw (d .elsewhere k x y) (w .lines k h)
+
+  follows-kept : (k : ℕ) → k < length p → FollowsOn q k
+  follows-kept zero h = a .jobs 0 ∙ w .rules .first h
+  follows-kept (suc k) h = rw (a .jobs k, a .jobs (suc k)) (w .rules .next k h)
+
+  starts-kept : (k : ℕ) → isStart (at q k) ≡ true → starts (at p k) (operand (at q k)) ≡ true
+  starts-kept k h = sym (same-starts p q a k (operand (at q k))) ∙ start-of (at q k) h
+
+  broken-is-eight : (k : ℕ) (r : Refusal) → k < length p → BrokenAt D q k r → numberOf r ≡ 8
+  broken-is-eight k r h (tooMany f) = absurd (omega (arith, w .few))
+  broken-is-eight k r h (malformed f l) = clash (isLine D (at q k)) (line-kept k h) l
+  broken-is-eight k r h (outOfSequence f l n) = absurd (n (follows-kept k h))
+  broken-is-eight k r h (badStart f l o v (inl x)) =
+      absurd (omega (arith, w .rules .startHigher k (operand (at q k)) (starts-kept k v), a .jobs k))
+  broken-is-eight k r h (badStart f l o v (inr x)) =
+      clash (starts (at p (x .0)) (operand (at q k)))
+      (sym (same-starts p q a (x .0) (operand (at q k))) ∙ x .2)
+      (w .rules .startOnce k (x .0) (operand (at q k)) (x .1) (starts-kept k v))
+  broken-is-eight k r h (badGive f l o v x) =
+      clash (isLast (operand (at q k)) (heldThere q k)) (give-kept p q i e t d (w .rules) k v) x
+  broken-is-eight k r h (takeOfHeld f l o v x) = refl
+
+  same-lines : (j : ℕ) → hasLines q j ≡ hasLines p j
+  unfolding hasLines
+  same-lines j = same-any (λ l. eqb (job l) j) p q (a .long) (λ k. rw (a .jobs k))
+
+  same-unstarted : (j : ℕ) → unstarted q j ≡ unstarted p j
+  unfolding unstarted
+  same-unstarted j =
+      rw (same-lines j, same-any (λ l. starts l j) p q (a .long) (λ k. same-starts p q a k j))
+
+  none-empty : (k : ℕ) → startsEmpty q k ≡ true → ⊥
+  unfolding startsEmpty
+  none-empty k h =
+      let v = and-split (isStart (at q k)) (not (hasLines q (operand (at q k)))) h in
+      clash (hasLines q (operand (at q k)))
+      (same-lines (operand (at q k)) ∙ w .rules .startHasLines k (operand (at q k)) (starts-kept k (v .0)))
+      (not-true (hasLines q (operand (at q k))) (v .1))
+
+  edit-fault-is-eight : (r : Refusal) → Broken D q r → numberOf r ≡ 8
+  edit-fault-is-eight r (atLine k x l f y) = broken-is-eight k x (omega (arith, a .long)) y
+  edit-fault-is-eight r (noLines k f l y low) = absurd (none-empty k y)
+  edit-fault-is-eight r (noStart j f g x y z low) =
+      clash (unstarted q j) z (same-unstarted j ∙ nothing-broken D p w .begun j x y)
+
+-- ---- of the edited plan itself
+
+pub own-at-take : (p : List ℕ) (i e : ℕ) → isTake (at p i) ≡ true → e < 256 → own (edited p i e) i ≡ only e
+own-at-take p i e t s = take-owns p (edited p i e) i e t (edit p i e t s)
+
+pub own-elsewhere : (p : List ℕ) (i e k : ℕ) → isTake (at p i) ≡ true → e < 256 → k ≢ i
+    → own (edited p i e) k ≡ own p k
+own-elsewhere p i e k t s = others-own p (edited p i e) i e t (edit p i e t s) k
+
+module _ (D : ℕ) (p : List ℕ) (i e : ℕ) (w : WellFormed D p) (t : isTake (at p i) ≡ true) (b : e < D)
+    (small : D ≤ 256) where
+  -- where the plan is well-formed, the edited one has no fault but 8
+  pub fault-is-eight : (r : Refusal) → fault D (edited p i e) ≡ some r → numberOf r ≡ 8
+  fault-is-eight r h =
+      edit-fault-is-eight D p (edited p i e) i e w t b (edit p i e t (omega arith)) r
+      (fault-exactly D (edited p i e) r .0 h)
+
+  -- The theorem: the test for 8 is the test for any fault.
+  pub eight-is-all : ofNumber 8 (fault D (edited p i e)) ≡ fault D (edited p i e)
+  unfolding ofNumber refuseIf
+  eight-is-all = go (fault D (edited p i e)) refl
+    where
+      go : (x : Option Refusal) → fault D (edited p i e) ≡ x → ofNumber 8 x ≡ x
+      go none h = refl
+      go (some r) h = rw (eq-eqb (numberOf r) 8 (fault-is-eight r h))

@@ -1,0 +1,27 @@
+-- The theorems about the definitions of `model`, in the order in which they build on each other; the one that a user
+-- of a file wants stands last in it. A legal order exists exactly if the verdict is an order: `Verdict`. The round
+-- trips: `Text`. The line reader: `Reader`.
+pub mod Tests
+pub mod Lists
+pub mod Sets
+pub mod Answers
+pub mod Line
+pub mod WellFormed
+pub mod Claims
+pub mod Rows
+pub mod Successors
+pub mod Mate
+pub mod Edited
+pub mod Way
+pub mod Move
+pub mod Places
+pub mod OnlyIf
+pub mod Turns
+pub mod Progress
+pub mod Handed
+pub mod Verdict
+pub mod Numbers
+pub mod Fields
+pub mod Spelling
+pub mod Text
+pub mod Reader

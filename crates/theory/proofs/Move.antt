@@ -1,0 +1,499 @@
+-- A move from a plan without a fault and its own table gives the edited plan and the table that would be worked out
+-- afresh, with the count of the places that changed; nothing off the way changes, and 14 refuses no such move. So over
+-- any list of moves, refused ones among them, plan and table stay right; else no table kept by moves could be trusted.
+use Prim.Native.Nat.{ℕ, zero, suc, _+_, _<_, _≤_}
+use mathlib.Core.Bool.{Bool, true, false, cond, not}
+use mathlib.Core.List.{List, [], _∷_, _++_}
+use mathlib.Core.Logic.{_⊎_, inl, inr}
+use mathlib.Core.Option.{Option, none, some, Option·none-ne-some}
+use mathlib.Core.Path.{_≡_, refl, sym, _∙_, ap}
+use native.Mathlib.Omega.{arith}
+use lib.Dec.{eqb, leb}
+use lib.ListN.{length, getD, take, drop, set, length-take, length-set, take-append-drop, List·getD-append}
+use lib.Seq.{length-take-le, getD-take, getD-drop, getD-set-same, getD-set-other, drop-set-lt, take-at, drop-at}
+use lib.Seq.{ext-getD}
+use borrow.Author.Tests.{eq-eqb, eqb-false, leb-true, leb-false, le-ltb}
+use Rattle.model.specs.Lists.{upFrom, positions, has, those, firstOf}
+use Rattle.model.specs.Sets.{union, unionOf}
+use Rattle.model.specs.Answers.{numberOf, refuseIf, refuseAt, firstRefusal, tooShort}
+use Rattle.model.specs.Line.{isTake, at, lineNumber}
+use Rattle.model.specs.WellFormed.{WellFormed, fault}
+use Rattle.model.specs.Claims.{successors, own, joined, table, beyond}
+use Rattle.model.specs.Move.{edited, way, rejoined, stale, rewritten, changed, askedAt, isTakeOf, ofNumber}
+use Rattle.model.specs.Move.{moveRefusal}
+use Rattle.model.specs.Entries.{MoveOutcome, moveBy, moving, judging}
+use Rattle.model.specs.declared.Refusal.{Refusal}
+use Rattle.model.specs.declared.Refusal.the-variants.{NotATake, NoSuchDevice, StaleTable}
+use Rattle.model.specs.declared.MoveAnswer.{MoveAnswer}
+use Rattle.theory.proofs.Tests.{clash, test, or-neither}
+use Rattle.theory.proofs.Lists.{has-none, has-head, has-tail, has-cases, Answer, first-answer}
+use Rattle.theory.proofs.Claims.{claim, claim-is, length-table}
+use Rattle.theory.proofs.WellFormed.{take-line, no-fault-exactly}
+use Rattle.theory.proofs.Successors.{successor-after}
+use Rattle.theory.proofs.Edited.{edit, same-successors, own-elsewhere, fault-is-eight, eight-is-all}
+use Rattle.theory.proofs.Way.{Falls, ends, falls, falls-below, way-falls, line-on-way, off-way-stays-off}
+
+-- ---- a table is determined by the joining
+
+joined-same : (t u places : List ℕ) → ((o : ℕ) → has o places ≡ true → getD t o 0 ≡ getD u o 0)
+    → joined t places ≡ joined u places
+unfolding joined unionOf
+joined-same t u [] h = refl
+joined-same t u (o ∷ os) h = cc (h o (has-head o os), joined-same t u os (λ x m. h x (has-tail x o os m)))
+
+-- what lies beyond a line is the same of tables that have the same for its successors
+beyond-same : (p t u : List ℕ) (k : ℕ)
+    → ((o : ℕ) → has o (successors (at p k) (drop (suc k) p)) ≡ true → getD t (suc k + o) 0 ≡ getD u (suc k + o) 0)
+    → beyond p t k ≡ beyond p u k
+unfolding beyond
+beyond-same p t u k h =
+    joined-same (drop (suc k) t) (drop (suc k) u) (successors (at p k) (drop (suc k) p))
+    (λ o m. getD-drop (suc k) t o 0 ∙ h o m ∙ sym (getD-drop (suc k) u o 0))
+
+-- n lines at most are left from line k on
+same-claims : (n : ℕ) (p t : List ℕ) → ((k : ℕ) → k < length p → getD t k 0 ≡ union (own p k) (beyond p t k))
+    → (k : ℕ) → length p ≤ k + n → k < length p → getD t k 0 ≡ claim p k
+same-claims zero p t h k le lt = absurd (omega arith)
+same-claims (suc n) p t h k le lt =
+    h k lt
+    ∙ ap (union (own p k)) (beyond-same p t (table p) k
+    (λ o m. same-claims n p t h (suc k + o) (omega arith) (successor-after p k o m .0)))
+    ∙ sym (claim-is p k lt)
+
+-- a list whose sets are joined so is the table, and then a rest
+pub table-by-joining : (p t : List ℕ) → length p ≤ length t
+    → ((k : ℕ) → k < length p → getD t k 0 ≡ union (own p k) (beyond p t k)) → take (length p) t ≡ table p
+table-by-joining p t long h =
+    ext-getD 0 (take (length p) t) (table p) (length-take-le (length p) t long ∙ sym (length-table p)) entries
+  where
+    entries : (k : ℕ) → k < length (take (length p) t) → getD (take (length p) t) k 0 ≡ claim p k
+    entries k lt =
+        let b : k < length p = omega (arith, length-take-le (length p) t long) in
+        getD-take (length p) t k 0 b ∙ same-claims (length p) p t h k (omega arith) b
+
+-- ---- a plan's own table
+
+module _ (p t : List ℕ) (mine : take (length p) t ≡ table p) where
+  pub own-long : length p ≤ length t
+  own-long = omega (arith, ap length mine, length-take (length p) t, length-table p)
+
+  own-entry : (k : ℕ) → k < length p → getD t k 0 ≡ claim p k
+  own-entry k h = sym (getD-take (length p) t k 0 h) ∙ ap (λ (xs : List ℕ). getD xs k 0) mine
+
+  own-joined : (k : ℕ) → k < length p → getD t k 0 ≡ rejoined p t k
+  unfolding rejoined
+  own-joined k h =
+      own-entry k h ∙ claim-is p k h
+      ∙ ap (union (own p k))
+      (beyond-same p (table p) t k (λ o m. sym (own-entry (suc k + o) (successor-after p k o m .0))))
+
+  pub whole : t ≡ table p ++ drop (length p) t
+  whole = sym (take-append-drop (length p) t) ∙ ap (λ (xs : List ℕ). xs ++ drop (length p) t) mine
+
+  -- no line of the way is stale
+  pub none-stale : (i : ℕ) → i < length p → firstOf (stale p t) (way p i) ≡ none
+  unfolding stale
+  none-stale i h = go (firstOf (stale p t) (way p i)) refl (first-answer (stale p t) (way p i))
+    where
+      go : (o : Option ℕ) → firstOf (stale p t) (way p i) ≡ o → Answer (stale p t) (way p i) o
+          → firstOf (stale p t) (way p i) ≡ none
+      go none e x = e
+      go (some k) e x =
+          clash (stale p t k) (x .1)
+          (rw (eq-eqb (getD t k 0) (rejoined p t k)
+          (own-joined k (omega (arith, falls-below (suc i) k (way p i) (way-falls p i) (x .0))))))
+
+-- ---- the sets rewritten along numbers that fall
+
+has-neither : (k x : ℕ) (xs : List ℕ) → has k (x ∷ xs) ≡ false → (k ≡ x → ⊥) × (has k xs ≡ false)
+unfolding has
+has-neither k x xs h = let r = or-neither (eqb k x) (has k xs) h in (eqb-false k x (r .0), r .1)
+
+falls-without : (n k : ℕ) (xs : List ℕ) → Falls n xs → n ≤ k → has k xs ≡ false
+falls-without n k xs f h = go (test (has k xs))
+  where
+    go : (has k xs ≡ true) ⊎ (has k xs ≡ false) → has k xs ≡ false
+    go (inl m) = absurd (omega (arith, falls-below n k xs f m))
+    go (inr m) = m
+
+module _ (p : List ℕ) where
+  pub length-rewritten : (t is : List ℕ) → length (rewritten p t is) ≡ length t
+  unfolding rewritten
+  length-rewritten t [] = refl
+  length-rewritten t (i ∷ is) = length-rewritten (set t i (rejoined p t i)) is ∙ length-set t i (rejoined p t i)
+
+  -- elsewhere they stay
+  pub rewritten-off : (t is : List ℕ) (k : ℕ) → has k is ≡ false → getD (rewritten p t is) k 0 ≡ getD t k 0
+  unfolding rewritten
+  rewritten-off t [] k h = refl
+  rewritten-off t (i ∷ is) k h =
+      let r = has-neither k i is h in
+      rewritten-off (set t i (rejoined p t i)) is k (r .1) ∙ getD-set-other t i k (rejoined p t i) 0 (r .0)
+
+  rewritten-rest : (t is : List ℕ) (b n : ℕ) → Falls b is → b ≤ n → drop n (rewritten p t is) ≡ drop n t
+  unfolding rewritten
+  rewritten-rest t is b n (ends c) h = refl
+  rewritten-rest t is b n (falls c x xs lt f) h =
+      rewritten-rest (set t x (rejoined p t x)) xs x n f (omega arith)
+      ∙ drop-set-lt n t x (rejoined p t x) (omega arith)
+
+  rejoined-same : (t u : List ℕ) (k : ℕ) → ((s : ℕ) → k < s → getD t s 0 ≡ getD u s 0)
+      → rejoined p t k ≡ rejoined p u k
+  unfolding rejoined
+  rejoined-same t u k h = ap (union (own p k)) (beyond-same p t u k (λ o m. h (suc k + o) (omega arith)))
+
+  -- there each is joined from what the list has in the end
+  pub rewritten-on : (t is : List ℕ) (n k : ℕ) → Falls n is → n ≤ length t → has k is ≡ true
+      → getD (rewritten p t is) k 0 ≡ rejoined p (rewritten p t is) k
+  unfolding rewritten
+  rewritten-on t is n k (ends c) h m = has-none k m
+  rewritten-on t is n k (falls c x xs lt f) h m =
+      go (has-cases k x xs m) (rewritten-on (set t x v) xs x k f (omega (arith, length-set t x v)))
+    where
+      v : ℕ
+      v = rejoined p t x
+
+      above : (s : ℕ) → x < s → getD t s 0 ≡ getD (rewritten p (set t x v) xs) s 0
+      above s g =
+          sym
+          (rewritten-off (set t x v) xs s (falls-without x s xs f (omega arith))
+          ∙ getD-set-other t x s v 0 (omega arith))
+
+      go : (k ≡ x) ⊎ (has k xs ≡ true)
+          → (has k xs ≡ true → getD (rewritten p (set t x v) xs) k 0 ≡ rejoined p (rewritten p (set t x v) xs) k)
+          → getD (rewritten p (set t x v) xs) k 0 ≡ rejoined p (rewritten p (set t x v) xs) k
+      go (inl z) ih =
+          rw z
+          (rewritten-off (set t x v) xs x (falls-without x x xs f (omega arith))
+          ∙ getD-set-same t x v 0 (omega arith)
+          ∙ rejoined-same t (rewritten p (set t x v) xs) x above)
+      go (inr z) ih = ih z
+
+-- ---- the table of the edited plan
+
+module _ (D : ℕ) (p t : List ℕ) (i e : ℕ) (w : WellFormed D p) (mine : take (length p) t ≡ table p)
+    (taken : isTake (at p i) ≡ true) (e<256 : e < 256) where
+  plan′ : List ℕ
+  plan′ = edited p i e
+
+  sets′ : List ℕ
+  sets′ = rewritten (edited p i e) t (way p i)
+
+  sets-joined : (k : ℕ) → k < length p → getD sets′ k 0 ≡ union (own plan′ k) (beyond plan′ sets′ k)
+  unfolding plan′ sets′ rejoined beyond
+  sets-joined k h = go (test (has k (way p i)))
+    where
+      go : (has k (way p i) ≡ true) ⊎ (has k (way p i) ≡ false)
+          → getD sets′ k 0 ≡ union (own plan′ k) (beyond plan′ sets′ k)
+      go (inl m) =
+          rewritten-on plan′ t (way p i) (suc i) k (way-falls p i)
+          (omega (arith, own-long p t mine, take-line p i taken)) m
+      go (inr m) =
+          rewritten-off plan′ t (way p i) k m ∙ own-joined p t mine k h
+          ∙ rw (
+            own-elsewhere p i e k taken e<256 (λ z. clash (has i (way p i)) (line-on-way p i) (rw z at m)),
+            same-successors p plan′ (edit p i e taken e<256 .alike) k,
+          )
+          (ap (union (own p k)) (beyond-same p t sets′ k
+          (λ o n. sym (rewritten-off plan′ t (way p i) (suc k + o) (off-way-stays-off p (w .rules) i k o n m)))))
+
+  -- the sets rewritten are the table of the edited plan, and then the rest
+  sets-are : sets′ ≡ table plan′ ++ drop (length p) t
+  unfolding plan′ sets′
+  sets-are =
+      sym (take-append-drop (length p) sets′)
+      ∙ ap (λ (xs : List ℕ). xs ++ drop (length p) sets′) front
+      ∙ ap (λ (xs : List ℕ). table plan′ ++ xs)
+      (rewritten-rest plan′ t (way p i) (suc i) (length p) (way-falls p i) (take-line p i taken))
+    where
+      n : length plan′ ≡ length p
+      n = edit p i e taken e<256 .alike .long
+
+      front : take (length p) sets′ ≡ table plan′
+      front =
+          rw n at
+          (table-by-joining plan′ sets′ (omega (arith, n, length-rewritten plan′ t (way p i), own-long p t mine))
+          (λ k h. sets-joined k (omega (arith, n))))
+
+-- ---- the tests of a move
+
+-- why a move from a plan without a fault and its own table is refused: 12, 13 or 8
+pub data Refused (D : ℕ) (p : List ℕ) (line device : ℕ) : Refusal → Type 0 where
+  notATake : isTakeOf p line ≡ false → Refused D p line device (NotATake line)
+  noSuchDevice : isTakeOf p line ≡ true → D ≤ device → Refused D p line device (NoSuchDevice device)
+  takeOfHeld : (r : Refusal) → isTakeOf p line ≡ true → device < D → numberOf r ≡ 8
+      → fault D (edited p (askedAt line) device) ≡ some r → Refused D p line device r
+
+pub data TestView (D : ℕ) (p : List ℕ) (line device : ℕ) : Option Refusal → Type 0 where
+  passes : isTakeOf p line ≡ true → device < D → fault D (edited p (askedAt line) device) ≡ none
+      → TestView D p line device none
+  refuses : (r : Refusal) → Refused D p line device r → TestView D p line device (some r)
+
+pub asked-take : (p : List ℕ) (line : ℕ) → isTakeOf p line ≡ true → isTake (at p (askedAt line)) ≡ true
+unfolding isTakeOf askedAt
+asked-take p zero h = clash false h refl
+asked-take p (suc i) h = h
+
+-- the tests that are left, by their outcomes
+refusedBy : ℕ → ℕ → Bool → Bool → Option ℕ → Option Refusal → Option Refusal
+refusedBy line device isTake′ noDevice old held =
+    firstRefusal
+    (refuseIf (not isTake′) (NotATake line)
+    ∷ refuseIf noDevice (NoSuchDevice device)
+    ∷ refuseAt (λ k. StaleTable (lineNumber k)) old
+    ∷ held
+    ∷ [])
+
+module _ (D : ℕ) (p t : List ℕ) (line device : ℕ) (w : WellFormed D p) (small : D ≤ 256)
+    (mine : take (length p) t ≡ table p) where
+  tests-left : moveRefusal D p t line device
+      ≡ refusedBy line device (isTakeOf p line) (leb D device) (firstOf (stale p t) (way p (askedAt line)))
+      (ofNumber 8 (fault D (edited p (askedAt line) device)))
+  unfolding moveRefusal refusedBy firstRefusal tooShort refuseIf
+  tests-left = rw (no-fault-exactly D p .1 w, le-ltb (length t) (length p) (own-long p t mine))
+
+  -- 14 refuses no such move, nor do 2 to 7 and 11
+  pub test-view : TestView D p line device (moveRefusal D p t line device)
+  unfolding refusedBy firstRefusal refuseIf refuseAt
+  test-view = rw tests-left (go (isTakeOf p line) (leb D device) refl refl)
+    where
+      i : ℕ
+      i = askedAt line
+
+      last : isTakeOf p line ≡ true → device < D → (x : Option Refusal) → fault D (edited p i device) ≡ x
+          → TestView D p line device (refusedBy line device true false none x)
+      last a b none h = passes a b h
+      last a b (some r) h =
+          refuses r (takeOfHeld r a b (fault-is-eight D p i device w (asked-take p line a) b small r h) h)
+
+      go : (x y : Bool) → isTakeOf p line ≡ x → leb D device ≡ y
+          → TestView D p line device
+          (refusedBy line device x y (firstOf (stale p t) (way p i)) (ofNumber 8 (fault D (edited p i device))))
+      go false y a b = refuses (NotATake line) (notATake a)
+      go true true a b = refuses (NoSuchDevice device) (noSuchDevice a (leb-true D device b))
+      go true false a b =
+          let v = asked-take p line a in
+          let lt = leb-false D device b in
+          rw (none-stale p t mine i (take-line p i v), eight-is-all D p i device w v lt small)
+          (last a lt (fault D (edited p i device)) refl)
+
+-- ---- how many places changed
+
+-- at how many places two lists differ, as far as both go
+unfoldable pub differing : List ℕ → List ℕ → ℕ
+differing [] ys = 0
+differing (x ∷ xs) [] = 0
+differing (x ∷ xs) (y ∷ ys) = cond (eqb x y) (differing xs ys) (suc (differing xs ys))
+
+differing-self : (xs : List ℕ) → differing xs xs ≡ 0
+unfolding differing
+differing-self [] = refl
+differing-self (x ∷ xs) = rw (eq-eqb x x refl) (differing-self xs)
+
+-- lists that go on the same differ in front
+differing-front : (xs ys rest : List ℕ) → length xs ≡ length ys → differing (xs ++ rest) (ys ++ rest) ≡ differing xs ys
+unfolding differing
+differing-front [] [] rest e = differing-self rest
+differing-front [] (y ∷ ys) rest e = absurd (omega arith)
+differing-front (x ∷ xs) [] rest e = absurd (omega arith)
+differing-front (x ∷ xs) (y ∷ ys) rest e = cc (differing-front xs ys rest (omega arith))
+
+-- the places counted, where a test from place a on says at which they differ
+counted : (f : ℕ → Bool) (xs ys : List ℕ) (a : ℕ) → length xs ≡ length ys
+    → ((k : ℕ) → k < length xs → f (a + k) ≡ not (eqb (getD xs k 0) (getD ys k 0)))
+    → length (those f (upFrom a (length xs))) ≡ differing xs ys
+unfolding differing those upFrom
+counted f [] ys a e h = refl
+counted f (x ∷ xs) [] a e h = absurd (omega arith)
+counted f (x ∷ xs) (y ∷ ys) a e h = go (eqb x y) first (counted f xs ys (suc a) (omega arith) later)
+  where
+    first : f a ≡ not (eqb x y)
+    first = let z : a + 0 ≡ a = omega arith in rw z at (h 0 (omega arith))
+
+    later : (k : ℕ) → k < length xs → f (suc a + k) ≡ not (eqb (getD xs k 0) (getD ys k 0))
+    later k lt = let z : a + suc k ≡ suc a + k = omega arith in rw z at (h (suc k) (omega arith))
+
+    go : (b : Bool) → f a ≡ not b → length (those f (upFrom (suc a) (length xs))) ≡ differing xs ys
+        → length {A = ℕ}
+        (elim (f a) [ true ↦ a ∷ those f (upFrom (suc a) (length xs)) | false ↦ those f (upFrom (suc a) (length xs)) ])
+        ≡ cond b (differing xs ys) (suc (differing xs ys))
+    go true z ih = rw z ih
+    go false z ih = rw z (ap suc ih)
+
+-- the count of a move is that of the whole lists
+changed-is : (p t u old new rest : List ℕ) → t ≡ old ++ rest → u ≡ new ++ rest → length old ≡ length p
+    → length new ≡ length p → changed p t u ≡ differing u t
+unfolding changed positions
+changed-is p t u old new rest x y e h =
+    rw (x, y, ← h)
+    (counted (λ k. not (eqb (getD (new ++ rest) k 0) (getD (old ++ rest) k 0))) new old 0 (h ∙ sym e) inside
+    ∙ sym (differing-front new old rest (h ∙ sym e)))
+  where
+    inside : (k : ℕ) → k < length new
+        → not (eqb (getD (new ++ rest) (0 + k) 0) (getD (old ++ rest) (0 + k) 0))
+        ≡ not (eqb (getD new k 0) (getD old k 0))
+    inside k lt =
+        let z : 0 + k ≡ k = omega arith in
+        rw (z, List·getD-append new rest 0 k lt, List·getD-append old rest 0 k (omega arith))
+
+-- ---- a move
+
+-- what an accepted move does: the plan is the edited one and has no fault; the sets are its table, worked out afresh,
+-- and the rest of the list; off the way they are what they were; the count is that of the places where the lists
+-- differ
+pub record Accepted (D : ℕ) (p t : List ℕ) (line device : ℕ) (o : MoveOutcome) : Type 0 where
+  pub plan : o .plan ≡ edited p (askedAt line) device
+  pub long : length (o .plan) ≡ length p
+  pub noFault : fault D (o .plan) ≡ none
+  pub afresh : o .sets ≡ table (o .plan) ++ drop (length p) t
+  pub room : length (o .sets) ≡ length t
+  pub verdict : judging D (o .plan) ≡ judging D (edited p (askedAt line) device)
+  pub offWay : (k : ℕ) → has k (way p (askedAt line)) ≡ false → getD (o .sets) k 0 ≡ getD t k 0
+  pub count : o .answer ≡ MoveAnswer.Changed (differing (o .sets) t)
+
+-- what a refused move does: nothing, but for the answer
+pub record Unmoved (D : ℕ) (p t : List ℕ) (line device : ℕ) (o : MoveOutcome) : Type 0 where
+  pub refusal : Refusal
+  pub reason : Refused D p line device refusal
+  pub answer : o .answer ≡ MoveAnswer.Refused refusal
+  pub plan : o .plan ≡ p
+  pub sets : o .sets ≡ t
+
+-- what any move does
+pub data Step (D : ℕ) (p t : List ℕ) (line device : ℕ) (o : MoveOutcome) : Type 0 where
+  refused : Unmoved D p t line device o → Step D p t line device o
+  accepted : Accepted D p t line device o → Step D p t line device o
+
+module _ (D : ℕ) (p t : List ℕ) (line device : ℕ) (w : WellFormed D p) (small : D ≤ 256)
+    (mine : take (length p) t ≡ table p) where
+  accepts : isTakeOf p line ≡ true → device < D → fault D (edited p (askedAt line) device) ≡ none
+      → Accepted D p t line device (moveBy none p t (askedAt line) device)
+  unfolding moveBy plan′ sets′
+  accepts a b f = record {
+    plan = refl;
+    long = n;
+    noFault = f;
+    afresh = new;
+    room = length-rewritten q t (way p i);
+    verdict = refl;
+    offWay = rewritten-off q t (way p i);
+    count = ap MoveAnswer.Changed (changed-is p t (rewritten q t (way p i)) (table p) (table q) (drop (length p) t)
+        (whole p t mine) new (length-table p) (length-table q ∙ n));
+  }
+    where
+      i : ℕ
+      i = askedAt line
+
+      q : List ℕ
+      q = edited p i device
+
+      n : length q ≡ length p
+      n = edit p i device (asked-take p line a) (omega arith) .alike .long
+
+      new : rewritten q t (way p i) ≡ table q ++ drop (length p) t
+      new = sets-are D p t i device w mine (asked-take p line a) (omega arith)
+
+  -- from a plan without a fault and its own table: a move that no test refuses
+  pub move-accepted : moveRefusal D p t line device ≡ none → Accepted D p t line device (moving D p t line device)
+  unfolding moving
+  move-accepted h = go (moveRefusal D p t line device) h (test-view D p t line device w small mine)
+    where
+      go : (x : Option Refusal) → x ≡ none → TestView D p line device x
+          → Accepted D p t line device (moveBy x p t (askedAt line) device)
+      go none e (passes a b f) = accepts a b f
+      go (some r) e v = absurd (Option·none-ne-some r (sym e))
+
+  -- and any move
+  pub move-step : Step D p t line device (moving D p t line device)
+  unfolding moving moveBy
+  move-step = go (moveRefusal D p t line device) (test-view D p t line device w small mine)
+    where
+      go : (x : Option Refusal) → TestView D p line device x
+          → Step D p t line device (moveBy x p t (askedAt line) device)
+      go none (passes a b f) = accepted (accepts a b f)
+      go (some r) (refuses x y) =
+          refused (record { refusal = x; reason = y; answer = refl; plan = refl; sets = refl })
+
+-- ---- a list of moves
+
+-- what is asked for: a line, by its number, and a device
+pub record Ask : Type 0 where
+  pub line : ℕ
+  pub device : ℕ
+
+-- plan and sets, as they are lent from move to move
+pub record Lent : Type 0 where
+  pub plan : List ℕ
+  pub sets : List ℕ
+
+-- one move, from what is lent to what is lent next
+unfoldable pub moved : ℕ → Lent → Ask → Lent
+moved D s a =
+    let o : MoveOutcome = moving D (s .plan) (s .sets) (a .line) (a .device) in
+    record { plan = o .plan; sets = o .sets }
+
+-- one move after the other
+unfoldable pub movedBy : ℕ → Lent → List Ask → Lent
+unfolding moved
+movedBy D s [] = s
+movedBy D s (a ∷ asks) = movedBy D (moved D s a) asks
+
+pub moved-last : (D : ℕ) (s : Lent) (asks : List Ask) (a : Ask)
+    → movedBy D s (asks ++ (a ∷ [])) ≡ moved D (movedBy D s asks) a
+unfolding movedBy
+moved-last D s [] a = refl
+moved-last D s (b ∷ asks) a = moved-last D (moved D s b) asks a
+
+-- What is lent now is right, going by what was lent first: the plan has no fault and as many lines, the sets are its
+-- own table and then the rest of the first list, and what is asked next is refused and changes nothing, or is
+-- accepted.
+pub record Kept (D : ℕ) (first s : Lent) : Type 0 where
+  pub noFault : fault D (s .plan) ≡ none
+  pub long : length (s .plan) ≡ length (first .plan)
+  pub afresh : s .sets ≡ table (s .plan) ++ drop (length (first .plan)) (first .sets)
+  pub next : (a : Ask)
+      → Step D (s .plan) (s .sets) (a .line) (a .device) (moving D (s .plan) (s .sets) (a .line) (a .device))
+
+module _ (D : ℕ) (small : D ≤ 256) where
+  kept : (first s : Lent) → fault D (s .plan) ≡ none → length (s .plan) ≡ length (first .plan)
+      → s .sets ≡ table (s .plan) ++ drop (length (first .plan)) (first .sets) → Kept D first s
+  kept first s f n e = record {
+    noFault = f;
+    long = n;
+    afresh = e;
+    next = λ a. move-step D (s .plan) (s .sets) (a .line) (a .device) (no-fault-exactly D (s .plan) .0 f) small mine;
+  }
+    where
+      mine : take (length (s .plan)) (s .sets) ≡ table (s .plan)
+      mine =
+          let n : ℕ = length (s .plan) in
+          rw e (take-at (table (s .plan)) (drop (length (first .plan)) (first .sets)) n (length-table (s .plan)))
+
+  kept-moved : (first s : Lent) (a : Ask) → Kept D first s → Kept D first (moved D s a)
+  unfolding moved
+  kept-moved first s a k = go (k .next a)
+    where
+      o : MoveOutcome
+      o = moving D (s .plan) (s .sets) (a .line) (a .device)
+
+      rest : drop (length (s .plan)) (s .sets) ≡ drop (length (first .plan)) (first .sets)
+      rest =
+          let n : ℕ = length (s .plan) in
+          rw (k .afresh)
+          (drop-at (table (s .plan)) (drop (length (first .plan)) (first .sets)) n (length-table (s .plan)))
+
+      go : Step D (s .plan) (s .sets) (a .line) (a .device) o → Kept D first (moved D s a)
+      go (refused u) =
+          kept first (moved D s a) (rw (u .plan) (k .noFault)) (rw (u .plan) (k .long))
+          (rw (u .plan, u .sets) (k .afresh))
+      go (accepted c) = kept first (moved D s a) (c .noFault) (c .long ∙ k .long) (rw rest at (c .afresh))
+
+  keeps-on : (first s : Lent) (asks : List Ask) → Kept D first s → Kept D first (movedBy D s asks)
+  unfolding movedBy
+  keeps-on first s [] k = k
+  keeps-on first s (a ∷ asks) k = keeps-on first (moved D s a) asks (kept-moved first s a k)
+
+  -- The theorem: over any list of moves, refused ones among them, plan and table stay right.
+  pub moves-keep : (s : Lent) (asks : List Ask) → fault D (s .plan) ≡ none
+      → take (length (s .plan)) (s .sets) ≡ table (s .plan) → Kept D s (movedBy D s asks)
+  moves-keep s asks f e = keeps-on s s asks (kept s s f refl (whole (s .plan) (s .sets) e))

@@ -1,0 +1,152 @@
+-- In a legal order each line has one place. What has to come before a line stands before it, and every other take of
+-- a device stands before its lasting take.
+use Prim.Native.Nat.{ℕ, zero, suc, _+_, _<_, _≤_}
+use mathlib.Core.Bool.{Bool, true, false, not, _&&_}
+use mathlib.Core.List.{List, [], _∷_, _++_}
+use mathlib.Core.Logic.{_⊎_, inl, inr, _≢_}
+use mathlib.Core.Option.{Option, none, some}
+use mathlib.Core.Path.{_≡_, refl, sym, _∙_, ap}
+use native.Mathlib.Omega.{arith}
+use lib.Dec.{eqb}
+use lib.ListN.{length}
+use borrow.Author.Tests.{eqb-true, eq-eqb, eqb-false, ne-eqb}
+use Rattle.model.specs.Lists.{any, has}
+use Rattle.model.specs.Mate.{takes, mate, isNone, lasting}
+use Rattle.model.specs.Legal.{precedes, doneAt, givenBack, held, MayFollow, Follow, Legal}
+use Rattle.theory.proofs.Tests.{clash, test, and-split, and-both, le-or-lt}
+use Rattle.theory.proofs.Lists.{has-none, has-head, has-cases, has-left, has-right, has-append, any-at}
+use Rattle.theory.proofs.Claims.{takes-line}
+
+-- the place of line i in an order
+pub place : List ℕ → ℕ → ℕ
+place [] i = 0
+place (x ∷ o) i = elim (eqb i x) [ true ↦ 0 | false ↦ suc (place o i) ]
+
+-- line i is the first of the order, or has its place in the rest
+pub data Placed (x : ℕ) (o : List ℕ) (i : ℕ) : Type 0 where
+  first : i ≡ x → place (x ∷ o) i ≡ 0 → Placed x o i
+  later : (i ≡ x → ⊥) → place (x ∷ o) i ≡ suc (place o i) → Placed x o i
+
+pub placed : (x : ℕ) (o : List ℕ) (i : ℕ) → Placed x o i
+unfolding place
+placed x o i = go (eqb i x) refl
+  where
+    go : (b : Bool) → eqb i x ≡ b → Placed x o i
+    go true e = first (eqb-true i x e) (rw (e, place))
+    go false e = later (eqb-false i x e) (rw (e, place))
+
+-- what was done when line i came
+pub record When (p done o : List ℕ) (i : ℕ) : Type 0 where
+  pub then : List ℕ
+  pub follows : MayFollow p then i
+  pub keeps : (k : ℕ) → has k done ≡ true → has k then ≡ true
+  pub into : (k : ℕ) → place o k < place o i → has k then ≡ true
+  pub from : (k : ℕ) → has k then ≡ true → (has k done ≡ true) ⊎ (place o k < place o i)
+
+pub when : (p done o : List ℕ) (i : ℕ) → Follow p done o → has i o ≡ true → When p done o i
+when p done [] i s h = has-none i h
+when p done (x ∷ o) i s h = go (placed x o i) (has-cases i x o h) (when p (done ++ (x ∷ [])) o i (s .1))
+  where
+    go : Placed x o i → (i ≡ x) ⊎ (has i o ≡ true) → (has i o ≡ true → When p (done ++ (x ∷ [])) o i)
+        → When p done (x ∷ o) i
+    go (first e z) c ih = record {
+      then = done;
+      follows = rw e (s .0);
+      keeps = λ k m. m;
+      into = λ k m. absurd (omega (arith, z));
+      from = λ k m. inl m;
+    }
+    go (later n z) (inl c) ih = absurd (n c)
+    go (later n z) (inr c) ih =
+        let w = ih c in record {
+          then = w .then;
+          follows = w .follows;
+          keeps = λ k m. w .keeps k (has-left k done (x ∷ []) m);
+          into = λ k m. into′ k w m (placed x o k);
+          from = λ k m. from′ k (w .from k m) (placed x o k);
+        }
+      where
+        into′ : (k : ℕ) (w : When p (done ++ (x ∷ [])) o i) → place (x ∷ o) k < place (x ∷ o) i → Placed x o k
+            → has k (w .then) ≡ true
+        into′ k w m (first q y) = w .keeps k (rw q (has-right x done (x ∷ []) (has-head x [])))
+        into′ k w m (later q y) = w .into k (omega (arith, z, y))
+
+        old : (k : ℕ) → (k ≡ x → ⊥) → (has k done ≡ true) ⊎ (has k (x ∷ []) ≡ true) → has k done ≡ true
+        old k q (inl r) = r
+        old k q (inr r) = only (has-cases k x [] r)
+          where
+            only : (k ≡ x) ⊎ (has k [] ≡ true) → has k done ≡ true
+            only (inl e) = absurd (q e)
+            only (inr e) = has-none k e
+
+        from′ : (k : ℕ) → (has k (done ++ (x ∷ [])) ≡ true) ⊎ (place o k < place o i) → Placed x o k
+            → (has k done ≡ true) ⊎ (place (x ∷ o) k < place (x ∷ o) i)
+        from′ k r (first q y) = inr (omega (arith, z, y))
+        from′ k (inr r) (later q y) = inr (omega (arith, z, y))
+        from′ k (inl r) (later q y) = inl (old k q (has-append k done (x ∷ []) r))
+
+-- two lines have two places
+pub one-place : (o : List ℕ) (i k : ℕ) → has i o ≡ true → has k o ≡ true → place o i ≡ place o k → i ≡ k
+one-place [] i k h g e = has-none i h
+one-place (x ∷ o) i k h g e =
+    go (placed x o i) (placed x o k) (has-cases i x o h) (has-cases k x o g) (λ a b. one-place o i k a b)
+  where
+    go : Placed x o i → Placed x o k → (i ≡ x) ⊎ (has i o ≡ true) → (k ≡ x) ⊎ (has k o ≡ true)
+        → (has i o ≡ true → has k o ≡ true → place o i ≡ place o k → i ≡ k) → i ≡ k
+    go (first a y) (first b z) c d ih = a ∙ sym b
+    go (first a y) (later b z) c d ih = absurd (omega (arith, y, z))
+    go (later a y) (first b z) c d ih = absurd (omega (arith, y, z))
+    go (later a y) (later b z) (inl c) d ih = absurd (a c)
+    go (later a y) (later b z) (inr c) (inl d) ih = absurd (b d)
+    go (later a y) (later b z) (inr c) (inr d) ih = ih c d (omega (arith, y, z))
+
+-- a lasting take has no mate, so it is not given back
+pub lasting-parts : (p : List ℕ) (i d : ℕ) → lasting p i d ≡ true → (takes p i d ≡ true) × (mate p i ≡ none)
+unfolding lasting isNone
+lasting-parts p i d l = let s = and-split (takes p i d) (isNone (mate p i)) l in (s .0, go (mate p i) (s .1))
+  where
+    go : (o : Option ℕ) → isNone o ≡ true → o ≡ none
+    go none e = refl
+    go (some m) e = clash false e refl
+
+pub still-held : (p done : List ℕ) (i d : ℕ) → takes p i d ≡ true → mate p i ≡ none → has i done ≡ true
+    → held p done d ≡ true
+unfolding held givenBack doneAt
+still-held p done i d t m h =
+    any-at (λ k. takes p k d && not (givenBack p done k)) done i h
+    (and-both (takes p i d) (not (givenBack p done i)) t (ap (λ (o : Option ℕ). not (doneAt done o)) m))
+
+module _ (p o : List ℕ) (legal : Legal p o) where
+  at-time : (i : ℕ) → i < length p → When p [] o i
+  at-time i h = when p [] o i (legal .steps) (legal .whole i h)
+
+  pub stands-before : (k i : ℕ) → k < length p → i < length p → precedes p k i ≡ true → place o k < place o i
+  stands-before k i hk hi b = go (at-time i hi .from k (at-time i hi .follows .after k hk b))
+    where
+      go : (has k [] ≡ true) ⊎ (place o k < place o i) → place o k < place o i
+      go (inl e) = has-none k e
+      go (inr e) = e
+
+  pub lasting-is-last : (i k d : ℕ) → lasting p i d ≡ true → takes p k d ≡ true → k ≢ i → place o k < place o i
+  lasting-is-last i k d l t n = go (le-or-lt (place o i) (place o k))
+    where
+      s : (takes p i d ≡ true) × (mate p i ≡ none)
+      s = lasting-parts p i d l
+
+      hi : i < length p
+      hi = takes-line p i d (s .0)
+
+      hk : k < length p
+      hk = takes-line p k d t
+
+      w : When p [] o k
+      w = at-time k hk
+
+      apart : place o i ≡ place o k → ⊥
+      apart e = n (sym (one-place o i k (legal .whole i hi) (legal .whole k hk) e))
+
+      go : (place o i ≤ place o k) ⊎ (place o k < place o i) → place o k < place o i
+      go (inr e) = e
+      go (inl e) =
+          clash (held p (w .then) d)
+          (still-held p (w .then) i d (s .0) (s .1) (w .into i (omega (arith, apart)))) (w .follows .free d t)

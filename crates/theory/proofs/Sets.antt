@@ -1,0 +1,203 @@
+-- Sets of devices by their members: of no device, of one, of a union, of a union over a list; two sets below 2 ^ D
+-- with the same members are the same; how many members a set has, and the lowest. All of it over the number of
+-- devices D.
+use Prim.Native.Nat.{ℕ, zero, suc, _+_, _-_, _*_, _/_, _%_, _^_, _<_, _≤_, max}
+use mathlib.Core.Bool.{Bool, true, false, cond, _||_}
+use mathlib.Core.List.{List, [], _∷_, map}
+use mathlib.Core.Logic.{_⊎_, inl, inr}
+use mathlib.Core.Path.{_≡_, refl, sym, _∙_, ap}
+use mathlib.Core.Option.{some, Option·getD}
+use native.Mathlib.Nat.{zero-add, add-zero, zero-div, div-one, div-eq-of-lt, pow-suc}
+use native.Mathlib.Numerals.{add-one}
+use native.Mathlib.Omega.{arith}
+use lib.Bits.{bitOr, or-shr, or-step, or-lt}
+use lib.Count.{ones, onesIn, ones-step, under, trailingZeros}
+use lib.Dec.{eqb}
+use lib.ListN.{length}
+use lib.Pow.{pow-add, pow-pos, pow-lt, shl-shr, shr-shr, shr-lt}
+use borrow.Author.Tests.{eqb-true, eqb-false, eq-eqb, ne-eqb}
+use Rattle.model.specs.Lists.{upFrom, has, those, firstOf}
+use Rattle.model.specs.Sets.{empty, only, union, unionOf, member}
+use Rattle.theory.proofs.Tests.{clash, or-split, or-left, or-right, le-or-lt}
+use Rattle.theory.proofs.Lists.{has-none, has-head, has-tail, has-cases}
+
+or-low : (x y : ℕ) → bitOr x y % 2 ≡ max (x % 2) (y % 2)
+or-low x y = omega (arith, or-step x y)
+
+bit : (u v : ℕ) → u < 2 → v < 2 → eqb (max u v) 1 ≡ (eqb u 1 || eqb v 1)
+bit zero zero h k = refl
+bit zero (suc zero) h k = refl
+bit zero (suc (suc v)) h k = absurd (omega arith)
+bit (suc zero) zero h k = refl
+bit (suc zero) (suc zero) h k = refl
+bit (suc zero) (suc (suc v)) h k = absurd (omega arith)
+bit (suc (suc u)) v h k = absurd (omega arith)
+
+pub member-union : (a b d : ℕ) → member (union a b) d ≡ (member a d || member b d)
+unfolding member union
+member-union a b d =
+    ap (λ (x : ℕ). eqb (x % 2) 1) (or-shr a b d)
+    ∙ ap (λ (x : ℕ). eqb x 1) (or-low (a / 2 ^ d) (b / 2 ^ d))
+    ∙ bit (a / 2 ^ d % 2) (b / 2 ^ d % 2) (omega arith) (omega arith)
+
+pub member-empty : (d : ℕ) → member empty d ≡ false
+unfolding member empty
+member-empty d = ap (λ (x : ℕ). eqb (x % 2) 1) (zero-div (2 ^ d))
+
+pub member-only : (d e : ℕ) → member (only d) e ≡ eqb d e
+unfolding member only
+member-only d e = go (le-or-lt e d)
+  where
+    high : (k : ℕ) → 2 ^ (k + e) / 2 ^ e ≡ 2 ^ k
+    high k = ap (λ (x : ℕ). x / 2 ^ e) (pow-add 2 k e) ∙ shl-shr (2 ^ k) e
+
+    at-or-above : (k : ℕ) → eqb (2 ^ (k + e) / 2 ^ e % 2) 1 ≡ eqb (k + e) e
+    at-or-above zero = ap (λ (x : ℕ). eqb (x % 2) 1) (high 0) ∙ sym (eq-eqb (0 + e) e (omega arith))
+    at-or-above (suc k) =
+        ap (λ (x : ℕ). eqb (x % 2) 1) (high (suc k))
+        ∙ ne-eqb (2 ^ suc k % 2) 1 (λ q. omega (arith, pow-suc 2 k, q))
+        ∙ sym (ne-eqb (suc k + e) e (λ q. omega arith))
+
+    go : (e ≤ d) ⊎ (d < e) → eqb (2 ^ d / 2 ^ e % 2) 1 ≡ eqb d e
+    go (inl h) = let q : d - e + e ≡ d = omega arith in rw q at (at-or-above (d - e))
+    go (inr h) = ap (λ (x : ℕ). eqb (x % 2) 1) (div-eq-of-lt (pow-lt h)) ∙ sym (ne-eqb d e (λ q. omega arith))
+
+-- ---- members of a union
+
+pub in-union : (a b d : ℕ) → member (union a b) d ≡ true → (member a d ≡ true) ⊎ (member b d ≡ true)
+in-union a b d h = or-split (member a d) (member b d) (sym (member-union a b d) ∙ h)
+
+pub in-left : (a b d : ℕ) → member a d ≡ true → member (union a b) d ≡ true
+in-left a b d h = member-union a b d ∙ or-left (member a d) (member b d) h
+
+pub in-right : (a b d : ℕ) → member b d ≡ true → member (union a b) d ≡ true
+in-right a b d h = member-union a b d ∙ or-right (member a d) (member b d) h
+
+-- of a union over a list: some element's set has it
+pub in-unionOf : (f : ℕ → ℕ) (xs : List ℕ) (d : ℕ) → member (unionOf (map f xs)) d ≡ true
+    → (x : ℕ) × (has x xs ≡ true) × (member (f x) d ≡ true)
+unfolding unionOf
+in-unionOf f [] d h = clash (member empty d) h (member-empty d)
+in-unionOf f (x ∷ xs) d h = go (in-union (f x) (unionOf (map f xs)) d h) (in-unionOf f xs d)
+  where
+    go : (member (f x) d ≡ true) ⊎ (member (unionOf (map f xs)) d ≡ true)
+        → (member (unionOf (map f xs)) d ≡ true → (y : ℕ) × (has y xs ≡ true) × (member (f y) d ≡ true))
+        → (y : ℕ) × (has y (x ∷ xs) ≡ true) × (member (f y) d ≡ true)
+    go (inl m) ih = (x, has-head x xs, m)
+    go (inr m) ih = let r = ih m in (r .0, has-tail (r .0) x xs (r .1), r .2)
+
+pub unionOf-in : (f : ℕ → ℕ) (xs : List ℕ) (x d : ℕ) → has x xs ≡ true → member (f x) d ≡ true
+    → member (unionOf (map f xs)) d ≡ true
+unfolding unionOf
+unionOf-in f [] x d h m = has-none x h
+unionOf-in f (y ∷ xs) x d h m = go (has-cases x y xs h) (λ k. unionOf-in f xs x d k m)
+  where
+    go : (x ≡ y) ⊎ (has x xs ≡ true) → (has x xs ≡ true → member (unionOf (map f xs)) d ≡ true)
+        → member (union (f y) (unionOf (map f xs))) d ≡ true
+    go (inl e) ih = in-left (f y) (unionOf (map f xs)) d (rw e at m)
+    go (inr k) ih = in-right (f y) (unionOf (map f xs)) d (ih k)
+
+-- ---- sets below 2 ^ D
+
+pub empty-below : (D : ℕ) → empty < 2 ^ D
+unfolding empty
+empty-below D = pow-pos D
+
+pub only-below : (D d : ℕ) → d < D → only d < 2 ^ D
+unfolding only
+only-below D d h = pow-lt h
+
+pub union-below : (D a b : ℕ) → a < 2 ^ D → b < 2 ^ D → union a b < 2 ^ D
+unfolding union
+union-below D a b h k = or-lt D a b h k
+
+-- a binary digit is 0 or 1
+by-digit : {P : Type 0} (n : ℕ) → (n % 2 ≡ 0 → P) → (n % 2 ≡ 1 → P) → P
+by-digit {P} n f g = go (n % 2) (omega arith) refl
+  where
+    go : (k : ℕ) → k < 2 → n % 2 ≡ k → P
+    go zero h e = f e
+    go (suc zero) h e = g e
+    go (suc (suc k)) h e = absurd (omega arith)
+
+half-shift : (s e : ℕ) → s / 2 ^ e / 2 ≡ s / 2 ^ suc e
+half-shift s e = shr-shr s e 1 ∙ ap (λ (x : ℕ). s / 2 ^ x) (add-one e)
+
+-- the members of half a set
+half-member : (s d : ℕ) → member (s / 2) d ≡ member s (suc d)
+unfolding member
+half-member s d =
+    ap (λ (x : ℕ). eqb (x % 2) 1)
+    (shr-shr s 1 d ∙ ap (λ (x : ℕ). s / 2 ^ x) (let q : 1 + d ≡ suc d = omega arith in q))
+
+-- two sets with the same members are the same
+pub same-members : (D s t : ℕ) → s < 2 ^ D → t < 2 ^ D → ((d : ℕ) → d < D → member s d ≡ member t d) → s ≡ t
+unfolding member
+same-members zero s t h k f = omega arith
+same-members (suc D) s t h k f =
+    go
+    (same-members D (s / 2) (t / 2) (shr-lt D 1 (rw add-one h)) (shr-lt D 1 (rw add-one k))
+    (λ d b. half-member s d ∙ f (suc d) (omega arith) ∙ sym (half-member t d)))
+    (f 0 (omega arith))
+  where
+    go : s / 2 ≡ t / 2 → eqb (s / 2 ^ 0 % 2) 1 ≡ eqb (t / 2 ^ 0 % 2) 1 → s ≡ t
+    go e q =
+        by-digit s
+        (λ a. by-digit t (λ b. omega arith) (λ b. clash true refl (sym (low t 1 b) ∙ sym q ∙ low s 0 a)))
+        (λ a. by-digit t (λ b. clash true refl (sym (low s 1 a) ∙ q ∙ low t 0 b)) (λ b. omega arith))
+      where
+        low : (x k : ℕ) → x % 2 ≡ k → eqb (x / 2 ^ 0 % 2) 1 ≡ eqb k 1
+        low x k e = ap (λ (y : ℕ). eqb (y % 2) 1) (div-one x) ∙ ap (λ (y : ℕ). eqb y 1) e
+
+-- the digit of a device, and whether it is a member
+member-digit : (s e : ℕ) (b : Bool) → member s e ≡ b → s / 2 ^ e % 2 ≡ cond b 1 0
+unfolding member
+member-digit s e true h = eqb-true (s / 2 ^ e % 2) 1 h
+member-digit s e false h = let n = eqb-false (s / 2 ^ e % 2) 1 h in omega arith
+
+-- how many members a set has
+count-from : (D e s : ℕ) → length (those (member s) (upFrom e D)) ≡ onesIn D (s / 2 ^ e)
+unfolding those upFrom onesIn
+count-from zero e s = refl
+count-from (suc D) e s = go (member s e) refl (count-from D (suc e) s ∙ ap (onesIn D) (sym (half-shift s e)))
+  where
+    go : (b : Bool) → member s e ≡ b → length (those (member s) (upFrom (suc e) D)) ≡ onesIn D (s / 2 ^ e / 2)
+        → length {A = ℕ} (elim b [
+          | true ↦ e ∷ those (member s) (upFrom (suc e) D)
+          | false ↦
+              those (member s) (upFrom (suc e) D)
+        ])
+        ≡ s / 2 ^ e % 2 + onesIn D (s / 2 ^ e / 2)
+    go true q ih = omega (arith, member-digit s e true q)
+    go false q ih = omega (arith, member-digit s e false q)
+
+ones-in : (D s : ℕ) → s < 2 ^ D → ones s ≡ onesIn D s
+unfolding onesIn ones
+ones-in zero zero h = refl
+ones-in zero (suc s) h = absurd (omega arith)
+ones-in (suc D) s h = ones-step s ∙ ap (λ (x : ℕ). s % 2 + x) (ones-in D (s / 2) (shr-lt D 1 (rw add-one h)))
+
+pub count-of-members : (D s : ℕ) → s < 2 ^ D → ones s ≡ length (those (member s) (upFrom 0 D))
+count-of-members D s h = ones-in D s h ∙ sym (count-from D 0 s ∙ ap (onesIn D) (div-one s))
+
+-- the lowest member, or D where there is none
+lowest-from : (D e s : ℕ) → Option·getD (firstOf (member s) (upFrom e D)) (e + D) ≡ e + trailingZeros D (s / 2 ^ e)
+unfolding firstOf upFrom trailingZeros
+lowest-from zero e s = refl
+lowest-from (suc D) e s =
+    go (member s e) refl (lowest-from D (suc e) s ∙ ap (λ (x : ℕ). suc e + trailingZeros D x) (sym (half-shift s e)))
+  where
+    go : (b : Bool) → member s e ≡ b
+        → Option·getD (firstOf (member s) (upFrom (suc e) D)) (suc e + D) ≡ suc e + trailingZeros D (s / 2 ^ e / 2)
+        → Option·getD (elim b [ true ↦ some e | false ↦ firstOf (member s) (upFrom (suc e) D) ]) (e + suc D)
+        ≡ e + under (s / 2 ^ e % 2) (trailingZeros D (s / 2 ^ e / 2))
+    go true q ih = rw (member-digit s e true q) (sym (add-zero e))
+    go false q ih =
+        rw (member-digit s e false q)
+        (ap (Option·getD (firstOf (member s) (upFrom (suc e) D))) (let z : e + suc D ≡ suc e + D = omega arith in z)
+        ∙ ih
+        ∙ (let z : suc e + trailingZeros D (s / 2 ^ e / 2) ≡ e + suc (trailingZeros D (s / 2 ^ e / 2)) =
+        omega arith in z))
+
+pub lowest-member : (D s : ℕ) → Option·getD (firstOf (member s) (upFrom 0 D)) D ≡ trailingZeros D s
+lowest-member D s = simp (zero-add, div-one) at (lowest-from D 0 s)

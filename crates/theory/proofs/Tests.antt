@@ -1,0 +1,68 @@
+-- Boolean tests: what a test that passes or fails says of its parts. Every other file of this room leans on these.
+use Prim.Native.Nat.{ℕ, _≤_, _<_}
+use mathlib.Core.Bool.{Bool, true, false, cond, not, _&&_, _||_}
+use mathlib.Core.Logic.{_⊎_, inl, inr}
+use mathlib.Core.Option.{Option, none, some, Option·none-ne-some}
+use mathlib.Core.Path.{_≡_, refl, ap}
+use native.Mathlib.Omega.{arith}
+use lib.Dec.{leb}
+use borrow.Author.Tests.{leb-true, leb-false}
+
+-- no test both passes and fails
+pub clash : {A : Type 0} (b : Bool) → b ≡ true → b ≡ false → A
+clash b e f =
+    let z : _≡_ {A = Bool} true false = cc in
+    let w : _≡_ {A = ℕ} 0 1 = ap (λ (t : Bool). cond t 0 1) z in
+    absurd (omega arith)
+
+-- what is none is not some
+pub no-some : {A : Type 0} {m : ℕ} → _≡_ {A = Option ℕ} none (some m) → A
+no-some {A} {m} e = absurd (Option·none-ne-some m e)
+
+-- a test passes or fails
+pub test : (b : Bool) → (b ≡ true) ⊎ (b ≡ false)
+test true = inl refl
+test false = inr refl
+
+pub or-split : (a b : Bool) → (a || b) ≡ true → (a ≡ true) ⊎ (b ≡ true)
+or-split true b e = inl refl
+or-split false b e = inr e
+
+pub or-left : (a b : Bool) → a ≡ true → (a || b) ≡ true
+or-left true b e = refl
+or-left false b e = clash false e refl
+
+pub or-right : (a b : Bool) → b ≡ true → (a || b) ≡ true
+or-right true b e = refl
+or-right false b e = e
+
+pub or-neither : (a b : Bool) → (a || b) ≡ false → (a ≡ false) × (b ≡ false)
+or-neither true b e = clash true refl e
+or-neither false b e = (refl, e)
+
+pub and-split : (a b : Bool) → (a && b) ≡ true → (a ≡ true) × (b ≡ true)
+and-split true b e = (refl, e)
+and-split false b e = clash false e refl
+
+pub and-both : (a b : Bool) → a ≡ true → b ≡ true → (a && b) ≡ true
+and-both a b e f = rw (e, f)
+
+pub and-left : (a b : Bool) → a ≡ false → (a && b) ≡ false
+and-left true b e = clash true refl e
+and-left false b e = refl
+
+pub and-right : (a b : Bool) → b ≡ false → (a && b) ≡ false
+and-right true b e = e
+and-right false b e = refl
+
+-- the second fails, where both fail and the first passes
+pub and-second : (a b : Bool) → a ≡ true → (a && b) ≡ false → b ≡ false
+and-second true b e h = h
+and-second false b e h = clash false e refl
+
+pub le-or-lt : (a b : ℕ) → (a ≤ b) ⊎ (b < a)
+le-or-lt a b = go (test (leb a b))
+  where
+    go : (leb a b ≡ true) ⊎ (leb a b ≡ false) → (a ≤ b) ⊎ (b < a)
+    go (inl h) = inl (leb-true a b h)
+    go (inr h) = inr (leb-false a b h)

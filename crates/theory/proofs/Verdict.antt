@@ -1,0 +1,275 @@
+-- The existence theorem. A plan without a fault has a legal order exactly if the verdict refuses it neither by 9 nor
+-- by 10, and then the order handed out is legal; 9 and 10 come with the lowest such device. After the last step of a
+-- legal order the devices held are exactly those with a lasting take.
+use Prim.Native.Nat.{ℕ, zero, suc, _+_, _<_, _≤_}
+use mathlib.Core.Bool.{Bool, true, false, not, _&&_}
+use mathlib.Core.List.{List, [], _∷_, map}
+use mathlib.Core.Logic.{_⊎_, inl, inr, _≢_, _↔_}
+use mathlib.Core.Option.{Option, none, some, Option·none-ne-some, Option·some-injective}
+use mathlib.Core.Path.{_≡_, refl, sym, _∙_, ap, subst}
+use native.Mathlib.Omega.{arith}
+use lib.Dec.{eqb, leb}
+use lib.ListN.{length}
+use borrow.Author.Tests.{leb-true, le-leb, le-ltb, not-true}
+use Rattle.model.specs.Lists.{upFrom, positions, any, has, those, firstOf, over}
+use Rattle.model.specs.Answers.{refuseIf, refuseAt, firstRefusal, tooShort}
+use Rattle.model.specs.Line.{lineNumber}
+use Rattle.model.specs.Mate.{takes, mate, isNone, lasting}
+use Rattle.model.specs.WellFormed.{WellFormed, fault}
+use Rattle.model.specs.Legal.{givenBack, held, Legal}
+use Rattle.model.specs.Rows.{lastingTakes, rows, Leads, leadsBack}
+use Rattle.model.specs.Handed.{handed}
+use Rattle.model.specs.Verdict.{twoLasting, circle, noOrder, heldAtEnd}
+use Rattle.model.specs.Entries.{VerdictOutcome, verdictBy, judging}
+use Rattle.model.specs.declared.VerdictAnswer.{VerdictAnswer}
+use Rattle.model.specs.declared.Refusal.{Refusal}
+use Rattle.model.specs.declared.Refusal.the-variants.{TwoLasting, LeadsBack}
+use Rattle.theory.proofs.Tests.{clash, test, and-split, and-both}
+use Rattle.theory.proofs.Lists.{has-none, has-head, has-tail, has-cases, has-upFrom, upFrom-has, position-has}
+use Rattle.theory.proofs.Lists.{has-those}
+use Rattle.theory.proofs.Lists.{those-has, those-same, any-found, any-at, Answer, first-answer, first-lowest}
+use Rattle.theory.proofs.Lists.{first-is-lowest}
+use Rattle.theory.proofs.Claims.{takes-line}
+use Rattle.theory.proofs.WellFormed.{no-fault-exactly}
+use Rattle.theory.proofs.Mate.{pair}
+use Rattle.theory.proofs.Places.{lasting-parts, still-held}
+use Rattle.theory.proofs.OnlyIf.{LastsTwice, length-rows, legal-excludes}
+use Rattle.theory.proofs.Turns.{given-back}
+use Rattle.theory.proofs.Progress.{device-below}
+use Rattle.theory.proofs.Handed.{handed-is-legal}
+use Rattle.theory.proofs.Rows.{leads-back-exactly, leads-below}
+
+-- ---- two lasting takes, counted
+
+-- those of ascending numbers that pass ascend
+ascending : (f : ℕ → Bool) (a n x : ℕ) (ys : List ℕ) → those f (upFrom a n) ≡ x ∷ ys → (y : ℕ) → has y ys ≡ true
+    → x < y
+unfolding those upFrom
+ascending f a zero x ys e y h = let z : _≡_ {A = ℕ} 0 (suc (length ys)) = ap length e in absurd (omega arith)
+ascending f a (suc n) x ys e y h = go (f a) e (λ q. ascending f (suc a) n x ys q y h)
+  where
+    go : (b : Bool) → elim b [ true ↦ a ∷ those f (upFrom (suc a) n) | false ↦ those f (upFrom (suc a) n) ] ≡ x ∷ ys
+        → (those f (upFrom (suc a) n) ≡ x ∷ ys → x < y) → x < y
+    go false q ih = ih q
+    go true q ih =
+        let z : a ≡ x = cc in
+        let t : those f (upFrom (suc a) n) ≡ ys = cc in
+        let r = has-those f (upFrom (suc a) n) y (rw t h) in
+        omega (arith, has-upFrom (suc a) n y (r .0) .0)
+
+-- two of a list are counted
+counted-two : (xs : List ℕ) (i k : ℕ) → i ≢ k → has i xs ≡ true → has k xs ≡ true → 2 ≤ length xs
+counted-two [] i k n h g = has-none i h
+counted-two (x ∷ []) i k n h g = go (has-cases i x [] h) (has-cases k x [] g)
+  where
+    go : (i ≡ x) ⊎ (has i [] ≡ true) → (k ≡ x) ⊎ (has k [] ≡ true) → 2 ≤ 1
+    go (inl a) (inl b) = absurd (n (a ∙ sym b))
+    go (inl a) (inr b) = has-none k b
+    go (inr a) b = has-none i a
+counted-two (x ∷ y ∷ xs) i k n h g = omega arith
+
+two-counted : (p : List ℕ) (d : ℕ) (xs : List ℕ) → lastingTakes p d ≡ xs → 2 ≤ length xs → LastsTwice p d
+unfolding lastingTakes positions
+two-counted p d [] e h = absurd (omega arith)
+two-counted p d (x ∷ []) e h = absurd (omega arith)
+two-counted p d (x ∷ y ∷ xs) e h =
+    let later : x < y = ascending (λ i. lasting p i d) 0 (length p) x (y ∷ xs) e y (has-head y xs) in
+    record {
+      i = x;
+      k = y;
+      apart = λ q. omega arith;
+      i-lasts = lasts x (has-head x (y ∷ xs));
+      k-lasts =
+          lasts y (has-tail y x (y ∷ xs) (has-head y xs));
+    }
+  where
+    lasts : (z : ℕ) → has z (x ∷ y ∷ xs) ≡ true → lasting p z d ≡ true
+    lasts z m = has-those (λ i. lasting p i d) (upFrom 0 (length p)) z (rw e m) .1
+
+pub lasts-twice-exactly : (p : List ℕ) (d : ℕ) → (leb 2 (length (lastingTakes p d)) ≡ true) ↔ LastsTwice p d
+unfolding lastingTakes
+lasts-twice-exactly p d =
+    (λ h. two-counted p d (lastingTakes p d) refl (leb-true 2 (length (lastingTakes p d)) h), from)
+  where
+    listed : (i : ℕ) → lasting p i d ≡ true → has i (lastingTakes p d) ≡ true
+    listed i l =
+        those-has (λ i. lasting p i d) (positions p) i
+        (position-has p i (takes-line p i d (lasting-parts p i d l .0))) l
+
+    from : LastsTwice p d → leb 2 (length (lastingTakes p d)) ≡ true
+    from t =
+        le-leb 2 (length (lastingTakes p d))
+        (counted-two (lastingTakes p d) (t .i) (t .k) (t .apart) (listed (t .i) (t .i-lasts))
+        (listed (t .k) (t .k-lasts)))
+
+-- ---- the verdict's refusals
+
+-- why there is no order, and the lowest device for which
+pub data NoOrder (D : ℕ) (p : List ℕ) : Refusal → Type 0 where
+  twice : (d : ℕ) → d < D → LastsTwice p d → ((e : ℕ) → e < d → LastsTwice p e → ⊥) → NoOrder D p (TwoLasting d)
+  back : (d : ℕ) → ((e : ℕ) → e < D → LastsTwice p e → ⊥) → d < D → Leads (rows D p) d d
+      → ((e : ℕ) → e < d → Leads (rows D p) e e → ⊥) → NoOrder D p (LeadsBack d)
+
+pub data OrderView (D : ℕ) (p : List ℕ) : Option Refusal → Type 0 where
+  accepted : ((e : ℕ) → e < D → LastsTwice p e → ⊥) → ((e : ℕ) → e < D → Leads (rows D p) e e → ⊥) → OrderView D p none
+  refused : (r : Refusal) → NoOrder D p r → OrderView D p (some r)
+
+pub order-view : (D : ℕ) (p : List ℕ) → OrderView D p (noOrder D p)
+unfolding noOrder firstRefusal twoLasting circle refuseAt
+order-view D p =
+    go (firstOf two (upFrom 0 D)) refl (first-answer two (upFrom 0 D)) (firstOf leads (upFrom 0 D)) refl
+    (first-answer leads (upFrom 0 D))
+  where
+    two : ℕ → Bool
+    two d = leb 2 (length (lastingTakes p d))
+
+    leads : ℕ → Bool
+    leads = leadsBack (rows D p)
+
+    not-two : (e : ℕ) → two e ≡ false → LastsTwice p e → ⊥
+    not-two e q t = clash (two e) (lasts-twice-exactly p e .1 t) q
+
+    not-back : (e : ℕ) → leads e ≡ false → Leads (rows D p) e e → ⊥
+    not-back e q l = clash (leads e) (leads-back-exactly (rows D p) e .1 l) q
+
+    below : (d : ℕ) → has d (upFrom 0 D) ≡ true → d < D
+    below d h = omega (arith, has-upFrom 0 D d h .1)
+
+    go : (x : Option ℕ) → firstOf two (upFrom 0 D) ≡ x → Answer two (upFrom 0 D) x
+        → (y : Option ℕ) → firstOf leads (upFrom 0 D) ≡ y → Answer leads (upFrom 0 D) y
+        → OrderView D p (firstRefusal (refuseAt TwoLasting x ∷ refuseAt LeadsBack y ∷ []))
+    go (some d) xe xa y ye ya =
+        refused (TwoLasting d)
+        (twice d (below d (xa .0)) (lasts-twice-exactly p d .0 (xa .1))
+        (λ e h. not-two e (first-lowest two 0 D d xe e (omega arith) h)))
+    go none xe xa (some d) ye ya =
+        refused (LeadsBack d)
+        (back d (λ e h. not-two e (xa e (upFrom-has 0 D e (omega arith) (omega arith)))) (below d (ya .0))
+        (leads-back-exactly (rows D p) d .0 (ya .1))
+        (λ e h. not-back e (first-lowest leads 0 D d ye e (omega arith) h)))
+    go none xe xa none ye ya =
+        accepted (λ e h. not-two e (xa e (upFrom-has 0 D e (omega arith) (omega arith))))
+        (λ e h. not-back e (ya e (upFrom-has 0 D e (omega arith) (omega arith))))
+
+-- a reason why there is no order excludes every legal one
+pub no-legal-order : (D : ℕ) (p : List ℕ) (r : Refusal) → NoOrder D p r → (o : List ℕ) → Legal p o → ⊥
+no-legal-order D p r (twice d h t low) o legal = legal-excludes D p o legal d .0 t
+no-legal-order D p r (back d f h l low) o legal = legal-excludes D p o legal d .1 l
+
+-- ---- the devices held at the end
+
+-- after the last step of a legal order exactly the devices with a lasting take are held
+pub held-at-end-exactly : (p o : List ℕ) → Legal p o → (d : ℕ)
+    → (held p o d ≡ true) ↔ ((i : ℕ) × (lasting p i d ≡ true))
+unfolding held lasting isNone
+held-at-end-exactly p o legal d = (to, from)
+  where
+    never-given : (k : ℕ) → givenBack p o k ≡ false → (m : Option ℕ) → mate p k ≡ m → isNone m ≡ true
+    never-given k n none e = refl
+    never-given k n (some m) e =
+        clash (givenBack p o k) (given-back p o k m e (legal .whole m (pair p k m e .inPlan))) n
+
+    to : held p o d ≡ true → (i : ℕ) × (lasting p i d ≡ true)
+    to h =
+        let r = any-found (λ k. takes p k d && not (givenBack p o k)) o h in
+        let s = and-split (takes p (r .0) d) (not (givenBack p o (r .0))) (r .2) in (
+          r .0,
+          and-both (takes p (r .0) d) (isNone (mate p (r .0))) (s .0)
+              (never-given (r .0) (not-true (givenBack p o (r .0)) (s .1)) (mate p (r .0)) refl),
+        )
+
+    from : (i : ℕ) × (lasting p i d ≡ true) → held p o d ≡ true
+    from l =
+        let s = lasting-parts p (l .0) d (l .1) in
+        still-held p o (l .0) d (s .0) (s .1) (legal .whole (l .0) (takes-line p (l .0) d (s .0)))
+
+-- and their number is what an accepted verdict carries
+pub held-number : (D : ℕ) (p : List ℕ) → Legal p (handed p)
+    → heldAtEnd D p ≡ length (those (λ d. any (λ i. lasting p i d) (positions p)) (upFrom 0 D))
+unfolding heldAtEnd
+held-number D p legal =
+    ap length
+    (those-same (held p (handed p)) (λ d. any (λ i. lasting p i d) (positions p)) (upFrom 0 D)
+    (λ d h. same d (test (held p (handed p) d)) (test (any (λ i. lasting p i d) (positions p)))))
+  where
+    some-lasts : (d : ℕ) → held p (handed p) d ≡ true → any (λ i. lasting p i d) (positions p) ≡ true
+    some-lasts d h =
+        let l = held-at-end-exactly p (handed p) legal d .0 h in
+        any-at (λ i. lasting p i d) (positions p) (l .0)
+        (position-has p (l .0) (takes-line p (l .0) d (lasting-parts p (l .0) d (l .1) .0))) (l .1)
+
+    is-held : (d : ℕ) → any (λ i. lasting p i d) (positions p) ≡ true → held p (handed p) d ≡ true
+    is-held d h =
+        let r = any-found (λ i. lasting p i d) (positions p) h in
+        held-at-end-exactly p (handed p) legal d .1 (r .0, r .2)
+
+    same : (d : ℕ) → (held p (handed p) d ≡ true) ⊎ (held p (handed p) d ≡ false)
+        → (any (λ i. lasting p i d) (positions p) ≡ true) ⊎ (any (λ i. lasting p i d) (positions p) ≡ false)
+        → held p (handed p) d ≡ any (λ i. lasting p i d) (positions p)
+    same d (inl a) b = a ∙ sym (some-lasts d a)
+    same d (inr a) (inr b) = a ∙ sym b
+    same d (inr a) (inl b) = clash (held p (handed p) d) (is-held d b) a
+
+-- ---- the theorem
+
+module _ (D : ℕ) (p : List ℕ) (sound : fault D p ≡ none) where
+  well-formed : WellFormed D p
+  well-formed = no-fault-exactly D p .0 sound
+
+  -- where 9 and 10 are not given, the order handed out is legal
+  pub accepted-is-legal : noOrder D p ≡ none → Legal p (handed p)
+  accepted-is-legal e = go (noOrder D p) e (order-view D p)
+    where
+      go : (x : Option Refusal) → x ≡ none → OrderView D p x → Legal p (handed p)
+      go none q (accepted f g) =
+          handed-is-legal D p well-formed
+          (λ d t. f d (device-below D p well-formed (t .i) d (lasting-parts p (t .i) d (t .i-lasts) .0)) t)
+          (λ d l. g d (rw (length-rows D p) at (leads-below (rows D p) d d l)) l)
+      go (some r) q v = absurd (Option·none-ne-some r (sym q))
+
+  -- 9 or 10 exactly for its reason
+  pub refused-exactly : (r : Refusal) → noOrder D p ≡ some r → NoOrder D p r
+  refused-exactly r e = go (noOrder D p) e (order-view D p)
+    where
+      go : (x : Option Refusal) → x ≡ some r → OrderView D p x → NoOrder D p r
+      go none q v = absurd (Option·none-ne-some r q)
+      go (some s) q (refused t h) = subst (λ (y : Refusal). NoOrder D p y) (Option·some-injective s r q) h
+
+  -- The theorem: a legal order exists exactly if the verdict refuses by neither 9 nor 10.
+  pub legal-order-exactly : ((o : List ℕ) × Legal p o) ↔ (noOrder D p ≡ none)
+  legal-order-exactly = (λ l. to l (noOrder D p) refl, λ e. (handed p, accepted-is-legal e))
+    where
+      to : (o : List ℕ) × Legal p o → (x : Option Refusal) → noOrder D p ≡ x → noOrder D p ≡ none
+      to l none e = e
+      to l (some r) e = absurd (no-legal-order D p r (refused-exactly r e) (l .0) (l .1))
+
+  -- and so for the verdict's outcome, given room: an order exactly if a legal one exists
+  pub verdict-exactly : (lent : List ℕ) → length p ≤ length lent
+      → ((o : List ℕ) × Legal p o)
+      ↔ (judging D p lent ≡ record {
+        answer = VerdictAnswer.Held (heldAtEnd D p);
+        order =
+            over (map lineNumber (handed p)) lent;
+      })
+  unfolding judging firstRefusal tooShort refuseIf verdictBy
+  verdict-exactly lent room = (λ l. opened ∙ rw (legal-order-exactly .0 l), from)
+    where
+      opened : judging D p lent
+          ≡ verdictBy (firstRefusal (none ∷ none ∷ noOrder D p ∷ [])) (heldAtEnd D p) (map lineNumber (handed p)) lent
+      opened = rw (sound, le-ltb (length lent) (length p) room)
+
+      by : (x : Option Refusal) → noOrder D p ≡ x
+          → verdictBy (firstRefusal (none ∷ none ∷ x ∷ [])) (heldAtEnd D p) (map lineNumber (handed p)) lent
+          ≡ record { answer = VerdictAnswer.Held (heldAtEnd D p); order = over (map lineNumber (handed p)) lent }
+          → noOrder D p ≡ none
+      by none e h = e
+      by (some r) e h =
+          let z : VerdictAnswer.Refused r ≡ VerdictAnswer.Held (heldAtEnd D p) =
+          ap (λ (o : VerdictOutcome). o .answer) h in
+          let y : _≡_ {A = ℕ} 0 1 = cc in
+          absurd (omega arith)
+
+      from : judging D p lent
+          ≡ record { answer = VerdictAnswer.Held (heldAtEnd D p); order = over (map lineNumber (handed p)) lent }
+          → (o : List ℕ) × Legal p o
+      from h = legal-order-exactly .1 (by (noOrder D p) refl (sym opened ∙ h))

@@ -1,0 +1,1 @@
+// Theorems about the definitions of `model`; no code. They stand in proofs/.
