@@ -81,7 +81,7 @@ same-any f [] (m ∷ ms) e h = absurd (omega arith)
 same-any f (l ∷ ls) [] e h = absurd (omega arith)
 same-any f (l ∷ ls) (m ∷ ms) e h = rw (h 0, same-any f ls ms (omega arith) (λ k. h (suc k)))
 
-same-first : (j : ℕ) (p q : List ℕ) → Alike p q → firstLine j q ≡ firstLine j p
+pub same-first : (j : ℕ) (p q : List ℕ) → Alike p q → firstLine j q ≡ firstLine j p
 unfolding firstLine
 same-first j [] [] a = refl
 same-first j [] (m ∷ ms) a = absurd (omega (arith, a .long))
@@ -237,7 +237,7 @@ give-no-take l g = go (test (isTake l))
     go (inr t) = t
 
 -- open takes are takes
-open-are-takes : (p : List ℕ) (j k n t : ℕ) → getElem? (openTakes p j k) n ≡ some t → isTake (at p t) ≡ true
+pub open-are-takes : (p : List ℕ) (j k n t : ℕ) → getElem? (openTakes p j k) n ≡ some t → isTake (at p t) ≡ true
 unfolding openTakes
 open-are-takes p j zero n t h = no-some h
 open-are-takes p j (suc k) n t h =

@@ -36,7 +36,7 @@ follow-append p done (i ∷ x) y s t = (
 )
 
 -- after a line chosen: its mate ends the run, or nobody else still wants its device
-closes : (p done : List ℕ) (i d : ℕ) → takes p i d ≡ true
+pub closes : (p done : List ℕ) (i d : ℕ) → takes p i d ≡ true
     → (lastingAt p i ≡ false) ⊎ (alone p (undone p done) i ≡ true)
     → (mate p i ≡ some (lastOf p i)) ⊎ ((x : ℕ) → x < length p → has x done ≡ false → x ≢ i → takes p x d ≡ false)
 unfolding lastingAt takesAt isNone alone lastOf

@@ -19,6 +19,7 @@ pub mod OnlyIf
 pub mod Turns
 pub mod Progress
 pub mod Handed
+pub mod LineByLine
 pub mod Verdict
 pub mod Numbers
 pub mod Fields

@@ -3,7 +3,7 @@
 use Prim.Native.Nat.{ℕ, zero, suc, _+_, _<_, _≤_}
 use mathlib.Core.Bool.{Bool, true, false, cond, not, _||_}
 use mathlib.Core.List.{List, [], _∷_, _++_, map}
-use mathlib.Core.Logic.{_⊎_, inl, inr}
+use mathlib.Core.Logic.{_⊎_, inl, inr, _≢_}
 use mathlib.Core.Option.{Option, none, some, Option·some-injective}
 use mathlib.Core.Path.{_≡_, refl, sym, _∙_, ap, subst}
 use native.Mathlib.Omega.{arith}
@@ -277,7 +277,7 @@ least-answer key (x ∷ xs) = go (leastBy key xs) (least-answer key xs)
 
 -- ---- how many numbers below n do not pass
 
-pub left : (ℕ → Bool) → ℕ → ℕ
+unfoldable pub left : (ℕ → Bool) → ℕ → ℕ
 left f zero = 0
 left f (suc n) = cond (f n) (left f n) (suc (left f n))
 
@@ -338,6 +338,33 @@ left-all f (suc n) = go (f n) (left-all f n)
     go : (b : Bool) → left f n ≤ n → cond b (left f n) (suc (left f n)) ≤ suc n
     go true h = omega arith
     go false h = omega arith
+
+-- tests that agree leave as many
+pub left-same : (f g : ℕ → Bool) (n : ℕ) → ((k : ℕ) → k < n → f k ≡ g k) → left f n ≡ left g n
+unfolding left
+left-same f g zero h = refl
+left-same f g (suc n) h = rw (h n (omega arith), left-same f g n (λ k l. h k (omega arith)))
+
+-- where just one more passes, just one less is left
+pub left-one : (f g : ℕ → Bool) (i : ℕ) → f i ≡ false → g i ≡ true → ((k : ℕ) → k ≢ i → f k ≡ g k) → (n : ℕ) → i < n
+    → left f n ≡ suc (left g n)
+unfolding left
+left-one f g i a b h zero l = absurd (omega arith)
+left-one f g i a b h (suc n) l = go (test (eqb n i)) (left-one f g i a b h n)
+  where
+    step : (c d : Bool) → c ≡ d → left f n ≡ suc (left g n)
+        → cond c (left f n) (suc (left f n)) ≡ suc (cond d (left g n) (suc (left g n)))
+    step true true e ih = ih
+    step false false e ih = ap suc ih
+    step true false e ih = clash true refl e
+    step false true e ih = clash true refl (sym e)
+
+    go : (eqb n i ≡ true) ⊎ (eqb n i ≡ false) → (i < n → left f n ≡ suc (left g n))
+        → cond (f n) (left f n) (suc (left f n)) ≡ suc (cond (g n) (left g n) (suc (left g n)))
+    go (inl q) ih =
+        let z = eqb-true n i q in
+        rw (z, a, b) (ap suc (left-same f g i (λ k m. h k (λ y. omega arith))))
+    go (inr q) ih = let z = eqb-false n i q in step (f n) (g n) (h n z) (ih (omega (arith, z)))
 
 -- a list as a test
 abbrev pub among : List ℕ → ℕ → Bool

@@ -45,7 +45,7 @@ seen j l ls = go (eqb (job l) j) (isTake l) (isGive l) refl refl refl
     go true false true e f g =
         back (eqb-true (job l) j e) f g (λ a. rw (e, f, g, mateIn)) (λ d a. rw (e, f, g, mateIn))
 
-mate-below : (j d a : ℕ) (ls : List ℕ) (m : ℕ) → mateIn j d a ls ≡ some m → a ≤ m
+pub mate-below : (j d a : ℕ) (ls : List ℕ) (m : ℕ) → mateIn j d a ls ≡ some m → a ≤ m
 unfolding mateIn
 mate-below j d a [] m h = no-some h
 mate-below j d a (l ∷ ls) m h = go d h (seen j l ls) (λ e g. mate-below j e (suc a) ls m g)
@@ -329,7 +329,7 @@ unfolding isLast
 latest-of p [] d h = clash false h refl
 latest-of p (x ∷ xs) d h = (x, refl)
 
-mapped-has : (f : ℕ → ℕ) (xs : List ℕ) (n x : ℕ) → getElem? xs n ≡ some x → has (f x) (map f xs) ≡ true
+pub mapped-has : (f : ℕ → ℕ) (xs : List ℕ) (n x : ℕ) → getElem? xs n ≡ some x → has (f x) (map f xs) ≡ true
 mapped-has f [] n x h = no-some h
 mapped-has f (y ∷ ys) zero x h = rw (Option·some-injective y x h) (has-head (f x) (map f ys))
 mapped-has f (y ∷ ys) (suc n) x h = has-tail (f x) (f y) (map f ys) (mapped-has f ys n x h)
@@ -355,7 +355,7 @@ module _ (p : List ℕ) (rules : Rules p) where
   none-open j (suc i) f = open-foreign p j i (f i (omega arith)) ∙ none-open j i (λ k h. f k (omega arith))
 
   -- before a line of job j, a take that lies n deep has the mate that the search at that depth finds
-  open-mates : (i j n t : ℕ) → i < length p → job (at p i) ≡ j → getElem? (openTakes p j i) n ≡ some t
+  pub open-mates : (i j n t : ℕ) → i < length p → job (at p i) ≡ j → getElem? (openTakes p j i) n ≡ some t
       → mate p t ≡ mateIn j n i (drop i p)
   unfolding mate openTakes
   open-mates zero j n t h e o = no-some o
@@ -420,7 +420,7 @@ module _ (p : List ℕ) (rules : Rules p) where
       found (back e u v z q) = ap (mateIn (job (at p m)) 0 m) (drop-cons p m 0 inPlan) ∙ z m
 
   -- before a later line of its job, a take has its mate behind it, or is open there
-  mated-or-open : (n i k j : ℕ) → k ≡ suc i + n → k < length p → isTake (at p i) ≡ true → job (at p i) ≡ j
+  pub mated-or-open : (n i k j : ℕ) → k ≡ suc i + n → k < length p → isTake (at p i) ≡ true → job (at p i) ≡ j
       → job (at p k) ≡ j
       → ((m : ℕ) × (mate p i ≡ some m) × (m < k)) ⊎ ((o : ℕ) × (getElem? (openTakes p j k) o ≡ some i))
   mated-or-open zero i k j e h t a b =

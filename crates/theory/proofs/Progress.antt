@@ -52,7 +52,7 @@ has-standing p u i h =
     let r = has-those (λ i. not (any (λ k. precedes p k i) u)) u i h in
     (r .0, not-true (any (λ k. precedes p k i) u) (r .1))
 
-standing-has : (p u : List ℕ) (i : ℕ) → has i u ≡ true → any (λ k. precedes p k i) u ≡ false
+pub standing-has : (p u : List ℕ) (i : ℕ) → has i u ≡ true → any (λ k. precedes p k i) u ≡ false
     → has i (standing p u) ≡ true
 unfolding standing
 standing-has p u i h e = those-has (λ i. not (any (λ k. precedes p k i) u)) u i h (rw e)

@@ -7,14 +7,14 @@ use mathlib.Core.List.{List, [], _∷_, map}
 use mathlib.Core.Logic.{_⊎_, inl, inr}
 use mathlib.Core.Path.{_≡_, refl, sym, _∙_, ap}
 use mathlib.Core.Option.{some, Option·getD}
-use native.Mathlib.Nat.{zero-add, add-zero, zero-div, div-one, div-eq-of-lt, pow-suc}
+use native.Mathlib.Nat.{zero-add, add-zero, zero-div, div-one, div-eq-of-lt, lt-of-lt-of-le, pow-suc}
 use native.Mathlib.Numerals.{add-one}
 use native.Mathlib.Omega.{arith}
 use lib.Bits.{bitOr, or-shr, or-step, or-lt}
 use lib.Count.{ones, onesIn, ones-step, under, trailingZeros}
 use lib.Dec.{eqb}
 use lib.ListN.{length}
-use lib.Pow.{pow-add, pow-pos, pow-lt, shl-shr, shr-shr, shr-lt}
+use lib.Pow.{pow-add, pow-pos, pow-lt, pow-mono, shl-shr, shr-shr, shr-lt}
 use borrow.Author.Tests.{eqb-true, eqb-false, eq-eqb, ne-eqb}
 use Rattle.model.specs.Lists.{upFrom, has, those, firstOf}
 use Rattle.model.specs.Sets.{empty, only, union, unionOf, member}
@@ -110,6 +110,11 @@ only-below D d h = pow-lt h
 pub union-below : (D a b : ℕ) → a < 2 ^ D → b < 2 ^ D → union a b < 2 ^ D
 unfolding union
 union-below D a b h k = or-lt D a b h k
+
+-- past its devices a set has no member
+pub member-past : (D s d : ℕ) → s < 2 ^ D → D ≤ d → member s d ≡ false
+unfolding member
+member-past D s d h k = ap (λ (x : ℕ). eqb (x % 2) 1) (div-eq-of-lt (lt-of-lt-of-le h (pow-mono k)))
 
 -- a binary digit is 0 or 1
 by-digit : {P : Type 0} (n : ℕ) → (n % 2 ≡ 0 → P) → (n % 2 ≡ 1 → P) → P

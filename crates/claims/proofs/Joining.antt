@@ -1,0 +1,122 @@
+-- A line's claim set by the first lines of two jobs, its own and, for a start, the started one: what the code keeps in
+-- an array of one set a job. And the own claim, as the code works it out.
+use Prim.Native.Nat.{ℕ, suc, _≤_}
+use mathlib.Core.Bool.{Bool, true, false, cond}
+use mathlib.Core.List.{List, [], _∷_, _++_, map}
+use mathlib.Core.Logic.{inl, inr}
+use mathlib.Core.Path.{_≡_, refl, sym, _∙_, ap}
+use native.Mathlib.Omega.{arith}
+use lib.Bits.{or-zero-l, or-zero-r}
+use lib.Dec.{eqb}
+use lib.ListN.{getD, drop}
+use borrow.Author.Tests.{lt-ltb}
+use Rattle.model.specs.Sets.{empty, only, onlyOf, union, unionOf}
+use Rattle.model.specs.Line.{job, kind, operand, isTake, isStart, isLine, at, firstLine, maxJob}
+use Rattle.model.specs.Mate.{takesAt, deviceAt}
+use Rattle.model.specs.Claims.{successors, own, joined, beyond}
+use Rattle.theory.proofs.Line.{line-parts, device-line, Fits, ofDo, ofDevice, ofStart}
+
+-- ---- unions with the empty set
+
+pub union-none : (a : ℕ) → union a empty ≡ a
+unfolding union empty
+union-none a = or-zero-r a
+
+pub none-union : (a : ℕ) → union empty a ≡ a
+unfolding union empty
+none-union a = or-zero-l a
+
+-- ---- the first line of a job is at most one
+
+pub data AtMostOne : List ℕ → Type 0 where
+  no : AtMostOne []
+  one : (o : ℕ) → AtMostOne (o ∷ [])
+
+pub at-most-one : (j : ℕ) (ls : List ℕ) → AtMostOne (firstLine j ls)
+unfolding firstLine
+at-most-one j [] = no
+at-most-one j (l ∷ ls) = go (eqb (job l) j) (firstLine j ls) (at-most-one j ls)
+  where
+    go : (b : Bool) (xs : List ℕ) → AtMostOne xs → AtMostOne (elim b [ true ↦ 0 ∷ [] | false ↦ map suc xs ])
+    go true xs h = one 0
+    go false [] no = no
+    go false (x ∷ []) (one o) = one (suc o)
+
+-- the set of the first line of job j, among lines whose table is t; none where the job has no line there
+abbrev pub setOf : List ℕ → List ℕ → ℕ → ℕ
+setOf t ls j = joined t (firstLine j ls)
+
+joined-both : (t xs ys : List ℕ) → AtMostOne xs → joined t (xs ++ ys) ≡ union (joined t xs) (joined t ys)
+unfolding joined unionOf
+joined-both t [] ys no = sym (none-union (joined t ys))
+joined-both t (x ∷ []) ys (one o) =
+    ap (λ (s : ℕ). union s (joined t ys)) (sym (union-none (getD t o 0)))
+
+joined-if : (t xs : List ℕ) (b : Bool) → joined t (cond b xs []) ≡ cond b (joined t xs) empty
+unfolding joined unionOf
+joined-if t xs true = refl
+joined-if t xs false = refl
+
+-- what lies beyond a line is in these two sets
+pub beyond-is : (p t : List ℕ) (i : ℕ)
+    → beyond p t i
+    ≡ union (setOf (drop (suc i) t) (drop (suc i) p) (job (at p i)))
+    (cond (isStart (at p i)) (setOf (drop (suc i) t) (drop (suc i) p) (operand (at p i))) empty)
+unfolding beyond successors
+beyond-is p t i =
+    joined-both u (firstLine (job l) ls) (cond (isStart l) (firstLine (operand l) ls) []) (at-most-one (job l) ls)
+    ∙ ap (union (joined u (firstLine (job l) ls))) (joined-if u (firstLine (operand l) ls) (isStart l))
+  where
+    l : ℕ
+    l = at p i
+
+    ls : List ℕ
+    ls = drop (suc i) p
+
+    u : List ℕ
+    u = drop (suc i) t
+
+-- ---- the sets of first lines with one line more in front
+
+first-here : (l : ℕ) (ls : List ℕ) (j : ℕ) → eqb (job l) j ≡ true → firstLine j (l ∷ ls) ≡ 0 ∷ []
+unfolding firstLine
+first-here l ls j e = rw (e, firstLine)
+
+first-there : (l : ℕ) (ls : List ℕ) (j : ℕ) → eqb (job l) j ≡ false → firstLine j (l ∷ ls) ≡ map suc (firstLine j ls)
+unfolding firstLine
+first-there l ls j e = rw (e, firstLine)
+
+pub set-here : (v l : ℕ) (t ls : List ℕ) (j : ℕ) → eqb (job l) j ≡ true → setOf (v ∷ t) (l ∷ ls) j ≡ v
+unfolding joined unionOf
+set-here v l t ls j e = ap (joined (v ∷ t)) (first-here l ls j e) ∙ union-none v
+
+shifted : (v : ℕ) (t xs : List ℕ) → joined (v ∷ t) (map suc xs) ≡ joined t xs
+unfolding joined unionOf
+shifted v t [] = refl
+shifted v t (x ∷ xs) = ap (union (getD t x 0)) (shifted v t xs)
+
+pub set-there : (v l : ℕ) (t ls : List ℕ) (j : ℕ) → eqb (job l) j ≡ false → setOf (v ∷ t) (l ∷ ls) j ≡ setOf t ls j
+set-there v l t ls j e = ap (joined (v ∷ t)) (first-there l ls j e) ∙ shifted v t (firstLine j ls)
+
+-- ---- the own claim
+
+-- as the code works it out from the line alone
+pub own-is : (D : ℕ) (p : List ℕ) (i : ℕ) → isLine D (at p i) ≡ true
+    → cond (isTake (at p i)) (onlyOf D (operand (at p i))) empty ≡ own p i
+unfolding own takesAt deviceAt onlyOf
+own-is D p i h = go (isTake (at p i)) refl
+  where
+    go : (b : Bool) → isTake (at p i) ≡ b
+        → cond b (onlyOf D (operand (at p i))) empty ≡ cond b (only (operand (at p i))) empty
+    go false e = refl
+    go true e = rw (lt-ltb (operand (at p i)) D (device-line D (at p i) h (rw e)))
+
+-- a start names a job of the board
+pub start-job : (D l : ℕ) → isLine D l ≡ true → kind l ≡ 3 → operand l ≤ maxJob
+start-job D l h e = go (line-parts D l h .2)
+  where
+    go : Fits D (kind l) (operand l) → operand l ≤ maxJob
+    go (ofDo k b) = absurd (omega arith)
+    go (ofDevice (inl k) b) = absurd (omega arith)
+    go (ofDevice (inr k) b) = absurd (omega arith)
+    go (ofStart k b c) = c

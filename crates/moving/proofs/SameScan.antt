@@ -1,0 +1,34 @@
+-- The edited plan has the same first lines, starts and way as the plan: a scan of the plan serves the edited one.
+use Prim.Native.Nat.{ℕ, zero, suc}
+use mathlib.Core.Bool.{Bool}
+use mathlib.Core.List.{List, map}
+use mathlib.Core.Path.{_≡_, refl, _∙_, ap, fun-ext}
+use lib.ListN.{length}
+use Rattle.model.specs.Lists.{upFrom, positions, firstOf}
+use Rattle.model.specs.Line.{job, starts, at, maxJob}
+use Rattle.model.specs.Move.{wayIn, way}
+use Rattle.plan.specs.Jobs.{numberOfFirst, numberOfFound, firstLines, starters}
+use Rattle.theory.proofs.Edited.{Alike, same-first, same-starts}
+
+module _ (p q : List ℕ) (a : Alike p q) where
+  pub same-firsts : firstLines q ≡ firstLines p
+  unfolding firstLines
+  same-firsts =
+      ap (λ (f : ℕ → ℕ). map f (upFrom 0 (suc maxJob))) (fun-ext (λ j. ap numberOfFirst (same-first j p q a)))
+
+  pub same-starters : starters q ≡ starters p
+  unfolding starters positions
+  same-starters =
+      ap (λ (f : ℕ → ℕ). map f (upFrom 0 (suc maxJob)))
+      (fun-ext (λ j. ap numberOfFound
+      (ap (λ (n : ℕ). firstOf (λ i. starts (at q i) j) (upFrom 0 n)) (a .long)
+      ∙ ap (λ (f : ℕ → Bool). firstOf f (upFrom 0 (length p))) (fun-ext (λ i. same-starts p q a i j)))))
+
+  same-wayIn : (j n : ℕ) → wayIn q j n ≡ wayIn p j n
+  unfolding wayIn
+  same-wayIn j zero = refl
+  same-wayIn j (suc n) = cc (a .jobs n, same-starts p q a n j, same-wayIn j n, same-wayIn (job (at p n)) n)
+
+  pub same-way : (i : ℕ) → way q i ≡ way p i
+  unfolding way
+  same-way i = ap (λ (j : ℕ). wayIn q j (suc i)) (a .jobs i) ∙ same-wayIn (job (at p i)) (suc i)

@@ -1,0 +1,16 @@
+-- How tight the promise of `plan::scan` is (01, "How tight the statements are"): any two outcomes that satisfy it are
+-- equal. The answers of `plan::fault`, `plan::lines_fault` and `plan::mate` stand in their contracts as equations.
+use Prim.Native.Nat.{ℕ}
+use mathlib.Core.List.{List}
+use mathlib.Core.Path.{_≡_, sym, _∙_}
+use Rattle.plan.specs.declared.Checked.{Checked}
+use Rattle.plan.specs.Ends.{ScansAs}
+
+pub scan-one : (p first starter : List ℕ) (a b : Checked) (first₁ first₂ starter₁ starter₂ : List ℕ)
+    → ScansAs p first starter a first₁ starter₁ → ScansAs p first starter b first₂ starter₂
+    → (a ≡ b) × (first₁ ≡ first₂) × (starter₁ ≡ starter₂)
+scan-one p first starter a b first₁ first₂ starter₁ starter₂ x y = (
+  x .answers ∙ sym (y .answers),
+  x .firsts ∙ sym (y .firsts),
+  x .starts ∙ sym (y .starts),
+)

@@ -1,0 +1,52 @@
+-- `plan::ends` meets its contract: the tests pick the case of `endsBy`.
+use mathlib.Core.Path.{_≡_, sym, ap, ap₂, _∙_}
+use Prim.Native.Nat.{ℕ}
+use borrow.Author.Tests.{ne-eqb}
+use Rattle.plan.specs.Ends.{emptyFrom, neverFrom, endsBy, endsOf}
+use Rattle.plan.proofs.LastTests.{empty-ends, never-ends, all-ends}
+use borrow.Author.Needs.{needs}
+use Rattle.plan.proofs.ends.Statement.{statement}
+use Rattle.plan.proofs.ends.Tie as tie
+use Rattle.plan.proofs.ends.Reads as reads
+use Rattle.plan.proofs.ends.Lts as lts
+use Rattle.plan.proofs.empty_start.Reads as empty-start-reads
+use Rattle.plan.proofs.never_started.Reads as never-started-reads
+
+-- src/lib.rt:253:9
+empty-start-requires : tie.Need-empty-start-requires
+empty-start-requires c κs = search needs
+
+-- src/lib.rt:255:9
+returns : tie.Need-returns
+returns c =
+    let a = c .before .before .args in
+    empty-ends (a .first .now) (a .starter .now) (c .before .empty-start .result) (c .before .empty-start .ensures)
+    (c .if1 .taken)
+
+-- src/lib.rt:257:9
+never-started-requires : tie.Need-never-started-requires
+never-started-requires c κs = search needs
+
+-- src/lib.rt:259:9
+returns-2 : tie.Need-returns-2
+returns-2 c =
+    let a = c .before .before .before .before .args in
+    never-ends (a .first .now) (a .starter .now) (c .before .before .before .empty-start .result)
+    (c .before .never-started .result)
+    (c .before .before .before .empty-start .ensures) (c .before .never-started .ensures)
+    (c .before .before .if1 .left)
+    (c .if2 .taken)
+
+-- src/lib.rt:249:1
+returns-3 : tie.Need-returns-3
+returns-3 c =
+    let a = c .before .before .before .before .args in
+    all-ends (a .first .now) (a .starter .now) (c .before .before .before .empty-start .result)
+    (c .before .never-started .result)
+    (c .before .before .before .empty-start .ensures) (c .before .never-started .ensures)
+    (c .before .before .if1 .left)
+    (c .if2 .left)
+
+pub ends-spec : {M : Type 1} → statement M
+ends-spec =
+    tie.close (tie.spec empty-start-requires returns never-started-requires returns-2 returns-3)

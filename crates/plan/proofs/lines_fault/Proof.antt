@@ -1,0 +1,22 @@
+-- `plan::lines_fault` meets its contract: the walk finds the fault of the first line that has one.
+use Rattle.plan.proofs.Whole.{none-yet, answered, checked-is}
+use borrow.Author.Needs.{needs}
+use Rattle.plan.proofs.lines_fault.Statement.{statement}
+use Rattle.plan.proofs.lines_fault.Tie as tie
+use Rattle.plan.proofs.lines_fault.Reads as reads
+use Rattle.plan.proofs.lines_fault.Lts as lts
+use Rattle.plan.proofs.walk.Reads as walk-reads
+
+-- src/lib.rt:185:5
+walk-requires : tie.Need-walk-requires
+walk-requires c κs = search needs
+
+-- src/lib.rt:180:1
+returns : tie.Need-returns
+unfolding none-yet
+returns c =
+    checked-is 32 (c .before .before .before .before .args .plan .now) _ _ (c .walk .result) _
+    (answered 32 (c .before .before .before .before .args .plan .now) _ _ (c .walk .result) (c .walk .ensures .0))
+
+pub lines-fault-spec : {M : Type 1} → statement M
+lines-fault-spec = tie.close (tie.spec walk-requires returns)

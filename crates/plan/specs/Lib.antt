@@ -1,0 +1,5 @@
+-- What the contracts of `plan` cite beside `model`.
+pub mod Checked
+pub mod Jobs
+pub mod Walk
+pub mod Ends

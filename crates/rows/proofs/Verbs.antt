@@ -1,0 +1,53 @@
+-- A line's kind as the code reads it off a packed number (01, "Packed"), and what a line's kind says of its operand.
+use Prim.Native.Nat.{ℕ, _/_, _%_, _<_}
+use mathlib.Core.Bool.{true, false}
+use mathlib.Core.Logic.{inl, inr}
+use mathlib.Core.Path.{_≡_}
+use native.Mathlib.Omega.{arith}
+use borrow.Author.Tests.{eq-eqb, ne-eqb, eqb-true}
+use Rattle.model.specs.Line.{job, kind, operand, isTake, isGive, isStart, isLine}
+use Rattle.theory.proofs.Tests.{or-left}
+use Rattle.theory.proofs.Line.{Fits, ofDo, ofDevice, ofStart, line-parts, device-line}
+
+module _ (l : ℕ) where
+  pub takes-1 : l / 256 % 4 ≡ 1 → isTake l ≡ true
+  unfolding isTake
+  takes-1 h = eq-eqb (kind l) 1 h
+
+  pub takes-not : (l / 256 % 4 ≡ 1 → ⊥) → isTake l ≡ false
+  unfolding isTake
+  takes-not h = ne-eqb (kind l) 1 h
+
+  pub gives-2 : l / 256 % 4 ≡ 2 → isGive l ≡ true
+  unfolding isGive
+  gives-2 h = eq-eqb (kind l) 2 h
+
+  pub gives-not : (l / 256 % 4 ≡ 2 → ⊥) → isGive l ≡ false
+  unfolding isGive
+  gives-not h = ne-eqb (kind l) 2 h
+
+  pub starts-3 : l / 256 % 4 ≡ 3 → isStart l ≡ true
+  unfolding isStart
+  starts-3 h = eq-eqb (kind l) 3 h
+
+  pub starts-not : (l / 256 % 4 ≡ 3 → ⊥) → isStart l ≡ false
+  unfolding isStart
+  starts-not h = ne-eqb (kind l) 3 h
+
+-- the job of a line, and the job that it starts, are one of the 64
+pub job-small : (D l : ℕ) → isLine D l ≡ true → job l < 65
+job-small D l h = omega (arith, line-parts D l h .1)
+
+pub started-small : (D l : ℕ) → isLine D l ≡ true → isStart l ≡ true → operand l < 65
+unfolding isStart
+started-small D l h s = go (eqb-true (kind l) 3 s) (line-parts D l h .2)
+  where
+    go : kind l ≡ 3 → Fits D (kind l) (operand l) → operand l < 65
+    go e (ofStart k a b) = omega arith
+    go e (ofDo k a) = absurd (omega arith)
+    go e (ofDevice (inl k) a) = absurd (omega arith)
+    go e (ofDevice (inr k) a) = absurd (omega arith)
+
+-- the device of a take is on the board
+pub taken-small : (D l : ℕ) → isLine D l ≡ true → isTake l ≡ true → operand l < D
+taken-small D l h t = device-line D l h (or-left (isTake l) (isGive l) t)

@@ -1,0 +1,131 @@
+-- Sets of devices by a test, over the number of devices D: their members, and that nothing else has these members. The
+-- circles are the devices that lead back to themselves (01, "Claims and rows").
+use Prim.Native.Nat.{ℕ, zero, suc, _+_, _-_, _^_, _<_, _≤_}
+use mathlib.Core.Bool.{Bool, true, false}
+use mathlib.Core.List.{List, [], _∷_, map}
+use mathlib.Core.Logic.{_⊎_, inl, inr}
+use mathlib.Core.Option.{Option, some}
+use mathlib.Core.Path.{_≡_, refl, sym, _∙_, ap}
+use native.Mathlib.Omega.{arith}
+use lib.ListN.{length}
+use borrow.Author.Tests.{eqb-true, eq-eqb}
+use Rattle.model.specs.Lists.{upFrom, has, those, firstOf}
+use Rattle.model.specs.Sets.{empty, union, unionOf, member}
+use Rattle.model.specs.Rows.{leadsBack}
+use Rattle.theory.proofs.Tests.{clash, test}
+use Rattle.theory.proofs.Lists.{has-head, has-tail, has-upFrom, upFrom-has, those-same}
+use Rattle.theory.proofs.Sets.{member-empty, member-only, in-unionOf, unionOf-in, empty-below, only-below, union-below}
+use Rattle.theory.proofs.Sets.{same-members}
+use Rattle.rows.specs.Where.{onlyIf, devicesWhere, circlesOf}
+
+-- a device is in the set of one where the test passes and it is that one
+in-one : (b : Bool) (d e : ℕ) → member (onlyIf b d) e ≡ true → (b ≡ true) × (d ≡ e)
+unfolding onlyIf
+in-one true d e m = (refl, eqb-true d e (sym (member-only d e) ∙ m))
+in-one false d e m = clash (member empty e) m (member-empty e)
+
+-- a test of every number gives its set
+module _ (f : ℕ → Bool) where
+  ones : ℕ → ℕ
+  ones d = onlyIf (f d) d
+
+  in-ones : (a n d : ℕ) → member (unionOf (map ones (upFrom a n))) d ≡ true → f d ≡ true
+  unfolding ones
+  in-ones a n d m =
+      let r = in-unionOf ones (upFrom a n) d m in
+      let s = in-one (f (r .0)) (r .0) d (r .2) in ap f (sym (s .1)) ∙ s .0
+
+  ones-below : (D a n : ℕ) → a + n ≤ D → unionOf (map ones (upFrom a n)) < 2 ^ D
+  unfolding unionOf upFrom ones onlyIf
+  ones-below D a zero h = empty-below D
+  ones-below D a (suc n) h =
+      union-below D (ones a) (unionOf (map ones (upFrom (suc a) n))) (one (f a))
+      (ones-below D (suc a) n (omega arith))
+    where
+      one : (b : Bool) → onlyIf b a < 2 ^ D
+      one true = only-below D a (omega arith)
+      one false = empty-below D
+
+  -- the members are those that pass
+  pub member-where : (D d : ℕ) → d < D → member (devicesWhere D f) d ≡ f d
+  unfolding devicesWhere ones onlyIf
+  member-where D d h = go (f d) refl (test (member (devicesWhere D f) d))
+    where
+      go : (b : Bool) → f d ≡ b → (member (devicesWhere D f) d ≡ true) ⊎ (member (devicesWhere D f) d ≡ false)
+          → member (devicesWhere D f) d ≡ f d
+      go b e (inl m) = m ∙ sym (in-ones 0 D d m)
+      go true e (inr m) =
+          clash (member (devicesWhere D f) d)
+          (unionOf-in ones (upFrom 0 D) d d (upFrom-has 0 D d (omega arith) (omega arith))
+          (rw e (member-only d d ∙ eq-eqb d d refl))) m
+      go false e (inr m) = m ∙ sym e
+
+  pub where-below : (D : ℕ) → devicesWhere D f < 2 ^ D
+  unfolding devicesWhere ones
+  where-below D = ones-below D 0 D (omega arith)
+
+  -- a set with these members is this set
+  pub is-where : (D s : ℕ) → s < 2 ^ D → ((d : ℕ) → d < D → member s d ≡ f d) → s ≡ devicesWhere D f
+  is-where D s h m = same-members D s (devicesWhere D f) h (where-below D) (λ d k. m d k ∙ sym (member-where D d k))
+
+-- tests that agree on the devices have one set
+pub where-same : (D : ℕ) (f g : ℕ → Bool) → ((d : ℕ) → d < D → f d ≡ g d) → devicesWhere D f ≡ devicesWhere D g
+where-same D f g h = is-where g D (devicesWhere D f) (where-below f D) (λ d k. member-where f D d k ∙ h d k)
+
+-- The circles: their members are the devices that lead back, and none is past the board.
+pub member-circles : (rs : List ℕ) (d : ℕ) → d < length rs → member (circlesOf rs) d ≡ leadsBack rs d
+unfolding circlesOf
+member-circles rs d h = member-where (leadsBack rs) (length rs) d h
+
+pub circles-below : (rs : List ℕ) → circlesOf rs < 2 ^ length rs
+unfolding circlesOf
+circles-below rs = where-below (leadsBack rs) (length rs)
+
+-- A search of the set finds what a search of the test finds, and the same are counted.
+
+first-same : (f g : ℕ → Bool) (xs : List ℕ) → ((k : ℕ) → has k xs ≡ true → f k ≡ g k) → firstOf f xs ≡ firstOf g xs
+unfolding firstOf
+first-same f g [] h = refl
+first-same f g (x ∷ xs) h =
+    go (f x) (g x) (h x (has-head x xs)) (first-same f g xs (λ k m. h k (has-tail k x xs m)))
+  where
+    go : (a b : Bool) → a ≡ b → firstOf f xs ≡ firstOf g xs
+        → _≡_ {A = Option ℕ} (elim a [ true ↦ some x | false ↦ firstOf f xs ])
+        (elim b [ true ↦ some x | false ↦ firstOf g xs ])
+    go true true e ih = refl
+    go false false e ih = ih
+    go true false e ih = clash true refl e
+    go false true e ih = clash true refl (sym e)
+
+module _ (D : ℕ) (f : ℕ → Bool) where
+  member-listed : (d : ℕ) → has d (upFrom 0 D) ≡ true → member (devicesWhere D f) d ≡ f d
+  member-listed d h = member-where f D d (omega (arith, has-upFrom 0 D d h .1))
+
+  pub where-first : firstOf (member (devicesWhere D f)) (upFrom 0 D) ≡ firstOf f (upFrom 0 D)
+  where-first = first-same (member (devicesWhere D f)) f (upFrom 0 D) member-listed
+
+  pub where-those : those (member (devicesWhere D f)) (upFrom 0 D) ≡ those f (upFrom 0 D)
+  where-those = those-same (member (devicesWhere D f)) f (upFrom 0 D) member-listed
+
+-- The set made from its last device on: `s` has what passes from device d on.
+
+pub where-begins : (D d : ℕ) (f : ℕ → Bool) → D ≤ d → empty ≡ unionOf (map (λ e. onlyIf (f e) e) (upFrom d (D - d)))
+unfolding unionOf upFrom
+where-begins D d f h = let z : D - d ≡ 0 = omega arith in rw z
+
+pub where-grows : (D d : ℕ) (f : ℕ → Bool) (s : ℕ) → 0 < d → d ≤ D
+    → s ≡ unionOf (map (λ e. onlyIf (f e) e) (upFrom d (D - d)))
+    → union (onlyIf (f (d - 1)) (d - 1)) s
+    ≡ unionOf (map (λ e. onlyIf (f e) e) (upFrom (d - 1) (D - (d - 1))))
+unfolding unionOf upFrom
+where-grows D d f s h k e =
+    let z : D - (d - 1) ≡ suc (D - d) = omega arith in
+    let y : suc (d - 1) ≡ d = omega arith in
+    rw (z, y) (ap (union (onlyIf (f (d - 1)) (d - 1))) e)
+
+pub where-whole : (D d : ℕ) (f : ℕ → Bool) (s : ℕ) → d ≤ 0
+    → s ≡ unionOf (map (λ e. onlyIf (f e) e) (upFrom d (D - d))) → s ≡ devicesWhere D f
+unfolding devicesWhere
+where-whole D d f s h e =
+    let z : d ≡ 0 = omega arith in
+    let y : D - d ≡ D = omega arith in rw (y, z) at e

@@ -1,0 +1,73 @@
+-- The lasting takes of a plan (01, "Rules of a well-formed plan" and "Claims and rows"): a flag for each line, the set
+-- of the devices held to the end and the set of those with two lasting takes. Below them the steps of the walk back.
+use Prim.Native.Nat.{ℕ, suc, _-_}
+use mathlib.Core.Bool.{cond, _&&_}
+use mathlib.Core.List.{List, map}
+use lib.Dec.{eqb, leb}
+use lib.ListN.{length, getD, set}
+use Rattle.model.specs.Board.{devices}
+use Rattle.model.specs.Lists.{upFrom, positions, any}
+use Rattle.model.specs.Line.{job, operand, isTake, isGive, isStart, maxLines}
+use Rattle.model.specs.Mate.{lastingAt, lasting}
+use Rattle.model.specs.Sets.{empty, onlyOf, union}
+use Rattle.model.specs.Rows.{lastingTakes}
+use Rattle.rows.specs.Where.{devicesWhere}
+
+-- 1 at a lasting take, else 0; past the plan 0
+unfoldable pub lastingFlag : List ℕ → ℕ → ℕ
+unfolding lastingAt
+lastingFlag p i = cond (lastingAt p i) 1 0
+
+unfoldable pub lastingFlags : List ℕ → List ℕ
+unfolding lastingFlag upFrom
+lastingFlags p = map (lastingFlag p) (upFrom 0 maxLines)
+
+-- the devices with a lasting take
+unfoldable pub heldToEnd : ℕ → List ℕ → ℕ
+unfolding devicesWhere any lasting positions
+heldToEnd D p = devicesWhere D (λ d. any (λ i. lasting p i d) (positions p))
+
+-- the devices with two lasting takes
+unfoldable pub heldTwice : ℕ → List ℕ → ℕ
+unfolding devicesWhere lastingTakes
+heldTwice D p = devicesWhere D (λ d. leb 2 (length (lastingTakes p d)))
+
+-- Going back, the gives of a job that still want their takes are counted. What is wanted before a line, where so much
+-- is wanted after it: a take serves one, a give is one more.
+unfoldable pub wantedBefore : ℕ → ℕ → ℕ
+unfolding isTake isGive
+wantedBefore l after = cond (isTake l) (after - 1) (cond (isGive l) (suc after) after)
+
+-- what is wanted after a line, with so much wanted from the next line on, which is of job j: another job wants nothing
+unfoldable pub wantedAfter : ℕ → ℕ → ℕ → ℕ
+unfolding job
+wantedAfter l j wanted = cond (eqb (job l) j) wanted 0
+
+-- a take that serves no give lasts
+unfoldable pub lastsFlag : ℕ → ℕ → ℕ
+unfolding isTake
+lastsFlag l after = cond (isTake l && eqb after 0) 1 0
+
+-- the set of the device of a line, where its flag is 1
+unfoldable pub flaggedDevice : ℕ → ℕ → ℕ
+unfolding onlyOf operand empty
+flaggedDevice l flag = cond (eqb flag 1) (onlyOf devices (operand l)) empty
+
+-- the rows with what lies beyond a line joined to the row of its device, where its flag is 1
+unfoldable pub rowJoined : ℕ → ℕ → ℕ → List ℕ → List ℕ
+unfolding operand union
+rowJoined l flag next rows =
+    cond (eqb flag 1) (set rows (operand l) (union next (getD rows (operand l) 0))) rows
+
+-- a line's own claim, and its claim set: with what its job claims after it and, at a start, what the started job claims
+unfoldable pub ownOf : ℕ → ℕ
+unfolding isTake onlyOf operand empty
+ownOf l = cond (isTake l) (onlyOf devices (operand l)) empty
+
+unfoldable pub startedOf : ℕ → List ℕ → ℕ
+unfolding isStart operand empty
+startedOf l sets = cond (isStart l) (getD sets (operand l) 0) empty
+
+unfoldable pub claimOf : ℕ → ℕ → List ℕ → ℕ
+unfolding ownOf startedOf union
+claimOf l next sets = union (ownOf l) (union next (startedOf l sets))

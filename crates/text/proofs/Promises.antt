@@ -1,0 +1,129 @@
+-- 01, "The plan as text": the round trips, and the reader's answer that comes again, as promises about what the entries
+-- answer and leave: a text that was read and is written again is the same text, a plan that was written and is read
+-- again the same plan.
+use Prim.Native.Nat.{ℕ, _≤_}
+use mathlib.Core.List.{List, [], _∷_}
+use mathlib.Core.Option.{Option, none, some}
+use mathlib.Core.Path.{_≡_, refl, sym, _∙_, ap, subst}
+use native.Mathlib.Omega.{arith}
+use lib.Dec.{lit≤}
+use lib.ListN.{length, take, drop}
+use lib.Seq.{take-append-seam}
+use Rattle.model.specs.Lists.{over}
+use Rattle.model.specs.Answers.{firstRefusal, tooShort}
+use Rattle.model.specs.Board.{devices}
+use Rattle.model.specs.Text.{spelt, textOf, nextLine, cursorAfter}
+use Rattle.model.specs.WellFormed.{fault}
+use Rattle.model.specs.Entries.{textFault, readBy, reading, writeBy, writing}
+use Rattle.model.specs.declared.Refusal.{Refusal}
+use Rattle.model.specs.declared.Cursor.{Cursor}
+use Rattle.model.specs.declared.LineAnswer.{LineAnswer}
+use Rattle.model.specs.declared.ReadAnswer.{ReadAnswer}
+use Rattle.model.specs.declared.WriteAnswer.{WriteAnswer}
+use Rattle.theory.proofs.Text.{reading-written, writing-read}
+use Rattle.theory.proofs.Reader as reader
+use Rattle.theory.proofs.Reader.{NoLine}
+use Rattle.text.specs.Promises.{ReadsAs, WritesAs}
+use Rattle.text.proofs.Tight.{one-read, one-written, reads-as, writes-as}
+use Rattle.text.proofs.Outcomes.{reading-is, writing-is}
+
+-- the first of two tests did not refuse, where neither did
+first-passed : (a b : Option Refusal) → firstRefusal (a ∷ b ∷ []) ≡ none → a ≡ none
+unfolding firstRefusal
+first-passed none b e = refl
+first-passed (some r) b e = e
+
+-- what was written to the front of a list is its front
+front-of : (new old : List ℕ) → take (length new) (over new old) ≡ new
+unfolding over
+front-of new old = take-append-seam new (drop (length new) old)
+
+-- ---- a success tells that nothing refused
+
+read-fine : (o : Option Refusal) (plan lent : List ℕ) (n : ℕ) → ReadAnswer.Lines n ≡ readBy o plan lent .answer
+    → (o ≡ none) × (n ≡ length plan) × (readBy o plan lent .plan ≡ over plan lent)
+unfolding readBy
+read-fine none plan lent n e = let q : n ≡ length plan = cc in (refl, q, refl)
+read-fine (some r) plan lent n e = let z : _≡_ {A = ℕ} 0 1 = cc in absurd (omega arith)
+
+write-fine : (o : Option Refusal) (text lent : List ℕ) (m : ℕ) → WriteAnswer.Bytes m ≡ writeBy o text lent .answer
+    → (o ≡ none) × (m ≡ length text) × (writeBy o text lent .text ≡ over text lent)
+unfolding writeBy
+write-fine none text lent m e = let q : m ≡ length text = cc in (refl, q, refl)
+write-fine (some r) text lent m e = let z : _≡_ {A = ℕ} 0 1 = cc in absurd (omega arith)
+
+-- an outcome that satisfies the promise is the outcome of `model`
+read-is : (text lent : List ℕ) (a : ReadAnswer) (left : List ℕ) → ReadsAs text lent a left
+    → (a ≡ reading devices text lent .answer) × (left ≡ reading devices text lent .plan)
+read-is text lent a left r =
+    let o = reading devices text lent in
+    one-read text lent a (o .answer) left (o .plan) r (reads-as text lent (o .answer) (o .plan) refl refl)
+
+write-is : (plan lent : List ℕ) (a : WriteAnswer) (left : List ℕ) → WritesAs plan lent a left
+    → (a ≡ writing devices plan lent .answer) × (left ≡ writing devices plan lent .text)
+write-is plan lent a left r =
+    let o = writing devices plan lent in
+    one-written plan lent a (o .answer) left (o .text) r (writes-as plan lent (o .answer) (o .text) refl refl)
+
+-- a text that was read has no fault, and the plan that it spells stands in front
+was-read : (text lent : List ℕ) (n : ℕ) (left : List ℕ) → ReadsAs text lent (ReadAnswer.Lines n) left
+    → (textFault devices text ≡ none) × (take n left ≡ spelt devices text)
+was-read text lent n left r =
+    let p : List ℕ = spelt devices text in
+    let t : Option Refusal = tooShort (length lent) (length p) in
+    let o : Option Refusal = firstRefusal (textFault devices text ∷ t ∷ []) in
+    let u = read-is text lent (ReadAnswer.Lines n) left r in
+    let f = read-fine o p lent n (rw (reading-is text lent) at (u .0)) in (
+      first-passed (textFault devices text) t (f .0),
+      rw (u .1, reading-is text lent, f .2, f .1) (front-of p lent),
+    )
+
+was-written : (plan lent : List ℕ) (m : ℕ) (left : List ℕ) → WritesAs plan lent (WriteAnswer.Bytes m) left
+    → (fault devices plan ≡ none) × (take m left ≡ textOf plan)
+was-written plan lent m left r =
+    let s : List ℕ = textOf plan in
+    let t : Option Refusal = tooShort (length lent) (length s) in
+    let o : Option Refusal = firstRefusal (fault devices plan ∷ t ∷ []) in
+    let u = write-is plan lent (WriteAnswer.Bytes m) left r in
+    let f = write-fine o s lent m (rw (writing-is plan lent) at (u .0)) in (
+      first-passed (fault devices plan) t (f .0),
+      rw (u .1, writing-is plan lent, f .2, f .1) (front-of s lent),
+    )
+
+-- ---- the round trips
+
+-- What was read, written again from the entries that reading wrote, is the text, byte for byte.
+pub read-then-written : (text lent left : List ℕ) (n : ℕ) → ReadsAs text lent (ReadAnswer.Lines n) left
+    → (buffer : List ℕ) → length text ≤ length buffer → (answer : WriteAnswer) (written : List ℕ)
+    → WritesAs (take n left) buffer answer written
+    → (answer ≡ WriteAnswer.Bytes (length text)) × (written ≡ over text buffer)
+read-then-written text lent left n r buffer h answer written w =
+    let q = was-read text lent n left r in
+    let u = write-is (take n left) buffer answer written w in
+    let e =
+    ap (λ (p : List ℕ). writing devices p buffer) (q .1)
+    ∙ writing-read devices (lit≤ tt) text (q .0) buffer h in
+    (u .0 ∙ rw e, u .1 ∙ rw e)
+
+-- What was written, read again from the bytes that writing wrote, is the plan, number for number.
+pub written-then-read : (plan lent left : List ℕ) (m : ℕ) → WritesAs plan lent (WriteAnswer.Bytes m) left
+    → (list : List ℕ) → length plan ≤ length list → (answer : ReadAnswer) (taken : List ℕ)
+    → ReadsAs (take m left) list answer taken
+    → (answer ≡ ReadAnswer.Lines (length plan)) × (taken ≡ over plan list)
+written-then-read plan lent left m r list h answer taken w =
+    let q = was-written plan lent m left r in
+    let u = read-is (take m left) list answer taken w in
+    let e =
+    ap (λ (s : List ℕ). reading devices s list) (q .1)
+    ∙ reading-written devices (lit≤ tt) plan (q .0) list h in
+    (u .0 ∙ rw e, u .1 ∙ rw e)
+
+-- ---- the line reader
+
+-- After a refusal or the end the same answer comes again.
+pub same-again : (text : List ℕ) (c : Cursor) (a b : LineAnswer) → a ≡ nextLine devices text c → NoLine a
+    → b ≡ nextLine devices text (cursorAfter c a) → b ≡ a
+same-again text c a b e h f =
+    f
+    ∙ (ap (λ (x : LineAnswer). nextLine devices text (cursorAfter c x)) e
+    ∙ (reader.same-again devices text c (subst NoLine e h) ∙ sym e))

@@ -1,0 +1,38 @@
+-- What the entries of this crate promise leaves one outcome per input (01, "How tight the statements are"): any two
+-- outcomes that satisfy it are equal, in the answer and in the lent list. And the outcome of `model` satisfies it.
+use Prim.Native.Nat.{ℕ}
+use mathlib.Core.List.{List}
+use mathlib.Core.Path.{_≡_}
+use borrow.Author.Needs.{needs}
+use Rattle.model.specs.Board.{devices}
+use Rattle.model.specs.Text.{nextLine}
+use Rattle.model.specs.Entries.{reading, writing}
+use Rattle.model.specs.declared.Cursor.{Cursor}
+use Rattle.model.specs.declared.LineAnswer.{LineAnswer}
+use Rattle.model.specs.declared.ReadAnswer.{ReadAnswer}
+use Rattle.model.specs.declared.WriteAnswer.{WriteAnswer}
+use Rattle.text.specs.Promises.{ReadsAs, WritesAs}
+
+-- ---- one outcome
+
+pub one-line : (text : List ℕ) (c : Cursor) (a b : LineAnswer) → a ≡ nextLine devices text c
+    → b ≡ nextLine devices text c → a ≡ b
+one-line text c a b x y = cc
+
+pub one-read : (text lent : List ℕ) (a b : ReadAnswer) (l m : List ℕ) → ReadsAs text lent a l → ReadsAs text lent b m
+    → (a ≡ b) × (l ≡ m)
+one-read text lent a b l m x y = (cc, cc)
+
+pub one-written : (plan lent : List ℕ) (a b : WriteAnswer) (l m : List ℕ) → WritesAs plan lent a l
+    → WritesAs plan lent b m → (a ≡ b) × (l ≡ m)
+one-written plan lent a b l m x y = (cc, cc)
+
+-- ---- an outcome
+
+pub reads-as : (text lent : List ℕ) (a : ReadAnswer) (l : List ℕ) → a ≡ reading devices text lent .answer
+    → l ≡ reading devices text lent .plan → ReadsAs text lent a l
+reads-as text lent a l x y = search needs
+
+pub writes-as : (plan lent : List ℕ) (a : WriteAnswer) (l : List ℕ) → a ≡ writing devices plan lent .answer
+    → l ≡ writing devices plan lent .text → WritesAs plan lent a l
+writes-as plan lent a l x y = search needs

@@ -1,0 +1,413 @@
+// Reading and writing plans as text (01, "The plan as text"; "Refusal numbers" as far as it is on reading and writing):
+// the line reader, a text into packed numbers, and packed numbers into text.
+use model::Cursor;
+use model::LineAnswer;
+use model::ReadAnswer;
+use model::Refusal;
+use model::WriteAnswer;
+use plan::Checked;
+ghost use Prim.Native.Nat.{_+_, _/_, _≤_, _<_};
+ghost use mathlib.Core.List.{[], _∷_};
+ghost use mathlib.Core.Option.{none};
+ghost use mathlib.Core.Path.{_≡_};
+ghost use lib.ListN.{length, drop};
+ghost use Rattle.model.specs.Board.{devices};
+ghost use Rattle.model.specs.Line.{isStep};
+ghost use Rattle.model.specs.Lists.{over};
+ghost use Rattle.model.specs.Text.{decimal, verb, lineText, textOf, nextLine};
+ghost use Rattle.model.specs.WellFormed.{fault};
+ghost use Rattle.text.specs.Promises.{ReadsAs, WritesAs};
+ghost use Rattle.text.specs.Scan.{endedAt, digitsAt, fieldAt, wordAt, verbAt, lineAt, handedAt};
+ghost use Rattle.text.specs.Gathered.{GathersAs};
+ghost use Rattle.text.specs.Made.{Puts};
+
+// ---- one line, from left to right
+
+// A number that a field spells, with the place past the byte that ends the field.
+enum Field {
+    Number(u32, usize),
+    Wrong,
+}
+
+// The kind of a verb, with the place past the tab that ends it.
+enum Verb {
+    Kind(u32, usize),
+    Wrong,
+}
+
+// A line's packed number, with the place past its newline.
+enum Spelt {
+    Line(u32, usize),
+    Malformed,
+}
+
+// The number v, if the byte that ends its field stands at the place.
+fn ended(text: &[u8], at: usize, end: u8, v: u32) -> Field
+    ensures { λ r. ⌜ r ≡ endedAt end v at (drop at (now (text .entry))) ⌝ }
+{
+    if text.len() <= at {
+        return Field::Wrong;
+    }
+    let b = text[at];
+    if b == end {
+        return Field::Number(v, at + 1);
+    }
+    Field::Wrong
+}
+
+// The number of the digits from the place on, up to the byte that ends the field; a value over 255 is no line's.
+fn digits(text: &[u8], from: usize, end: u8) -> Field
+    ensures { λ r. ⌜ r ≡ digitsAt end 0 from (drop from (now (text .entry))) ⌝ }
+{
+    let mut v: u32 = 0;
+    let mut i = from;
+    while i < text.len() {
+        let b = text[i];
+        if b < 48 {
+            return ended(text, i, end, v);
+        }
+        if 57 < b {
+            return ended(text, i, end, v);
+        }
+        let w = v * 10 + (b - 48) as u32;
+        if 255 < w {
+            return Field::Wrong;
+        }
+        v = w;
+        i += 1;
+    }
+    Field::Wrong
+}
+
+// The decimal field at the place: nought alone, or digits that do not begin with it.
+fn field_at(text: &[u8], from: usize, end: u8) -> Field
+    ensures { λ r. ⌜ r ≡ fieldAt end from (drop from (now (text .entry))) ⌝ }
+{
+    if text.len() <= from {
+        return Field::Wrong;
+    }
+    let b = text[from];
+    if b == 48 {
+        return ended(text, from + 1, end, 0);
+    }
+    if b < 48 {
+        return Field::Wrong;
+    }
+    if 57 < b {
+        return Field::Wrong;
+    }
+    digits(text, from, end)
+}
+
+// Is the field at the place, which a tab ends, this word?
+fn is_word(text: &[u8], at: usize, word: &[u8]) -> bool
+    ensures { λ r. ⌜ r ≡ wordAt (now (word .entry)) (drop at (now (text .entry))) ⌝ }
+{
+    if text.len() <= at {
+        return false;
+    }
+    if text.len() - at <= word.len() {
+        return false;
+    }
+    let mut i = 0;
+    while i < word.len() {
+        if text[at + i] != word[i] {
+            return false;
+        }
+        i += 1;
+    }
+    text[at + i] == 9
+}
+
+// The verb at the place, matched byte for byte.
+fn verb_at(text: &[u8], at: usize) -> Verb
+    ensures { λ r. ⌜ r ≡ verbAt at (drop at (now (text .entry))) ⌝ }
+{
+    if is_word(text, at, b"do") {
+        return Verb::Kind(0, at + 3);
+    }
+    if is_word(text, at, b"take") {
+        return Verb::Kind(1, at + 5);
+    }
+    if is_word(text, at, b"give") {
+        return Verb::Kind(2, at + 5);
+    }
+    if is_word(text, at, b"start") {
+        return Verb::Kind(3, at + 6);
+    }
+    Verb::Wrong
+}
+
+// Are job, kind and operand those of a line?
+fn is_step(j: u32, k: u32, o: u32) -> bool
+    requires { ⌜ (k < 4) × (o ≤ 255) ⌝ }
+    ensures { λ r. ⌜ r ≡ isStep devices j k o ⌝ }
+{
+    if j < 1 {
+        return false;
+    }
+    if 64 < j {
+        return false;
+    }
+    if k == 0 {
+        return true;
+    }
+    if k == 3 {
+        if o < 2 {
+            return false;
+        }
+        return o <= 64;
+    }
+    o < 32
+}
+
+// The line at the place: job, verb and operand, parted by one tab each, ended by a newline.
+fn line_at(text: &[u8], from: usize) -> Spelt
+    ensures { λ r. ⌜ r ≡ lineAt devices (now (text .entry)) from ⌝ }
+{
+    let Field::Number(j, a) = field_at(text, from, 9) else {
+        return Spelt::Malformed;
+    };
+    let Verb::Kind(k, b) = verb_at(text, a) else {
+        return Spelt::Malformed;
+    };
+    let Field::Number(o, e) = field_at(text, b, 10) else {
+        return Spelt::Malformed;
+    };
+    if is_step(j, k, o) {
+        return Spelt::Line(j * 1024 + k * 256 + o, e);
+    }
+    Spelt::Malformed
+}
+
+// What the reader hands out at a place, after some lines.
+fn handed(text: &[u8], offset: usize, lines: usize) -> LineAnswer
+    ensures { λ r. ⌜ r ≡ handedAt devices (now (text .entry)) offset lines ⌝ }
+{
+    if text.len() <= offset {
+        return LineAnswer::End;
+    }
+    if 1024 <= lines {
+        return LineAnswer::Refused(Refusal::TooManyLines);
+    }
+    match line_at(text, offset) {
+        Spelt::Line(n, next) => {
+            return LineAnswer::Line(
+                n,
+                Cursor {
+                    offset: next,
+                    lines: lines + 1,
+                },
+            );
+        }
+        Spelt::Malformed => {
+            return LineAnswer::Refused(Refusal::Malformed((lines + 1) as u32));
+        }
+    }
+}
+
+// The line at the cursor, with the cursor past it; a refusal with its place; or the end.
+pub fn next_line(text: &[u8], c: Cursor) -> LineAnswer
+    ensures { λ r. ⌜ r ≡ nextLine devices (now (text .entry)) c ⌝ }
+{
+    if 12288 < text.len() {
+        return LineAnswer::Refused(Refusal::TextTooLong);
+    }
+    let offset = c.offset;
+    let lines = c.lines;
+    handed(text, offset, lines)
+}
+
+// ---- the whole text
+
+// How many lines were handed out, and the refusal that came after them, if not the end.
+enum Gathered {
+    All(usize),
+    Stopped(usize, Refusal),
+}
+
+// The lines of a text, one after another, until the end or a refusal.
+fn gather(text: &[u8], lines: &mut [u32; 1024]) -> Gathered
+    requires { ⌜ length (now lines) ≡ 1024 ⌝ }
+    ensures { λ r. ⌜ GathersAs devices (now (text .entry)) r (now (lines .exit)) ⌝ }
+{
+    let mut offset: usize = 0;
+    let mut n: usize = 0;
+    loop {
+        match handed(text, offset, n) {
+            LineAnswer::Line(l, next) => {
+                lines[n] = l;
+                offset = next.offset;
+                n += 1;
+            }
+            LineAnswer::Refused(r) => {
+                return Gathered::Stopped(n, r);
+            }
+            LineAnswer::End => {
+                return Gathered::All(n);
+            }
+        }
+    }
+}
+
+// The numbers into the front of the lent list.
+fn copy_numbers(from: &[u32], to: &mut [u32])
+    requires { ⌜ length (now from) ≤ length (now to) ⌝ }
+    ensures { λ r. ⌜ now (to .exit) ≡ over (now (from .entry)) (now (to .entry)) ⌝ }
+{
+    let mut i = 0;
+    while i < from.len() {
+        to[i] = from[i];
+        i += 1;
+    }
+}
+
+// A text into a lent list of packed numbers.
+pub fn read(text: &[u8], plan: &mut [u32]) -> ReadAnswer
+    ensures { λ r. ⌜ ReadsAs (now (text .entry)) (now (plan .entry)) r (now (plan .exit)) ⌝ }
+{
+    if 12288 < text.len() {
+        return ReadAnswer::Refused(Refusal::TextTooLong);
+    }
+    let mut lines = [0u32; 1024];
+    match gather(text, &mut lines) {
+        Gathered::Stopped(n, r) => match plan::lines_fault(&lines[..n]) {
+            Checked::Refused(q) => {
+                return ReadAnswer::Refused(q);
+            }
+            Checked::Fine => {
+                return ReadAnswer::Refused(r);
+            }
+        },
+        Gathered::All(n) => match plan::fault(&lines[..n]) {
+            Checked::Refused(f) => {
+                return ReadAnswer::Refused(f);
+            }
+            Checked::Fine => {
+                if plan.len() < n {
+                    return ReadAnswer::Refused(Refusal::ListTooShort(n as u32));
+                }
+                copy_numbers(&lines[..n], plan);
+                return ReadAnswer::Lines(n as u32);
+            }
+        },
+    }
+}
+
+// ---- the text of a plan
+
+// One byte more behind what is made.
+fn put_byte(made: &mut [u8; 12288], at: usize, b: u8) -> usize
+    requires { ⌜ (at < 12288) × (length (now made) ≡ 12288) ⌝ }
+    ensures { λ r. ⌜ Puts (b ∷ []) at (now (made .entry)) r (now (made .exit)) ⌝ }
+{
+    made[at] = b;
+    at + 1
+}
+
+// A word more.
+fn put_word(made: &mut [u8; 12288], at: usize, word: &[u8]) -> usize
+    requires { ⌜ (at + length (now word) ≤ 12288) × (length (now made) ≡ 12288) ⌝ }
+    ensures { λ r. ⌜ Puts (now (word .entry)) at (now (made .entry)) r (now (made .exit)) ⌝ }
+{
+    let mut i = 0;
+    while i < word.len() {
+        made[at + i] = word[i];
+        i += 1;
+    }
+    at + i
+}
+
+// The verb of a kind.
+fn put_verb(made: &mut [u8; 12288], at: usize, k: u32) -> usize
+    requires { ⌜ (k < 4) × (at + length (verb k) ≤ 12288) × (length (now made) ≡ 12288) ⌝ }
+    ensures { λ r. ⌜ Puts (verb k) at (now (made .entry)) r (now (made .exit)) ⌝ }
+{
+    if k == 0 {
+        return put_word(made, at, b"do");
+    }
+    if k == 1 {
+        return put_word(made, at, b"take");
+    }
+    if k == 2 {
+        return put_word(made, at, b"give");
+    }
+    put_word(made, at, b"start")
+}
+
+// A number of at most three digits.
+fn put_number(made: &mut [u8; 12288], at: usize, n: u32) -> usize
+    requires { ⌜ (n ≤ 255) × (at + length (decimal n) ≤ 12288) × (length (now made) ≡ 12288) ⌝ }
+    ensures { λ r. ⌜ Puts (decimal n) at (now (made .entry)) r (now (made .exit)) ⌝ }
+{
+    let last = (48 + n % 10) as u8;
+    if n < 10 {
+        return put_byte(made, at, last);
+    }
+    let middle = (48 + n / 10 % 10) as u8;
+    if n < 100 {
+        let a = put_byte(made, at, middle);
+        return put_byte(made, a, last);
+    }
+    let a = put_byte(made, at, (48 + n / 100) as u8);
+    let b = put_byte(made, a, middle);
+    put_byte(made, b, last)
+}
+
+// A line: job, verb and operand, parted by one tab each, ended by a newline.
+fn put_line(made: &mut [u8; 12288], at: usize, l: u32) -> usize
+    requires { ⌜ (l / 1024 ≤ 255) × (at + length (lineText l) ≤ 12288) × (length (now made) ≡ 12288) ⌝ }
+    ensures { λ r. ⌜ Puts (lineText l) at (now (made .entry)) r (now (made .exit)) ⌝ }
+{
+    let a = put_number(made, at, l / 1024);
+    let b = put_byte(made, a, 9);
+    let c = put_verb(made, b, l / 256 % 4);
+    let d = put_byte(made, c, 9);
+    let e = put_number(made, d, l % 256);
+    put_byte(made, e, 10)
+}
+
+// The text of a plan without a fault.
+fn make(plan: &[u32], made: &mut [u8; 12288]) -> usize
+    requires { ⌜ (fault devices (now plan) ≡ none) × (length (now made) ≡ 12288) ⌝ }
+    ensures { λ r. ⌜ Puts (textOf (now (plan .entry))) 0 (now (made .entry)) r (now (made .exit)) ⌝ }
+{
+    let mut at: usize = 0;
+    let mut i = 0;
+    while i < plan.len() {
+        at = put_line(made, at, plan[i]);
+        i += 1;
+    }
+    at
+}
+
+// The bytes into the front of the lent buffer.
+fn copy_bytes(from: &[u8], to: &mut [u8])
+    requires { ⌜ length (now from) ≤ length (now to) ⌝ }
+    ensures { λ r. ⌜ now (to .exit) ≡ over (now (from .entry)) (now (to .entry)) ⌝ }
+{
+    let mut i = 0;
+    while i < from.len() {
+        to[i] = from[i];
+        i += 1;
+    }
+}
+
+// A packed plan into a lent buffer of bytes.
+pub fn write(plan: &[u32], text: &mut [u8]) -> WriteAnswer
+    ensures { λ r. ⌜ WritesAs (now (plan .entry)) (now (text .entry)) r (now (text .exit)) ⌝ }
+{
+    match plan::fault(plan) {
+        Checked::Refused(r) => {
+            return WriteAnswer::Refused(r);
+        }
+        Checked::Fine => {}
+    }
+    let mut made = [0u8; 12288];
+    let n = make(plan, &mut made);
+    if text.len() < n {
+        return WriteAnswer::Refused(Refusal::ListTooShort(n as u32));
+    }
+    copy_bytes(&made[..n], text);
+    WriteAnswer::Bytes(n as u32)
+}

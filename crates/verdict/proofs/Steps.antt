@@ -1,0 +1,249 @@
+-- What the code of the order computes, step by step, is what the definitions say; one law for each way through a
+-- function.
+use Prim.Native.Nat.{ℕ, suc, _+_, _-_, _/_, _%_, _<_, _≤_}
+use mathlib.Core.Bool.{Bool, true, false, cond}
+use mathlib.Core.List.{List, [], _∷_}
+use mathlib.Core.Logic.{inl, inr}
+use mathlib.Core.Path.{_≡_, refl, _∙_, ap}
+use native.Mathlib.Numerals.{add-one}
+use native.Mathlib.Omega.{arith}
+use lib.Bits.{bitOr}
+use lib.Dec.{eqb}
+use lib.ListN.{length, getD, set, length-set, List·getD-eq-default}
+use borrow.Author.Tests.{eqb-true, eq-eqb, ne-eqb, le-leb, lt-leb}
+use Rattle.model.specs.Lists.{any, has}
+use Rattle.model.specs.Sets.{only, union}
+use Rattle.model.specs.Line.{job, kind, operand, isTake, isStart, at, hasLines, firstLine, maxJob}
+use Rattle.model.specs.Mate.{takesAt, lastingAt, deviceAt}
+use Rattle.model.specs.WellFormed.{WellFormed, fault}
+use Rattle.model.specs.Board.{devices}
+use mathlib.Core.Option.{none}
+use Rattle.theory.proofs.WellFormed.{no-fault-exactly, any-line}
+use Rattle.theory.proofs.Line.{line-parts, start-of, Fits, ofDo, ofDevice, ofStart}
+use Rattle.theory.proofs.Successors.{first-is, first-at}
+use Rattle.theory.proofs.Lists.{left-all}
+use Rattle.theory.proofs.Progress.{device-below}
+use Rattle.verdict.proofs.Counts.{through, takes-own, tallied-takes}
+use Rattle.verdict.specs.declared.waiting.Waiting.{Waiting}
+use Rattle.verdict.specs.Waiting.{Marked, Told, allPlaces, placeOf, taken, taking, placing, nextLine, startedLine}
+use Rattle.verdict.specs.Waiting.{counted, settled, added, tallied, withScarce, scarceBelow, opening, passed}
+use Rattle.verdict.specs.Waiting.{replaced}
+use Rattle.verdict.proofs.Standing.{place-below, job-fits, first-one}
+
+module _ (p lasting : List ℕ) (m : Marked p lasting) where
+  pub formed : WellFormed devices p
+  formed = no-fault-exactly devices p .0 (m .sound)
+
+  pub few : length p ≤ 1024
+  few = formed .few
+
+  module _ (i : ℕ) (h : i < length p) where
+    pub place-fits : placeOf p i < allPlaces
+    place-fits = place-below p formed i h
+
+    pub job-of : (1 ≤ at p i / 1024) × (at p i / 1024 ≤ maxJob)
+    unfolding job
+    job-of = job-fits p formed i h
+
+    pub place-marked : getD lasting i 0 ≡ 1 → 64 + at p i % 256 ≡ placeOf p i
+    unfolding placeOf
+    place-marked e = go (lastingAt p i) refl (m .marks i h)
+      where
+        go : (b : Bool) → lastingAt p i ≡ b → getD lasting i 0 ≡ cond b 1 0
+            → 64 + at p i % 256 ≡ cond (lastingAt p i) (maxJob + deviceAt p i) (job (at p i) - 1)
+        go true q r = rw q
+        go false q r = absurd (omega (arith, e, r))
+
+    pub place-unmarked : (getD lasting i 0 ≡ 1 → ⊥) → at p i / 1024 - 1 ≡ placeOf p i
+    unfolding placeOf
+    place-unmarked n = go (lastingAt p i) refl (m .marks i h)
+      where
+        go : (b : Bool) → lastingAt p i ≡ b → getD lasting i 0 ≡ cond b 1 0
+            → at p i / 1024 - 1 ≡ cond (lastingAt p i) (maxJob + deviceAt p i) (job (at p i) - 1)
+        go true q r = absurd (n r)
+        go false q r = rw q
+
+  -- ---- the next line of the job
+
+  pub next-past : (i : ℕ) → i < length p → length p ≤ i + 1 → nextLine p i ≡ []
+  unfolding nextLine job
+  next-past i h g =
+      let past : at p (suc i) ≡ 0 = List·getD-eq-default p 0 (omega arith) in
+      rw (past, ne-eqb 0 (at p i / 1024) (λ q. omega (arith, job-of i h .0, q)))
+
+pub next-same : (p : List ℕ) (i : ℕ) → at p (i + 1) / 1024 ≡ at p i / 1024 → nextLine p i ≡ (i + 1) ∷ []
+unfolding nextLine job
+next-same p i e = let z : i + 1 ≡ suc i = add-one i in
+    rw (z, eq-eqb (at p (suc i) / 1024) (at p i / 1024) (rw z at e))
+
+pub next-other : (p : List ℕ) (i : ℕ) → (at p (i + 1) / 1024 ≡ at p i / 1024 → ⊥) → nextLine p i ≡ []
+unfolding nextLine job
+next-other p i n =
+    rw (ne-eqb (at p (suc i) / 1024) (at p i / 1024) (λ q. n (ap (λ (k : ℕ). at p k / 1024) (add-one i) ∙ q)))
+
+-- ---- the first line of the job that is started
+
+pub started-none : (p : List ℕ) (i : ℕ) → (at p i / 256 % 4 ≡ 3 → ⊥) → startedLine p i ≡ []
+unfolding startedLine isStart kind
+started-none p i n = rw (ne-eqb (at p i / 256 % 4) 3 n)
+
+-- where it stands, and what the list of first lines says
+pub record StartedAt (p first : List ℕ) (i : ℕ) : Type 0 where
+  pub f : ℕ
+  pub started : startedLine p i ≡ f ∷ []
+  pub inPlan : f < length p
+  pub told : getD first (at p i % 256) 0 ≡ suc f
+  pub aJob : at p i % 256 ≤ maxJob
+
+pub started-some : (p first lasting : List ℕ) → Told p first lasting → (i : ℕ) → i < length p → at p i / 256 % 4 ≡ 3
+    → StartedAt p first i
+unfolding startedLine isStart kind operand hasLines
+started-some p first lasting t i h e = go (first-at j p (k .0) (k .1) (eqb-true (job (at p (k .0))) j (k .2)))
+  where
+    w : WellFormed devices p
+    w = formed p lasting (t .marked)
+
+    j : ℕ
+    j = operand (at p i)
+
+    start : isStart (at p i) ≡ true
+    start = eq-eqb (at p i / 256 % 4) 3 e
+
+    k : (k : ℕ) × (k < length p) × (eqb (job (at p k)) j ≡ true)
+    k = any-line (λ l. eqb (job l) j) p (opened (w .rules .startHasLines i j (start-of (at p i) start)))
+      where
+        opened : hasLines p j ≡ true → any (λ l. eqb (job l) j) p ≡ true
+        opened x = x
+
+    fits : Fits devices 3 j → j ≤ maxJob
+    fits (ofDo q b) = absurd (omega (arith, q))
+    fits (ofDevice (inl q) b) = absurd (omega (arith, q))
+    fits (ofDevice (inr q) b) = absurd (omega (arith, q))
+    fits (ofStart q a b) = b
+
+    small : j ≤ maxJob
+    small = fits (rw e at (line-parts devices (at p i) (w .lines i h) .2))
+
+    go : (f : ℕ) × (has f (firstLine j p) ≡ true) × (f ≤ k .0) → StartedAt p first i
+    go r = record {
+      f = r .0;
+      started = rw start (first-one j p (r .0) (r .1));
+      inPlan = first-is j p (r .0) (r .1) .0;
+      told = t .firsts j (r .0) small (first-one j p (r .0) (r .1));
+      aJob = small;
+    }
+
+-- ---- one line comes, or none
+
+pub came : (p places q : List ℕ) (w r : Waiting) (ts : List ℕ) (t : ℕ) → ts ≡ t ∷ [] → r ≡ taken w (placeOf p t)
+    → q ≡ set places (placeOf p t) t → (r ≡ taking p w ts) × (q ≡ placing p places ts)
+unfolding taking placing
+came p places q w r ts t e a b = rw e (a, b)
+
+pub none-came : (p places : List ℕ) (w : Waiting) (ts : List ℕ) → ts ≡ []
+    → (w ≡ taking p w ts) × (places ≡ placing p places ts)
+unfolding taking placing
+none-came p places w ts e = rw e (refl, refl)
+
+-- ---- a take is done
+
+pub take-of : (p : List ℕ) (i : ℕ) → at p i / 256 % 4 ≡ 1 → takesAt p i ≡ true
+unfolding takesAt isTake kind
+take-of p i e = eq-eqb (at p i / 256 % 4) 1 e
+
+pub no-take : (p : List ℕ) (i : ℕ) → (at p i / 256 % 4 ≡ 1 → ⊥) → takesAt p i ≡ false
+unfolding takesAt isTake kind
+no-take p i n = ne-eqb (at p i / 256 % 4) 1 n
+
+module _ (p counts : List ℕ) (w : Waiting) (i : ℕ) where
+  pub settles-scarce : (s : ℕ) → at p i / 256 % 4 ≡ 1 → getD counts (at p i % 256) 0 - 1 ≤ 1 → s ≡ only (at p i % 256)
+      → (_≡_ {A = Waiting} (record { ready = w .ready; standing = w .standing; scarce = bitOr (w .scarce) s })
+      (settled p counts w i))
+      × (set counts (at p i % 256) (getD counts (at p i % 256) 0 - 1) ≡ counted p counts i)
+  unfolding settled counted deviceAt operand union
+  settles-scarce s e h q =
+      rw (take-of p i e) (rw (le-leb (getD counts (at p i % 256) 0 - 1) 1 h, q), refl)
+
+  pub settles-more : at p i / 256 % 4 ≡ 1 → 1 < getD counts (at p i % 256) 0 - 1
+      → (w ≡ settled p counts w i)
+      × (set counts (at p i % 256) (getD counts (at p i % 256) 0 - 1) ≡ counted p counts i)
+  unfolding settled counted deviceAt operand
+  settles-more e h = rw (take-of p i e) (rw (lt-leb (getD counts (at p i % 256) 0 - 1) 1 h), refl)
+
+  pub settles-none : (at p i / 256 % 4 ≡ 1 → ⊥) → (w ≡ settled p counts w i) × (counts ≡ counted p counts i)
+  unfolding settled counted
+  settles-none n = rw (no-take p i n) (refl, refl)
+
+-- ---- the counts at the start
+
+pub adds : (p counts : List ℕ) (i : ℕ) → at p i / 256 % 4 ≡ 1
+    → set counts (at p i % 256) (getD counts (at p i % 256) 0 + 1) ≡ added p counts i
+unfolding added deviceAt operand
+adds p counts i e = rw (take-of p i e)
+
+pub adds-none : (p counts : List ℕ) (i : ℕ) → (at p i / 256 % 4 ≡ 1 → ⊥) → counts ≡ added p counts i
+unfolding added
+adds-none p counts i n = rw (no-take p i n)
+
+pub tallied-on : (p counts next : List ℕ) (i : ℕ) → counts ≡ tallied p i → next ≡ added p counts i
+    → next ≡ tallied p (i + 1)
+unfolding tallied
+tallied-on p counts next i e q = rw (add-one i) (q ∙ ap (λ (c : List ℕ). added p c i) e)
+
+-- no count passes the number of lines
+pub tallied-fits : (p counts : List ℕ) → fault devices p ≡ none → (i : ℕ) → i < length p → counts ≡ tallied p i
+    → takesAt p i ≡ true
+    → (deviceAt p i < devices) × (getD counts (deviceAt p i) 0 ≤ 1024)
+tallied-fits p counts sound i h e t =
+    let w = no-fault-exactly devices p .0 sound in
+    let d = device-below devices p w i (deviceAt p i) (takes-own p i t) in (
+      d,
+      rw e (omega (
+        arith,
+        tallied-takes p w i (deviceAt p i) d,
+        left-all (through p [] (deviceAt p i)) i,
+        w .few,
+      )),
+    )
+
+pub with-it : (s c d r : ℕ) → c ≤ 1 → r ≡ only d → union s r ≡ withScarce s c d
+unfolding withScarce
+with-it s c d r h e = rw (le-leb c 1 h, e)
+
+pub without-it : (s c d : ℕ) → 1 < c → s ≡ withScarce s c d
+unfolding withScarce
+without-it s c d h = rw (lt-leb c 1 h)
+
+pub scarce-on : (counts : List ℕ) (s r d : ℕ) → s ≡ scarceBelow counts d → r ≡ withScarce s (getD counts d 0) d
+    → r ≡ scarceBelow counts (d + 1)
+unfolding scarceBelow
+scarce-on counts s r d e q = rw (add-one d) (q ∙ ap (λ (x : ℕ). withScarce x (getD counts d 0) d) e)
+
+-- ---- the first line
+
+pub opens : (p : List ℕ) → 0 < length p → opening p ≡ 0 ∷ []
+unfolding opening
+opens p h = rw (le-leb 1 (length p) h)
+
+pub opens-none : (p : List ℕ) → length p ≤ 0 → opening p ≡ []
+unfolding opening
+opens-none p h = rw (lt-leb 1 (length p) (omega arith))
+
+length-placing : (p places ts : List ℕ) → length (placing p places ts) ≡ length places
+unfolding placing
+length-placing p places [] = refl
+length-placing p places (t ∷ ts) =
+    length-placing p (set places (placeOf p t) t) ts ∙ length-set places (placeOf p t) t
+
+-- ---- one line is done: settled, followed, and what it starts begun
+
+pub passes : (p places q r counts counts′ : List ℕ) (w a b c : Waiting) (i : ℕ) → a ≡ settled p counts w i
+    → counts′ ≡ counted p counts i → b ≡ taking p a (nextLine p i) → q ≡ placing p places (nextLine p i)
+    → c ≡ taking p b (startedLine p i) → r ≡ placing p q (startedLine p i)
+    → (c ≡ passed p counts w i) × ((r ≡ replaced p places i) × (counts′ ≡ counted p counts i))
+unfolding passed replaced
+passes p places q r counts counts′ w a b c i e f g h j k = (rw (j, g, e), (rw (k, h), f))
+
+pub placed-length : (p places q ts : List ℕ) → q ≡ placing p places ts → length places ≡ allPlaces
+    → length q ≡ allPlaces
+placed-length p places q ts e h = rw e (length-placing p places ts ∙ h)

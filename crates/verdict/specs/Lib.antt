@@ -1,0 +1,4 @@
+-- What the contracts of `verdict` cite beside `model`.
+pub mod Waiting
+pub mod Findings
+pub mod Promises

@@ -1,0 +1,236 @@
+// The order handed out (01), in constant work a line: each line that stands next waits at a place, which it leaves when
+// it is done; then the lines that it lets stand next come to theirs.
+use crate::waiting;
+use crate::waiting::Waiting;
+ghost use mathlib.Core.Path.{_≡_};
+ghost use mathlib.Core.List.{map};
+ghost use mathlib.Core.Option.{none};
+ghost use Prim.Native.Nat.{_<_, _≤_};
+ghost use lib.ListN.{length, set};
+ghost use Rattle.model.specs.Lists.{over};
+ghost use Rattle.model.specs.Line.{lineNumber};
+ghost use Rattle.model.specs.WellFormed.{fault};
+ghost use Rattle.model.specs.Handed.{handed};
+ghost use Rattle.model.specs.Verdict.{noOrder};
+ghost use Rattle.model.specs.Board.{devices};
+ghost use Rattle.verdict.specs.Waiting.{Marked, Told, allPlaces, placeOf, taken, taking, nextLine, startedLine};
+ghost use Rattle.verdict.specs.Waiting.{opening, firstPlaced, nextPlaced, startedPlaced, idle, passed, replaced};
+ghost use Rattle.verdict.specs.Waiting.{added, tallied, withScarce, scarceBelow, counted, settled};
+ghost use Rattle.verdict.specs.Waiting.{CanRise, CanFall};
+
+// The place of line `i`: a lasting take's is that of its device, past those of the jobs.
+fn place(plan: &[u32], lasting: &[u8; 1024], i: usize) -> usize
+    requires { ⌜ Marked (now plan) (now lasting) × (i < length (now plan)) ⌝ }
+    ensures { λ r. ⌜ r ≡ placeOf (now (plan .entry)) i ⌝ }
+{
+    let l = plan[i];
+    if lasting[i] == 1 {
+        return 64 + (l % 256) as usize;
+    }
+    (l / 1024) as usize - 1
+}
+
+// Line `i` comes to stand next.
+fn arrive(
+    plan: &[u32],
+    lasting: &[u8; 1024],
+    places: &mut [usize; 96],
+    w: Waiting,
+    i: usize,
+) -> Waiting
+    requires { ⌜ Marked (now plan) (now lasting) × (i < length (now plan)) ⌝ }
+    requires { ⌜ length (now places) ≡ allPlaces ⌝ }
+    ensures { λ r. ⌜ r ≡ taken w (placeOf (now (plan .entry)) i) ⌝ }
+    ensures { λ r. ⌜ now (places .exit) ≡ set (now (places .entry)) (placeOf (now (plan .entry)) i) i ⌝ }
+{
+    let s = place(plan, lasting, i);
+    places[s] = i;
+    waiting::take_place(w, s)
+}
+
+// The next line of the job of line `i` comes to stand next, if there is one.
+fn follow(
+    plan: &[u32],
+    lasting: &[u8; 1024],
+    places: &mut [usize; 96],
+    w: Waiting,
+    i: usize,
+) -> Waiting
+    requires { ⌜ Marked (now plan) (now lasting) × (i < length (now plan)) ⌝ }
+    requires { ⌜ length (now places) ≡ allPlaces ⌝ }
+    ensures { λ r. ⌜ r ≡ taking (now (plan .entry)) w (nextLine (now (plan .entry)) i) ⌝ }
+    ensures { λ r. ⌜ now (places .exit) ≡ nextPlaced (now (plan .entry)) (now (places .entry)) i ⌝ }
+{
+    let n = i + 1;
+    if n < plan.len() {
+        if plan[n] / 1024 == plan[i] / 1024 {
+            return arrive(plan, lasting, places, w, n);
+        }
+    }
+    w
+}
+
+// The first line of the job that line `i` starts comes to stand next, if it starts one.
+fn begin(
+    plan: &[u32],
+    first: &[u32; 65],
+    lasting: &[u8; 1024],
+    places: &mut [usize; 96],
+    w: Waiting,
+    i: usize,
+) -> Waiting
+    requires { ⌜ Told (now plan) (now first) (now lasting) × (i < length (now plan)) ⌝ }
+    requires { ⌜ length (now places) ≡ allPlaces ⌝ }
+    ensures { λ r. ⌜ r ≡ taking (now (plan .entry)) w (startedLine (now (plan .entry)) i) ⌝ }
+    ensures { λ r. ⌜ now (places .exit) ≡ startedPlaced (now (plan .entry)) (now (places .entry)) i ⌝ }
+{
+    let l = plan[i];
+    if l / 256 % 4 == 3 {
+        let job = (l % 256) as usize;
+        let f = first[job] as usize;
+        return arrive(plan, lasting, places, w, f - 1);
+    }
+    w
+}
+
+// Line `i` is done: if it is a take, one line less takes its device.
+fn settle(plan: &[u32], counts: &mut [u32; 32], w: Waiting, i: usize) -> Waiting
+    requires { ⌜ i < length (now plan) ⌝ }
+    requires { ⌜ CanFall (now plan) (now counts) i ⌝ }
+    ensures { λ r. ⌜ r ≡ settled (now (plan .entry)) (now (counts .entry)) w i ⌝ }
+    ensures { λ r. ⌜ now (counts .exit) ≡ counted (now (plan .entry)) (now (counts .entry)) i ⌝ }
+{
+    let l = plan[i];
+    if l / 256 % 4 == 1 {
+        let d = (l % 256) as usize;
+        let c = counts[d] - 1;
+        counts[d] = c;
+        if c <= 1 {
+            return Waiting {
+                ready: w.ready,
+                standing: w.standing,
+                scarce: w.scarce | waiting::device_set(d),
+            };
+        }
+        return w;
+    }
+    w
+}
+
+// Line `i`, which has left its place, is done.
+fn pass(
+    plan: &[u32],
+    first: &[u32; 65],
+    lasting: &[u8; 1024],
+    places: &mut [usize; 96],
+    counts: &mut [u32; 32],
+    w: Waiting,
+    i: usize,
+) -> Waiting
+    requires { ⌜ Told (now plan) (now first) (now lasting) × (i < length (now plan)) ⌝ }
+    requires { ⌜ length (now places) ≡ allPlaces ⌝ }
+    requires { ⌜ CanFall (now plan) (now counts) i ⌝ }
+    ensures { λ r. ⌜ r ≡ passed (now (plan .entry)) (now (counts .entry)) w i ⌝ }
+    ensures { λ r. ⌜ now (places .exit) ≡ replaced (now (plan .entry)) (now (places .entry)) i ⌝ }
+    ensures { λ r. ⌜ now (counts .exit) ≡ counted (now (plan .entry)) (now (counts .entry)) i ⌝ }
+{
+    let settled = settle(plan, counts, w, i);
+    let followed = follow(plan, lasting, places, settled, i);
+    begin(plan, first, lasting, places, followed, i)
+}
+
+// The sets before the first line, which alone stands next.
+fn outset(plan: &[u32], lasting: &[u8; 1024], places: &mut [usize; 96], scarce: u32) -> Waiting
+    requires { ⌜ Marked (now plan) (now lasting) ⌝ }
+    requires { ⌜ length (now places) ≡ allPlaces ⌝ }
+    ensures { λ r. ⌜ r ≡ taking (now (plan .entry)) (idle scarce) (opening (now (plan .entry))) ⌝ }
+    ensures { λ r. ⌜ now (places .exit) ≡ firstPlaced (now (plan .entry)) (now (places .entry)) ⌝ }
+{
+    let idle = Waiting {
+        ready: 0,
+        standing: 0,
+        scarce,
+    };
+    if 0 < plan.len() {
+        return arrive(plan, lasting, places, idle, 0);
+    }
+    idle
+}
+
+// Line `i` is counted, if it is a take.
+fn count(plan: &[u32], counts: &mut [u32; 32], i: usize)
+    requires { ⌜ i < length (now plan) ⌝ }
+    requires { ⌜ CanRise (now plan) (now counts) i ⌝ }
+    ensures { λ r. ⌜ now (counts .exit) ≡ added (now (plan .entry)) (now (counts .entry)) i ⌝ }
+{
+    let l = plan[i];
+    if l / 256 % 4 == 1 {
+        let d = (l % 256) as usize;
+        counts[d] += 1;
+    }
+}
+
+// How many lines take each device.
+fn tally(plan: &[u32]) -> [u32; 32]
+    requires { ⌜ fault devices (now plan) ≡ none ⌝ }
+    ensures { λ r. ⌜ r ≡ tallied (now (plan .entry)) (length (now (plan .entry))) ⌝ }
+{
+    let mut counts = [0u32; 32];
+    let mut i = 0;
+    while i < plan.len() {
+        count(plan, &mut counts, i);
+        i += 1;
+    }
+    counts
+}
+
+// A set, with device `d` if at most one of `c` lines takes it.
+fn with_scarce(s: u32, c: u32, d: usize) -> u32
+    requires { ⌜ d < devices ⌝ }
+    ensures { λ r. ⌜ r ≡ withScarce s c d ⌝ }
+{
+    if c <= 1 {
+        return sets::union(s, waiting::device_set(d));
+    }
+    s
+}
+
+// The devices that at most one line takes.
+fn scarce(counts: &[u32; 32]) -> u32
+    ensures { λ r. ⌜ r ≡ scarceBelow (now (counts .entry)) devices ⌝ }
+{
+    let mut s: u32 = 0;
+    let mut d = 0;
+    while d < 32 {
+        s = with_scarce(s, counts[d], d);
+        d += 1;
+    }
+    s
+}
+
+// The order of a plan that has one, into the front of the lent list.
+pub fn hand_out(plan: &[u32], first: &[u32; 65], lasting: &[u8; 1024], order: &mut [u16])
+    requires { ⌜ Told (now plan) (now first) (now lasting) × (noOrder devices (now plan) ≡ none) ⌝ }
+    requires { ⌜ length (now plan) ≤ length (now order) ⌝ }
+    ensures { λ r. ⌜ now (order .exit) ≡ over (map lineNumber (handed (now (plan .entry)))) (now (order .entry)) ⌝ }
+{
+    let mut places = [0usize; 96];
+    let mut counts = tally(plan);
+    let mut w = outset(plan, lasting, &mut places, scarce(&counts));
+    let mut k = 0;
+    while k < plan.len() {
+        let s = waiting::foremost(w);
+        let i = places[s];
+        order[k] = (i + 1) as u16;
+        w = pass(
+            plan,
+            first,
+            lasting,
+            &mut places,
+            &mut counts,
+            waiting::leave_place(w, s),
+            i,
+        );
+        k += 1;
+    }
+}
