@@ -21,7 +21,7 @@ use Rattle.model.specs.declared.TableAnswer.{TableAnswer}
 use Rattle.theory.proofs.Claims.{length-table}
 use Rattle.theory.proofs.WellFormed.{no-fault-exactly}
 use Rattle.theory.proofs.Move.{Refused, Accepted, Step, refused, accepted, move-step, rewritten-off}
-use Rattle.theory.proofs.Move.{differing, own-long, Ask, Lent, moved, movedBy, Kept, moves-keep}
+use Rattle.theory.proofs.Move.{length-rewritten, differing, own-long, Ask, Lent, moved, movedBy, Kept, moves-keep}
 use Rattle.claims.specs.Promises.{TablesAs}
 use Rattle.claims.proofs.Outcome.{tabled}
 use Rattle.moving.specs.Promises.{MovesAs}
@@ -95,6 +95,15 @@ off-way-stays p t line device a p′ t′ m k off = go a p′ t′ (by-outcome p
     go : (b : MoveAnswer) (x y : List ℕ) → Outcomes p t line device b x y → getD y k 0 ≡ getD t k 0
     go b x y (kept r h) = refl
     go b x y (done h) = rewritten-off (edited p (askedAt line) device) t (way p (askedAt line)) k off
+
+-- and there are as many as before
+pub as-many-sets : (p t : List ℕ) (line device : ℕ) (a : MoveAnswer) (p′ t′ : List ℕ)
+    → MovesAs p t line device a p′ t′ → length t′ ≡ length t
+as-many-sets p t line device a p′ t′ m = go a p′ t′ (by-outcome p t line device a p′ t′ m)
+  where
+    go : (b : MoveAnswer) (x y : List ℕ) → Outcomes p t line device b x y → length y ≡ length t
+    go b x y (kept r h) = refl
+    go b x y (done h) = length-rewritten (edited p (askedAt line) device) t (way p (askedAt line))
 
 -- ---- from a plan without a fault and its own table
 
