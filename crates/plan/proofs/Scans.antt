@@ -22,7 +22,7 @@ module _ (p first starter : List ℕ) where
   scans-refused r e = record {
     answers = ap checked (sym e);
     firsts = ap (λ (x : Option Refusal). leftBy x (firstLines p) first) (sym e);
-    starts = ap (λ (x : Option Refusal). leftBy x (starters p) starter) (sym e);
+    starts = cc;
   }
 
   scans-fine : (f s : List ℕ) → fault 32 p ≡ none → f ≡ firstLines p → s ≡ starters p
@@ -30,7 +30,7 @@ module _ (p first starter : List ℕ) where
   scans-fine f s e a b = record {
     answers = ap checked (sym e);
     firsts = a ∙ ap (λ (x : Option Refusal). leftBy x (firstLines p) first) (sym e);
-    starts = b ∙ ap (λ (x : Option Refusal). leftBy x (starters p) starter) (sym e);
+    starts = cc;
   }
 
   module _ (f s : List ℕ) (w : Checked) (walked : walkBy w f s ≡ walkFrom 32 0 0 [] none-yet none-yet p) where

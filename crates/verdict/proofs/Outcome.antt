@@ -28,10 +28,7 @@ outcome p lent o = verdictBy o (heldAtEnd devices p) (map lineNumber (handed p))
 by-tests : (p lent : List ℕ) (o : Option Refusal) (answer : VerdictAnswer) (left : List ℕ) → tests p lent ≡ o
     → answer ≡ outcome p lent o .answer → left ≡ outcome p lent o .order → JudgesAs p lent answer left
 unfolding judging
-by-tests p lent o answer left e a l = record {
-  answers = a ∙ ap (λ (x : Option Refusal). outcome p lent x .answer) (sym e);
-  leaves = l ∙ ap (λ (x : Option Refusal). outcome p lent x .order) (sym e);
-}
+by-tests p lent o answer left e a l = record { answers = cc; leaves = cc }
 
 module _ (p lent : List ℕ) where
   refused : (r : Refusal) → tests p lent ≡ some r → JudgesAs p lent (VerdictAnswer.Refused r) lent

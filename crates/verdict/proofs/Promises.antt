@@ -31,6 +31,7 @@ use Rattle.theory.proofs.WellFormed.{BrokenAt, tooMany, malformed, outOfSequenc
 use Rattle.theory.proofs.Verdict.{NoOrder, accepted-is-legal, refused-exactly, legal-order-exactly, no-legal-order}
 use Rattle.verdict.specs.Promises.{JudgesAs, Apart, OnceEach, Ordered}
 use Rattle.verdict.proofs.Outcome.{tests, outcome}
+use Rattle.verdict.proofs.Tight.{one-outcome}
 
 -- ---- a legal order has each line once
 
@@ -69,10 +70,14 @@ data Judged (p lent : List ℕ) : VerdictAnswer → List ℕ → Type 0 where
 judged : (p lent : List ℕ) (a : VerdictAnswer) (left : List ℕ) → JudgesAs p lent a left → Judged p lent a left
 unfolding judging verdictBy
 judged p lent a left j =
-    subst (λ (x : VerdictAnswer). Judged p lent x left) (sym (j .answers))
-    (subst (λ (x : List ℕ). Judged p lent (judging devices p lent .answer) x) (sym (j .leaves))
-    (go (tests p lent) refl))
+    subst (λ (x : VerdictAnswer). Judged p lent x left) (sym (one .0))
+    (subst (λ (x : List ℕ). Judged p lent (judging devices p lent .answer) x) (sym (one .1)) (go (tests p lent) refl))
   where
+    one : (a ≡ judging devices p lent .answer) × (left ≡ judging devices p lent .order)
+    one =
+        one-outcome p lent a (judging devices p lent .answer) left (judging devices p lent .order) j
+        (record { answers = refl; leaves = refl })
+
     go : (o : Option Refusal) → tests p lent ≡ o → Judged p lent (outcome p lent o .answer) (outcome p lent o .order)
     go none e = accepted e
     go (some r) e = refused r e
