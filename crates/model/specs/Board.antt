@@ -1,4 +1,4 @@
--- 01, "The plan as text": the board in force has 32 devices. Nothing else says this number.
+-- 01, "The plan as text": the board in force has 32 devices. No other definition says this number.
 use Prim.Native.Nat.{ℕ}
 
 abbrev pub devices : ℕ

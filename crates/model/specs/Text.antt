@@ -4,8 +4,8 @@ use mathlib.Core.Bool.{Bool, true, false, cond, not, _&&_}
 use mathlib.Core.List.{List, [], _∷_, _++_, map, flatMap, getLastD, dropLast}
 use mathlib.Core.Option.{Option, none, some, Option·getD}
 use lib.Dec.{eqb, leb, ltb}
-use lib.ListN.{length, getD, drop}
-use Rattle.model.specs.Lists.{upFrom, all, firstOf, same}
+use lib.ListN.{length, getD, take, drop}
+use Rattle.model.specs.Lists.{upFrom, all, those, firstOf, same}
 use Rattle.model.specs.Line.{pack, job, kind, operand, isStep, lineNumber, maxLines, maxBytes}
 use Rattle.model.specs.declared.Refusal.the-variants.{TextTooLong, Malformed, TooManyLines}
 use Rattle.model.specs.declared.Cursor.{Cursor}
@@ -155,3 +155,18 @@ unfoldable pub cursorAt : ℕ → List ℕ → ℕ → Cursor
 unfolding begin cursorAfter nextLine
 cursorAt D text zero = begin
 cursorAt D text (suc n) = let c : Cursor = cursorAt D text n in cursorAfter c (nextLine D text c)
+
+-- The line reader by an offset alone: as many lines were handed out as newlines stand before the offset, so that the
+-- number of the line there is one more than these.
+
+unfoldable pub newlinesBefore : List ℕ → ℕ → ℕ
+unfolding those
+newlinesBefore text offset = length (those (λ b. eqb b newline) (take offset text))
+
+unfoldable pub cursorFrom : List ℕ → ℕ → Cursor
+unfolding newlinesBefore
+cursorFrom text offset = record { offset = offset; lines = newlinesBefore text offset }
+
+unfoldable pub lineFrom : ℕ → List ℕ → ℕ → LineAnswer
+unfolding cursorFrom nextLine
+lineFrom D text offset = nextLine D text (cursorFrom text offset)

@@ -1,5 +1,5 @@
-// Moving a claim (01, "Moving a claim"): the take, and its give if it has one, get another device, and the sets on the
-// way are joined anew. After the tests of the plan all the work is along the way, or in the moved take's job.
+// Moving a claim (01, "Moving a claim") to another device, with the give that belongs to the take, and joining anew the
+// sets on the way. After the tests of the plan all the work is along the way, or in the moved take's job.
 use model::MoveAnswer;
 use model::Refusal;
 use plan::Checked;

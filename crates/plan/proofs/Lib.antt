@@ -2,6 +2,8 @@
 pub mod Tight
 pub mod Lines
 pub mod Rules
+pub mod Flips
+pub mod Stacks
 pub mod Steps
 pub mod Held
 pub mod Tables

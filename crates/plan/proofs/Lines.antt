@@ -1,16 +1,19 @@
--- Which case of `isStep` the tests of a packed number pick.
+-- Which case of `isStep` the tests of a packed number pick, with the ranges of the operands as the code's tables have
+-- them.
 use mathlib.Core.Path.{_≡_, refl, sym, _∙_}
-use mathlib.Core.Bool.{Bool, true, false, _&&_, _||_}
+use mathlib.Core.Bool.{Bool, true, false, _||_}
+use mathlib.Core.List.{List, [], _∷_}
 use mathlib.Core.Logic.{_⊎_, inl, inr}
-use Prim.Native.Nat.{ℕ, _≤_, _<_}
+use Prim.Native.Nat.{ℕ, zero, suc, _≤_, _<_}
 use native.Mathlib.Omega.{arith}
-use lib.Dec.{eqb, leb, ltb}
-use borrow.Author.Tests.{eqb-false, eq-eqb, ne-eqb, le-leb, lt-leb}
+use lib.Dec.{leb, ltb}
+use lib.ListN.{getD}
+use borrow.Author.Tests.{le-leb, lt-leb, lt-ltb, le-ltb}
 use Rattle.model.specs.Line.{kind, operand, isStep, isLine, operandFits}
-use Rattle.theory.proofs.Tests.{test}
+use Rattle.theory.proofs.Tests.{le-or-lt}
 use Rattle.theory.proofs.Line.{Fits, ofDo, ofDevice, ofStart, line-parts}
 
-or-none : (b : Bool) → (b || false) ≡ b
+pub or-none : (b : Bool) → (b || false) ≡ b
 or-none true = refl
 or-none false = refl
 
@@ -23,33 +26,47 @@ module _ (D j k o : ℕ) where
   unfolding isStep
   high-job h = rw (le-leb 1 j (omega arith), lt-leb j 64 h)
 
-  module _ (low : 1 ≤ j) (high : j ≤ 64) where
-    fits : isStep D j k o ≡ operandFits D k o
-    unfolding isStep
-    fits = rw (le-leb 1 j low, le-leb j 64 high)
+  fits : 1 ≤ j → j ≤ 64 → isStep D j k o ≡ operandFits D k o
+  unfolding isStep
+  fits low high = rw (le-leb 1 j low, le-leb j 64 high)
 
-    pub do-line : k ≡ 0 → o ≤ 255 → isStep D j k o ≡ true
-    unfolding operandFits
-    do-line e h = fits ∙ rw (e, le-leb o 255 h)
+-- ---- the tables of the lowest and the highest operand
 
-    pub low-start : k ≡ 3 → o < 2 → isStep D j k o ≡ false
-    unfolding operandFits
-    low-start e h = fits ∙ rw (e, lt-leb 2 o h)
+abbrev lowest : List ℕ
+lowest = 0 ∷ 0 ∷ 0 ∷ 2 ∷ []
 
-    pub high-start : k ≡ 3 → 2 ≤ o → isStep D j k o ≡ leb o 64
-    unfolding operandFits
-    high-start e h = fits ∙ rw (e, le-leb 2 o h)
+abbrev highest : List ℕ
+highest = 255 ∷ 31 ∷ 31 ∷ 64 ∷ []
 
-    pub device : (k ≡ 0 → ⊥) → (k ≡ 3 → ⊥) → k < 4 → isStep D j k o ≡ ltb o D
-    unfolding operandFits
-    device n m h = fits ∙ go (test (eqb k 1))
-      where
-        go : (eqb k 1 ≡ true) ⊎ (eqb k 1 ≡ false)
-            → ((eqb k 0 && leb o 255) || ((eqb k 1 || eqb k 2) && ltb o D) || (eqb k 3 && (leb 2 o && leb o 64)))
-            ≡ ltb o D
-        go (inl e) = rw (ne-eqb k 0 n, ne-eqb k 3 m, e) (or-none (ltb o D))
-        go (inr e) = let ne = eqb-false k 1 e in
-            rw (ne-eqb k 0 n, ne-eqb k 3 m, e, eq-eqb k 2 (omega arith)) (or-none (ltb o D))
+below-32 : (o : ℕ) → ltb o 32 ≡ leb o 31
+below-32 o = go (le-or-lt o 31)
+  where
+    go : (o ≤ 31) ⊎ (31 < o) → ltb o 32 ≡ leb o 31
+    go (inl h) = lt-ltb o 32 (omega arith) ∙ sym (le-leb o 31 h)
+    go (inr h) = le-ltb o 32 (omega arith) ∙ sym (lt-leb o 31 h)
+
+below : (k o : ℕ) → k < 4 → o < getD lowest k 0 → operandFits 32 k o ≡ false
+unfolding operandFits
+below zero o h l = absurd (omega arith)
+below (suc zero) o h l = absurd (omega arith)
+below (suc (suc zero)) o h l = absurd (omega arith)
+below (suc (suc (suc zero))) o h l = rw (lt-leb 2 o l)
+below (suc (suc (suc (suc k)))) o h l = absurd (omega arith)
+
+from : (k o : ℕ) → k < 4 → getD lowest k 0 ≤ o → operandFits 32 k o ≡ leb o (getD highest k 0)
+unfolding operandFits
+from zero o h l = or-none (leb o 255 || false) ∙ or-none (leb o 255)
+from (suc zero) o h l = or-none (ltb o 32) ∙ below-32 o
+from (suc (suc zero)) o h l = or-none (ltb o 32) ∙ below-32 o
+from (suc (suc (suc zero))) o h l = rw (le-leb 2 o l)
+from (suc (suc (suc (suc k)))) o h l = absurd (omega arith)
+
+module _ (j k o : ℕ) (low : 1 ≤ j) (high : j ≤ 64) (kind : k < 4) where
+  pub low-operand : o < getD lowest k 0 → isStep 32 j k o ≡ false
+  low-operand h = fits 32 j k o low high ∙ below k o kind h
+
+  pub high-operand : getD lowest k 0 ≤ o → isStep 32 j k o ≡ leb o (getD highest k 0)
+  high-operand h = fits 32 j k o low high ∙ from k o kind h
 
 -- the operand of a start that is a line's has its place in a table of jobs
 pub start-operand : (D n : ℕ) → isLine D n ≡ true → kind n ≡ 3 → operand n < 65
@@ -60,3 +77,12 @@ start-operand D n h e = go (line-parts D n h .2)
     go (ofDevice (inl k) b) = absurd (omega arith)
     go (ofDevice (inr k) b) = absurd (omega arith)
     go (ofStart k a b) = omega arith
+
+-- the operand of a take or a give that is a line's is a device's number
+pub device-operand : (n : ℕ) → isLine 32 n ≡ true → kind n < 3 → 1 ≤ kind n → operand n < 32
+device-operand n h l m = go (line-parts 32 n h .2)
+  where
+    go : Fits 32 (kind n) (operand n) → operand n < 32
+    go (ofDo k b) = absurd (omega arith)
+    go (ofDevice k b) = b
+    go (ofStart k a b) = absurd (omega arith)

@@ -1,41 +1,18 @@
--- Which case of `ruleOf` the code's tests pick, over an array whose first `depth` are the devices held; and
--- membership in the first of an array, walked along.
+-- Which case of `ruleOf` a line picks, over a list whose first `depth` are the devices held.
 use mathlib.Core.Path.{_≡_, refl, ap, sym, _∙_}
 use mathlib.Core.Bool.{Bool, true, false}
-use mathlib.Core.List.{List, [], _∷_, _++_}
+use mathlib.Core.List.{List}
 use Prim.Native.Nat.{ℕ, suc, _+_, _-_, _≤_, _<_}
 use native.Mathlib.Numerals.{add-one}
 use native.Mathlib.Omega.{arith}
-use lib.ListN.{length, getD, take, drop, set, length-take, drop-of-length-le}
-use lib.Seq.{drop-cons, take-suc-set, getD-take, length-take-le, take-take}
+use lib.ListN.{length, getD, take, set}
+use lib.Seq.{take-suc-set, getD-take, length-take-le, take-take}
 use borrow.Author.Tests.{ne-eqb, eq-eqb, le-ltb, lt-ltb, le-leb, lt-leb}
 use Rattle.model.specs.Lists.{has}
 use Rattle.model.specs.Line.{lineNumber}
 use Rattle.model.specs.declared.Refusal.{Refusal}
 use Rattle.model.specs.declared.Refusal.the-variants.{TakeOfHeld, GiveWithoutTake, BadStart}
 use Rattle.plan.specs.Walk.{Ruled, kept, broken, ruleOf}
-
--- the next of the first n, and what comes after it
-next-of : (l : List ℕ) (n i : ℕ) → i < n → n ≤ length l → drop i (take n l) ≡ getD l i 0 ∷ drop (i + 1) (take n l)
-next-of l n i h k =
-    let e : length (take n l) ≡ n = length-take-le n l k in
-    let f : i < length (take n l) = omega arith in
-    rw (add-one, drop-cons (take n l) i 0, getD-take n l i 0)
-
-module _ (d : ℕ) (l : List ℕ) (n i : ℕ) (h : i < n) (k : n ≤ length l) where
-  pub has-here : getD l i 0 ≡ d → has d (drop i (take n l)) ≡ true
-  unfolding has
-  has-here e = rw (next-of l n i h k) (rw (eq-eqb d (getD l i 0) (sym e)))
-
-  pub has-there : (getD l i 0 ≡ d → ⊥) → has d (drop i (take n l)) ≡ has d (drop (i + 1) (take n l))
-  unfolding has
-  has-there e = rw (next-of l n i h k) (rw (ne-eqb d (getD l i 0) (λ q. e (sym q))))
-
-pub has-end : (d : ℕ) (l : List ℕ) (n i : ℕ) → n ≤ i → has d (drop i (take n l)) ≡ false
-unfolding has
-has-end d l n i h =
-    let e : length (take n l) ≤ i = omega (arith, length-take n l) in
-    rw (drop-of-length-le (take n l) e)
 
 module _ (i j k o : ℕ) (l starter : List ℕ) (d : ℕ) where
   pub do-line : k ≡ 0 → kept (take d l) starter ≡ ruleOf i j k o (take d l) starter

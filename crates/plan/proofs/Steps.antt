@@ -20,7 +20,7 @@ use Rattle.plan.specs.declared.After.{After}
 
 pub next-ruled : (r : After) (held first starter : List ℕ)
     → nextBy r held first starter ≡ withFirst first (ruledBy r held starter)
-next-ruled (After.On depth) held first starter = refl
+next-ruled (After.On depth word) held first starter = refl
 next-ruled (After.Bad r) held first starter = refl
 
 module _ (D n i prev : ℕ) (held first starter : List ℕ) where

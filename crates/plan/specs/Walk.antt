@@ -1,13 +1,16 @@
 -- The walk along the lines as the code makes it: its state is the job of the line before (0 before the first), the
 -- devices that this job holds (the latest last), and for each job the number of its first line and of the line that
 -- starts it. That it finds the fault of `model` is shown in proofs/.
-use Prim.Native.Nat.{ℕ, suc, _+_, _-_}
+use Prim.Native.Nat.{ℕ, suc, _+_, _-_, _<_}
 use mathlib.Core.Bool.{Bool, true, false, cond, _&&_}
 use mathlib.Core.List.{List, [], _∷_, _++_}
+use mathlib.Core.Path.{_≡_}
 use lib.Dec.{eqb, leb, ltb}
-use lib.ListN.{length, getD, take, set}
-use Rattle.model.specs.Lists.{has}
+use lib.ListN.{length, getD, take, drop, set}
+use Rattle.model.specs.Lists.{has, those, upFrom}
 use Rattle.model.specs.Line.{job, kind, operand, isLine, lineNumber, maxLines}
+use Rattle.model.specs.Sets.{member}
+use Rattle.model.specs.Board.{devices}
 use Rattle.model.specs.declared.Refusal.{Refusal}
 use Rattle.model.specs.declared.Refusal.the-variants.{Malformed, TooManyLines, JobOutOfSequence, BadStart}
 use Rattle.model.specs.declared.Refusal.the-variants.{GiveWithoutTake, TakeOfHeld}
@@ -76,18 +79,35 @@ walkFrom D i prev held first starter [] = through first starter
 walkFrom D i prev held first starter (n ∷ ns) =
     goOn (stepOf D n i prev held first starter) (λ h f s. walkFrom D (suc i) (job n) h f s ns)
 
+-- the devices held as the code has them, on a stack whose place 0 is no device's: the `depth` places above it
+abbrev pub heldIn : ℕ → List ℕ → List ℕ
+heldIn depth stack = take depth (drop 1 stack)
+
+-- the stack and the set `held` agree: the same devices, none of them twice, and as many
+pub record Holding (depth held : ℕ) (stack : List ℕ) : Type 0 where
+  pub long : length stack ≡ devices + 2
+  pub floor : getD stack 0 0 ≡ devices
+  pub same : (d : ℕ) → d < devices → member held d ≡ has d (heldIn depth stack)
+  pub once : (e : ℕ) → e < depth → has (getD (drop 1 stack) e 0) (heldIn e stack) ≡ false
+  pub many : depth ≡ length (those (member held) (upFrom 0 devices))
+
 -- the same as the code's answers and arrays show it
 abbrev pub ruledBy : After → List ℕ → List ℕ → Ruled
-ruledBy (After.On depth) held starter = kept (take depth held) starter
-ruledBy (After.Bad r) held starter = broken r
+ruledBy (After.On depth held) stack starter = kept (heldIn depth stack) starter
+ruledBy (After.Bad r) stack starter = broken r
 
 abbrev pub nextBy : After → List ℕ → List ℕ → List ℕ → Next
-nextBy (After.On depth) held first starter = on (take depth held) first starter
-nextBy (After.Bad r) held first starter = bad r
+nextBy (After.On depth held) stack first starter = on (heldIn depth stack) first starter
+nextBy (After.Bad r) stack first starter = bad r
 
+-- how many devices are held, and the set of them; none after a refusal
 abbrev pub depthBy : After → ℕ
-depthBy (After.On depth) = depth
+depthBy (After.On depth held) = depth
 depthBy (After.Bad r) = 0
+
+abbrev pub setBy : After → ℕ
+setBy (After.On depth held) = held
+setBy (After.Bad r) = 0
 
 abbrev pub walkBy : Checked → List ℕ → List ℕ → Walk
 walkBy Checked.Fine first starter = through first starter

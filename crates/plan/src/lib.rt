@@ -2,19 +2,21 @@
 // tests after the last line, and what the rooms above need of takes and jobs.
 use model::Refusal;
 ghost use mathlib.Core.Path.{_≡_};
-ghost use mathlib.Core.Bool.{true, not, _&&_};
+ghost use mathlib.Core.Bool.{true, false, cond, not, _&&_};
+ghost use lib.Bits.{bitXor};
 ghost use lib.Dec.{eqb};
 ghost use mathlib.Core.List.{List, []};
-ghost use Prim.Native.Nat.{ℕ, _+_, _≤_, _<_};
-ghost use lib.ListN.{length, getD, take};
-ghost use Rattle.model.specs.Lists.{has};
+ghost use Prim.Native.Nat.{ℕ, _+_, _-_, _%_, _≤_, _<_};
+ghost use lib.ListN.{length};
 ghost use Rattle.model.specs.Line.{job, kind, operand, isLine};
+ghost use Rattle.model.specs.Sets.{only, member};
 ghost use Rattle.model.specs.Mate.{mate};
 ghost use Rattle.model.specs.WellFormed.{fault, firstFault};
 ghost use Rattle.model.specs.Board.{devices};
 ghost use Rattle.plan.specs.Checked.{checked, found, turnOf};
 ghost use Rattle.plan.specs.Ends.{lowerOf, emptyFrom, neverFrom, endsOf, ScansAs};
-ghost use Rattle.plan.specs.Walk.{ruleOf, stepOf, walkFrom, ruledBy, nextBy, depthBy, walkBy};
+ghost use Rattle.plan.specs.Walk.{ruleOf, stepOf, walkFrom, heldIn, Holding};
+ghost use Rattle.plan.specs.Walk.{ruledBy, nextBy, depthBy, setBy, walkBy};
 
 // What a check of a plan finds.
 pub enum Checked {
@@ -28,12 +30,17 @@ pub enum Found {
     Nothing,
 }
 
-// Is the number a line's?
+// The lowest and the highest operand of each kind: do, take, give, start.
+const LOWEST: [u32; 4] = [0, 0, 0, 2];
+
+const HIGHEST: [u32; 4] = [255, 31, 31, 64];
+
+// Is the number a line's? It asks tables for the operand's range, so that it has no branch on the kind.
 fn is_line(n: u32) -> bool
     ensures { λ r. ⌜ r ≡ isLine devices n ⌝ }
 {
     let j = n / 1024;
-    let k = n / 256 % 4;
+    let k = (n / 256 % 4) as usize;
     let o = n % 256;
     if j < 1 {
         return false;
@@ -41,87 +48,90 @@ fn is_line(n: u32) -> bool
     if 64 < j {
         return false;
     }
-    if k == 0 {
-        return true;
+    if o < LOWEST[k] {
+        return false;
     }
-    if k == 3 {
-        if o < 2 {
-            return false;
-        }
-        return o <= 64;
-    }
-    o < 32
+    o <= HIGHEST[k]
 }
 
-// What a line leads to: how many devices its job holds after it, or a refusal.
+// What a line leads to: how many devices its job holds after it and the set of them, or a refusal.
 pub enum After {
-    On(usize),
+    On(usize, u32),
     Bad(Refusal),
 }
 
-// Is the device among the first `depth` that are held?
-fn holds(held: &[u32; 1024], depth: usize, d: u32) -> bool
-    requires { ⌜ (depth ≤ 1024) × (length (now held) ≡ 1024) ⌝ }
-    ensures { λ r. ⌜ r ≡ has d (take depth (now (held .entry))) ⌝ }
+// Is the device in the set? The set is a word, so that no device is looked for among those held.
+fn holds(held: u32, d: u32) -> bool
+    ensures { λ r. ⌜ r ≡ member held (d % 32) ⌝ }
 {
-    let mut i = 0;
-    while i < depth {
-        if held[i] == d {
-            return true;
-        }
-        i += 1;
-    }
-    false
+    (held >> (d % 32)) & 1 == 1
 }
 
-// The rule of a give: the device is the latest that is held.
-fn give(i: usize, o: u32, depth: usize, held: &[u32; 1024]) -> After
-    requires { ⌜ (i < 1024) × (depth ≤ 1024) × (length (now held) ≡ 1024) ⌝ }
-    ensures led { λ r. ⌜ ((starter : List ℕ) → (j : ℕ)
-        → ruledBy r (now (held .entry)) starter ≡ ruleOf i j 2 o (take depth (now (held .entry))) starter) ⌝ }
-    ensures few { λ r. ⌜ depthBy r ≤ depth ⌝ }
+// The set with the device put in or taken out, if it turns.
+fn flipped(held: u32, d: u32, turns: bool) -> u32
+    ensures { λ r. ⌜ r ≡ cond turns (bitXor held (only (d % 32))) held ⌝ }
 {
-    if depth == 0 {
+    held ^ ((turns as u32) << (d % 32))
+}
+
+// How many devices are held after a take, a give or neither.
+fn deeper(depth: usize, takes: bool, gives: bool) -> usize
+    requires { ⌜ (depth ≤ devices) × (gives ≡ true → 1 ≤ depth) × (gives ≡ true → takes ≡ false) ⌝ }
+    ensures { λ r. ⌜ r ≡ cond takes (depth + 1) (cond gives (depth - 1) depth) ⌝ }
+{
+    depth + takes as usize - gives as usize
+}
+
+// A do, a take or a give, at position i, without a branch on the verb: verbs come in no order, so that the processor
+// would guess such a branch wrong at every other line. The operand is stored above the devices held whatever the verb;
+// it counts where the depth goes up. Below the first device stands 32, which no give names.
+fn held_after(i: usize, n: u32, depth: usize, held: u32, stack: &mut [u32; 34]) -> After
+    requires { ⌜ (i < 1024) × (isLine devices n ≡ true) × (kind n < 3) × Holding depth held (now stack) ⌝ }
+    ensures led { λ r. ⌜ ((starter : List ℕ) → ruledBy r (now (stack .exit)) starter
+        ≡ ruleOf i (job n) (kind n) (operand n) (heldIn depth (now (stack .entry))) starter) ⌝ }
+    ensures keeps { λ r. ⌜ Holding (depthBy r) (setBy r) (now (stack .exit)) ⌝ }
+{
+    let o = n % 256;
+    let takes = n / 256 % 4 == 1;
+    let gives = n / 256 % 4 == 2;
+    if (takes & holds(held, o)) | (gives & (stack[depth] != o)) {
+        if takes {
+            return After::Bad(Refusal::TakeOfHeld((i + 1) as u32));
+        }
         return After::Bad(Refusal::GiveWithoutTake((i + 1) as u32));
     }
-    let t = depth - 1;
-    if held[t] == o {
-        return After::On(t);
-    }
-    After::Bad(Refusal::GiveWithoutTake((i + 1) as u32))
+    let t = depth + 1;
+    stack[t] = o;
+    After::On(deeper(depth, takes, gives), flipped(held, o, takes | gives))
 }
 
 // The verb's own rule, at position i.
-fn rule(i: usize, n: u32, depth: usize, held: &mut [u32; 1024], starter: &mut [u32; 65]) -> After
-    requires { ⌜ (i < 1024) × (depth ≤ i) × (isLine devices n ≡ true) × (length (now held) ≡ 1024)
+fn rule(
+    i: usize,
+    n: u32,
+    depth: usize,
+    held: u32,
+    stack: &mut [u32; 34],
+    starter: &mut [u32; 65],
+) -> After
+    requires { ⌜ (i < 1024) × (isLine devices n ≡ true) × Holding depth held (now stack)
         × (length (now starter) ≡ 65) ⌝ }
-    ensures led { λ r. ⌜ ruledBy r (now (held .exit)) (now (starter .exit))
-        ≡ ruleOf i (job n) (kind n) (operand n) (take depth (now (held .entry))) (now (starter .entry)) ⌝ }
-    ensures few { λ r. ⌜ depthBy r ≤ depth + 1 ⌝ }
-    ensures long { λ r. ⌜ (length (now (held .exit)) ≡ 1024) × (length (now (starter .exit)) ≡ 65) ⌝ }
+    ensures led { λ r. ⌜ ruledBy r (now (stack .exit)) (now (starter .exit))
+        ≡ ruleOf i (job n) (kind n) (operand n) (heldIn depth (now (stack .entry))) (now (starter .entry)) ⌝ }
+    ensures keeps { λ r. ⌜ Holding (depthBy r) (setBy r) (now (stack .exit)) ⌝ }
+    ensures long { λ r. ⌜ length (now (starter .exit)) ≡ 65 ⌝ }
 {
-    let k = n / 256 % 4;
+    if n / 256 % 4 != 3 {
+        return held_after(i, n, depth, held, stack);
+    }
     let o = n % 256;
-    if k == 0 {
-        return After::On(depth);
-    }
-    if k == 1 {
-        if holds(held, depth, o) {
-            return After::Bad(Refusal::TakeOfHeld((i + 1) as u32));
-        }
-        held[depth] = o;
-        return After::On(depth + 1);
-    }
-    if k == 2 {
-        return give(i, o, depth, held);
-    }
     if o <= n / 1024 {
         return After::Bad(Refusal::BadStart((i + 1) as u32));
     }
     let t = o as usize;
     if starter[t] == 0 {
         starter[t] = (i + 1) as u32;
-        return After::On(depth);
+        return After::On(depth, held);
     }
     After::Bad(Refusal::BadStart((i + 1) as u32))
 }
@@ -132,17 +142,17 @@ fn line(
     n: u32,
     prev: u32,
     depth: usize,
-    held: &mut [u32; 1024],
+    held: u32,
+    stack: &mut [u32; 34],
     first: &mut [u32; 65],
     starter: &mut [u32; 65],
 ) -> After
-    requires { ⌜ (depth ≤ i) × (prev ≤ 64) × (length (now held) ≡ 1024) × (length (now first) ≡ 65)
+    requires { ⌜ (prev ≤ 64) × Holding depth held (now stack) × (length (now first) ≡ 65)
         × (length (now starter) ≡ 65) ⌝ }
-    ensures led { λ r. ⌜ nextBy r (now (held .exit)) (now (first .exit)) (now (starter .exit))
-        ≡ stepOf devices n i prev (take depth (now (held .entry))) (now (first .entry)) (now (starter .entry)) ⌝ }
-    ensures few { λ r. ⌜ depthBy r ≤ depth + 1 ⌝ }
-    ensures long { λ r. ⌜ (length (now (held .exit)) ≡ 1024) × (length (now (first .exit)) ≡ 65)
-        × (length (now (starter .exit)) ≡ 65) ⌝ }
+    ensures led { λ r. ⌜ nextBy r (now (stack .exit)) (now (first .exit)) (now (starter .exit))
+        ≡ stepOf devices n i prev (heldIn depth (now (stack .entry))) (now (first .entry)) (now (starter .entry)) ⌝ }
+    ensures keeps { λ r. ⌜ Holding (depthBy r) (setBy r) (now (stack .exit)) ⌝ }
+    ensures long { λ r. ⌜ (length (now (first .exit)) ≡ 65) × (length (now (starter .exit)) ≡ 65) ⌝ }
 {
     if 1024 <= i {
         return After::Bad(Refusal::TooManyLines);
@@ -156,11 +166,11 @@ fn line(
             return After::Bad(Refusal::JobOutOfSequence((i + 1) as u32));
         }
         if j == prev {
-            return rule(i, n, depth, held, starter);
+            return rule(i, n, depth, held, stack, starter);
         }
         let t = j as usize;
         first[t] = (i + 1) as u32;
-        return rule(i, n, 0, held, starter);
+        return rule(i, n, 0, 0, stack, starter);
     }
     After::Bad(Refusal::Malformed((i + 1) as u32))
 }
@@ -172,18 +182,21 @@ fn walk(plan: &[u32], first: &mut [u32; 65], starter: &mut [u32; 65]) -> Checked
         ≡ walkFrom devices 0 0 [] (now (first .entry)) (now (starter .entry)) (now (plan .entry)) ⌝ }
     ensures long { λ r. ⌜ (length (now (first .exit)) ≡ 65) × (length (now (starter .exit)) ≡ 65) ⌝ }
 {
-    let mut held = [0u32; 1024];
+    let mut stack = [0u32; 34];
+    stack[0] = 32;
     let mut depth: usize = 0;
+    let mut held: u32 = 0;
     let mut prev: u32 = 0;
     let mut i: usize = 0;
     while i < plan.len() {
         let n = plan[i];
-        match line(i, n, prev, depth, &mut held, first, starter) {
+        match line(i, n, prev, depth, held, &mut stack, first, starter) {
             After::Bad(r) => {
                 return Checked::Refused(r);
             }
-            After::On(d) => {
+            After::On(d, h) => {
                 depth = d;
+                held = h;
                 prev = n / 1024;
                 i += 1;
             }

@@ -17,8 +17,9 @@ use Rattle.model.specs.Sets.{empty, only, onlyOf, union, member}
 use Rattle.model.specs.Rows.{lastingTakes}
 use Rattle.theory.proofs.Tests.{test, le-or-lt}
 use Rattle.theory.proofs.Sets.{member-empty, member-only, member-union, empty-below, only-below, union-below}
+use Rattle.rows.specs.declared.Held.{Held}
 use Rattle.rows.specs.Lasting.{lastingFlag, heldToEnd, heldTwice, flaggedDevice}
-use Rattle.rows.specs.Holds.{HeldAs}
+use Rattle.rows.specs.Holds.{HeldAs, CountedOn}
 use Rattle.rows.proofs.Where.{is-where}
 
 -- ---- the devices common to two sets
@@ -201,13 +202,13 @@ module _ (p : List ℕ) (held twice k : ℕ) (m : Counted p held twice (suc k)) 
   }
 
 -- one line further back, as the loop counts
-pub one-counted : (p : List ℕ) (held twice i o h t : ℕ) → 0 < i → Counted p held twice i
-    → o ≡ flaggedDevice (at p (i - 1)) (lastingFlag p (i - 1)) → h ≡ union o held → t ≡ union (bitAnd held o) twice
-    → Counted p h t (i - 1)
+pub one-counted : (p : List ℕ) (h h′ : Held) (i flag : ℕ) → 0 < i → Counted p (h .held) (h .twice) i
+    → flag ≡ lastingFlag p (i - 1) → CountedOn h′ h (at p (i - 1)) flag → Counted p (h′ .held) (h′ .twice) (i - 1)
 unfolding one
-one-counted p held twice i o h t lt m eo eh et =
+one-counted p h h′ i flag lt m ef n =
     let e : i ≡ suc (i - 1) = omega arith in
-    rw (eh, et, eo) (counted-on p held twice (i - 1) (subst (λ (x : ℕ). Counted p held twice x) e m))
+    rw (n .toEnd, n .twice, ef)
+    (counted-on p (h .held) (h .twice) (i - 1) (subst (λ (x : ℕ). Counted p (h .held) (h .twice) x) e m))
 
 -- at the front the sets are the plan's
 some-take : (f : ℕ → Bool) (xs : List ℕ) → leb 1 (length (those f xs)) ≡ any f xs
@@ -220,15 +221,14 @@ some-take f (x ∷ xs) = go (f x) (some-take f xs)
     go true ih = sym (counts-one (length (those f xs)))
     go false ih = ih
 
-pub all-counted : (p : List ℕ) (held twice i : ℕ) → i ≤ 0 → Counted p held twice i
-    → HeldAs (record { held = held; twice = twice }) p
+pub all-counted : (p : List ℕ) (h : Held) (i : ℕ) → i ≤ 0 → Counted p (h .held) (h .twice) i → HeldAs h p
 unfolding heldToEnd heldTwice lastingTakes
-all-counted p held twice i h m = record {
+all-counted p h i z m = record {
   toEnd =
-      is-where (λ d. any (λ k. lasting p k d) (positions p)) devices held (m .heldBelow)
-      (λ d k. m .heldIs d k ∙ ap (λ xs. leb 1 (length xs)) (takes-all p d i h)
+      is-where (λ d. any (λ k. lasting p k d) (positions p)) devices (h .held) (m .heldBelow)
+      (λ d k. m .heldIs d k ∙ ap (λ xs. leb 1 (length xs)) (takes-all p d i z)
       ∙ some-take (λ k. lasting p k d) (positions p));
   twice =
-      is-where (λ d. leb 2 (length (lastingTakes p d))) devices twice (m .twiceBelow)
-      (λ d k. m .twiceIs d k ∙ ap (λ xs. leb 2 (length xs)) (takes-all p d i h));
+      is-where (λ d. leb 2 (length (lastingTakes p d))) devices (h .twice) (m .twiceBelow)
+      (λ d k. m .twiceIs d k ∙ ap (λ xs. leb 2 (length xs)) (takes-all p d i z));
 }

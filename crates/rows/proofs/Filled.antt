@@ -1,18 +1,13 @@
--- A list that a loop fills from its front: the places passed have their new entries, the others their old ones. What a
--- loop leaves at its end is the new entries in their order.
+-- The entries of a list by their places, and a list that a loop changes from its front: at the loop's end every entry
+-- is changed.
 use Prim.Native.Nat.{ℕ, zero, suc, _+_, _<_, _≤_}
-use mathlib.Core.Bool.{true, false}
-use mathlib.Core.List.{List, map}
-use mathlib.Core.Logic.{_⊎_, inl, inr}
+use mathlib.Core.List.{List, [], _∷_, map}
 use mathlib.Core.Path.{_≡_, refl, sym, _∙_, ap}
 use native.Mathlib.Nat.{add-zero, zero-add}
+use native.Mathlib.Numerals.{add-one}
 use native.Mathlib.Omega.{arith}
-use lib.Dec.{eqb}
-use lib.ListN.{length, getD, set, length-set, length-map}
-use lib.Seq.{getD-set-same, getD-set-other, ext-getD}
-use borrow.Author.Tests.{eqb-true, eqb-false}
+use lib.ListN.{length, getD, set, length-map}
 use Rattle.model.specs.Lists.{upFrom}
-use Rattle.theory.proofs.Tests.{test}
 use Rattle.theory.proofs.Claims.{length-upFrom}
 
 module _ {A : Type 0} (f : ℕ → A) (d : A) where
@@ -28,31 +23,28 @@ module _ {A : Type 0} (f : ℕ → A) (d : A) where
   pub length-entries : (a n : ℕ) → length (map f (upFrom a n)) ≡ n
   length-entries a n = length-map (upFrom a n) f ∙ length-upFrom a n
 
-  -- N places in all, of which the first n are filled
-  pub record Filled (N : ℕ) (old new : List A) (n : ℕ) : Type 0 where
-    pub long : length new ≡ N
-    pub done : (i : ℕ) → i < n → getD new i d ≡ f i
-    pub rest : (i : ℕ) → n ≤ i → getD new i d ≡ getD old i d
+-- the first n entries of a list changed by g, the others as they were
+module _ (g : ℕ → ℕ) where
+  unfoldable pub filled : ℕ → List ℕ → List ℕ
+  filled zero old = old
+  filled (suc n) [] = []
+  filled (suc n) (x ∷ old) = g x ∷ filled n old
 
-  pub none-filled : (N : ℕ) (old : List A) → length old ≡ N → Filled N old old 0
-  none-filled N old h = record { long = h; done = λ i k. absurd (omega arith); rest = λ i k. refl }
+  next-filled : (n : ℕ) (old : List ℕ) → set (filled n old) n (g (getD (filled n old) n 0)) ≡ filled (suc n) old
+  unfolding filled
+  next-filled zero [] = refl
+  next-filled zero (x ∷ old) = refl
+  next-filled (suc n) [] = refl
+  next-filled (suc n) (x ∷ old) = ap (λ (xs : List ℕ). g x ∷ xs) (next-filled n old)
 
-  pub one-filled : (N : ℕ) (old new : List A) (n : ℕ) (v : A) → n < N → v ≡ f n → Filled N old new n
-      → Filled N old (set new n v) (n + 1)
-  one-filled N old new n v h e s = record {
-    long = length-set new n v ∙ s .long;
-    done = λ i k. at i k (test (eqb i n));
-    rest = λ i k. getD-set-other new n i v d (λ q. omega arith) ∙ s .rest i (omega arith);
-  }
-    where
-      at : (i : ℕ) → i < n + 1 → (eqb i n ≡ true) ⊎ (eqb i n ≡ false) → getD (set new n v) i d ≡ f i
-      at i k (inl q) =
-          let z = eqb-true i n q in
-          ap (λ (x : ℕ). getD (set new n v) x d) z ∙ getD-set-same new n v d (omega (arith, s .long)) ∙ e ∙ ap f (sym z)
-      at i k (inr q) =
-          let z = eqb-false i n q in getD-set-other new n i v d z ∙ s .done i (omega arith)
+  -- one entry more, as a loop counts
+  pub one-filled : (old new : List ℕ) (n v : ℕ) → new ≡ filled n old → v ≡ g (getD new n 0)
+      → set new n v ≡ filled (n + 1) old
+  one-filled old new n v e q = rw (q, e, add-one) (next-filled n old)
 
-  pub all-filled : (N : ℕ) (old new : List A) (n : ℕ) → N ≤ n → Filled N old new n → new ≡ map f (upFrom 0 N)
-  all-filled N old new n h s =
-      ext-getD d new (map f (upFrom 0 N)) (s .long ∙ sym (length-entries 0 N))
-      (λ i k. s .done i (omega (arith, s .long)) ∙ sym (entry-of N i (omega (arith, s .long))))
+  pub all-filled : (n : ℕ) (old : List ℕ) → length old ≤ n → filled n old ≡ map g old
+  unfolding filled
+  all-filled zero [] h = refl
+  all-filled zero (x ∷ old) h = absurd (omega arith)
+  all-filled (suc n) [] h = refl
+  all-filled (suc n) (x ∷ old) h = ap (λ (xs : List ℕ). g x ∷ xs) (all-filled n old (omega arith))

@@ -1,32 +1,32 @@
 -- The rows by going back (01, "Claims and rows"): for each job the claim set of its first line so far is what a line
 -- before it claims beyond itself, so at a lasting take it is joined to the row of its device.
-use Prim.Native.Nat.{ℕ, suc, _+_, _-_, _<_, _≤_}
+use Prim.Native.Nat.{ℕ, suc, _-_, _<_, _≤_}
 use mathlib.Core.Bool.{Bool, true, false, cond, _&&_}
-use mathlib.Core.List.{List, [], _∷_, _++_, map}
+use mathlib.Core.List.{List, _∷_, map}
 use mathlib.Core.Logic.{_⊎_, inl, inr}
 use mathlib.Core.Option.{none}
 use mathlib.Core.Path.{_≡_, refl, sym, _∙_, ap, subst}
-use native.Mathlib.Nat.{add-zero}
 use native.Mathlib.Omega.{arith}
-use lib.Bits.{or-zero-l, or-zero-r}
-use lib.Dec.{eqb, ltb}
+use lib.Dec.{eqb}
 use lib.ListN.{length, getD, drop, set, replicate, length-set, getD-replicate, drop-of-length-le}
-use lib.Seq.{drop-cons, getD-drop, getD-set-same, getD-set-other, ext-getD}
-use borrow.Author.Tests.{eqb-true, eq-eqb, eqb-false, ne-eqb, lt-ltb}
+use lib.Seq.{drop-cons, getD-set-same, getD-set-other, ext-getD}
+use borrow.Author.Tests.{eqb-true, eq-eqb, eqb-false}
 use Rattle.model.specs.Board.{devices}
 use Rattle.model.specs.Lists.{upFrom}
 use Rattle.model.specs.Line.{job, operand, isTake, isStart, isLine, at, firstLine, maxLines}
 use Rattle.model.specs.Mate.{takesAt, deviceAt, lastingAt, lasting}
 use Rattle.model.specs.WellFormed.{fault, WellFormed}
-use Rattle.model.specs.Sets.{empty, only, onlyOf, union, unionOf}
-use Rattle.model.specs.Claims.{successors, own, joined, table, beyond}
+use Rattle.model.specs.Sets.{empty, union, unionOf}
+use Rattle.model.specs.Claims.{own, joined, table, beyond}
 use Rattle.model.specs.Rows.{rowOf, rows}
-use Rattle.theory.proofs.Tests.{clash, test, and-split}
+use Rattle.theory.proofs.Tests.{test, and-split}
 use Rattle.theory.proofs.Line.{take-no-start}
-use Rattle.theory.proofs.Claims.{claim, claim-is}
+use Rattle.theory.proofs.Claims.{claim, claim-is, length-table}
 use Rattle.theory.proofs.WellFormed.{no-fault-exactly}
 use Rattle.theory.proofs.OnlyIf.{length-rows}
-use Rattle.rows.specs.Lasting.{lastingFlag, rowJoined, ownOf, startedOf, claimOf}
+use Rattle.claims.proofs.Joining.{setOf, union-none, beyond-is, set-here, set-there, own-is}
+use Rattle.rows.specs.Lasting.{lastingFlag, rowJoined, startedOf, claimOf}
+use Rattle.rows.specs.Holds.{GatheredOn}
 use Rattle.rows.proofs.Filled.{entry-of}
 use Rattle.rows.proofs.Verbs.{job-small, started-small, taken-small}
 use Rattle.rows.proofs.Counted.{lasting-is, takesFrom, takes-past, takes-here, takes-later, takes-all}
@@ -60,111 +60,30 @@ flagged-small p k flag fine h e o = go (lastingAt p k) refl (sym e ∙ o)
 
 -- ---- the claim set of a job's first line from a line on
 
-pub firstSet : List ℕ → ℕ → ℕ → ℕ
-firstSet p i j = joined (drop i (table p)) (firstLine j (drop i p))
-
--- a job has one first line or none
-data AtMostOne : List ℕ → Type 0 where
-  nothing : AtMostOne []
-  single : (o : ℕ) → AtMostOne (o ∷ [])
-
-first-one : (j : ℕ) (ls : List ℕ) → AtMostOne (firstLine j ls)
-unfolding firstLine
-first-one j [] = nothing
-first-one j (l ∷ ls) = go (eqb (job l) j) (firstLine j ls) (first-one j ls)
-  where
-    go : (b : Bool) (xs : List ℕ) → AtMostOne xs → AtMostOne (elim b [ true ↦ 0 ∷ [] | false ↦ map suc xs ])
-    go true xs m = single 0
-    go false [] nothing = nothing
-    go false (o ∷ []) (single x) = single (suc o)
-
-union-empty : (s : ℕ) → union s empty ≡ s
-unfolding union empty
-union-empty s = or-zero-r s
-
-empty-union : (s : ℕ) → union empty s ≡ s
-unfolding union empty
-empty-union s = or-zero-l s
-
--- the union over a first line, if there is one, and more
-joined-split : (t xs ys : List ℕ) → AtMostOne xs → joined t (xs ++ ys) ≡ union (joined t xs) (joined t ys)
-unfolding joined unionOf
-joined-split t [] ys nothing = sym (empty-union (joined t ys))
-joined-split t (o ∷ []) ys (single x) = ap (λ (s : ℕ). union s (joined t ys)) (sym (union-empty (getD t o 0)))
-
--- places one further on are those of the rest
-joined-suc : (t xs : List ℕ) (i : ℕ) → joined (drop i t) (map suc xs) ≡ joined (drop (suc i) t) xs
-unfolding joined unionOf
-joined-suc t [] i = refl
-joined-suc t (o ∷ os) i =
-    let z : i + suc o ≡ suc i + o = omega arith in
-    let e : getD (drop i t) (suc o) 0 ≡ getD (drop (suc i) t) o 0 =
-    getD-drop i t (suc o) 0 ∙ ap (λ (n : ℕ). getD t n 0) z ∙ sym (getD-drop (suc i) t o 0) in
-    cc (joined-suc t os i)
+abbrev pub firstSet : List ℕ → ℕ → ℕ → ℕ
+firstSet p i j = setOf (drop i (table p)) (drop i p) j
 
 module _ (p : List ℕ) where
   pub first-past : (i j : ℕ) → length p ≤ i → firstSet p i j ≡ 0
-  unfolding firstSet joined unionOf empty firstLine
+  unfolding joined unionOf empty firstLine
   first-past i j h = rw (drop-of-length-le p h)
 
   module _ (k : ℕ) (h : k < length p) where
+    -- with the line in front
+    first-step : (j : ℕ) → firstSet p k j ≡ setOf (claim p k ∷ drop (suc k) (table p)) (at p k ∷ drop (suc k) p) j
+    first-step j =
+        ap (λ xs. setOf xs (drop k p) j) (drop-cons (table p) k 0 (omega (arith, length-table p)))
+        ∙ ap (λ ls. setOf (claim p k ∷ drop (suc k) (table p)) ls j) (drop-cons p k 0 h)
+
     pub first-here : firstSet p k (job (at p k)) ≡ claim p k
-    unfolding firstSet firstLine joined unionOf
     first-here =
-        ap (λ (ls : List ℕ). joined (drop k (table p)) (firstLine (job (at p k)) ls)) (drop-cons p k 0 h)
-        ∙ go (eqb (job (at p k)) (job (at p k))) (eq-eqb (job (at p k)) (job (at p k)) refl)
-      where
-        zeroth : union (getD (drop k (table p)) 0 0) empty ≡ claim p k
-        zeroth =
-            union-empty (getD (drop k (table p)) 0 0) ∙ getD-drop k (table p) 0 0
-            ∙ ap (λ (n : ℕ). getD (table p) n 0) (add-zero k)
+        first-step (job (at p k))
+        ∙ set-here (claim p k) (at p k) (drop (suc k) (table p)) (drop (suc k) p) (job (at p k))
+        (eq-eqb (job (at p k)) (job (at p k)) refl)
 
-        go : (b : Bool) → b ≡ true
-            → joined (drop k (table p)) (elim b [
-              | true ↦ 0 ∷ []
-              | false ↦ map suc (firstLine (job (at p k)) (drop (suc k) p))
-            ])
-            ≡ claim p k
-        go true e = zeroth
-        go false e = clash false e refl
-
-    pub first-other : (j : ℕ) → (job (at p k) ≡ j → ⊥) → firstSet p k j ≡ firstSet p (suc k) j
-    unfolding firstSet firstLine
-    first-other j n =
-        ap (λ (ls : List ℕ). joined (drop k (table p)) (firstLine j ls)) (drop-cons p k 0 h)
-        ∙ go (eqb (job (at p k)) j) (ne-eqb (job (at p k)) j n)
-      where
-        go : (b : Bool) → b ≡ false
-            → joined (drop k (table p)) (elim b [ true ↦ 0 ∷ [] | false ↦ map suc (firstLine j (drop (suc k) p)) ])
-            ≡ joined (drop (suc k) (table p)) (firstLine j (drop (suc k) p))
-        go true e = clash true refl e
-        go false e = joined-suc (table p) (firstLine j (drop (suc k) p)) k
-
-    -- what lies beyond a line: its job's next line, and at a start the first line of the started job
-    beyond-is : beyond p (table p) k
-        ≡ union (firstSet p (suc k) (job (at p k)))
-        (cond (isStart (at p k)) (firstSet p (suc k) (operand (at p k))) empty)
-    unfolding beyond successors firstSet
-    beyond-is =
-        joined-split t (firstLine (job l) ls) (cond (isStart l) (firstLine (operand l) ls) []) (first-one (job l) ls)
-        ∙ ap (union (joined t (firstLine (job l) ls))) (go (isStart l))
-      where
-        l : ℕ
-        l = at p k
-
-        ls : List ℕ
-        ls = drop (suc k) p
-
-        t : List ℕ
-        t = drop (suc k) (table p)
-
-        none-joined : joined t [] ≡ empty
-        none-joined = refl
-
-        go : (b : Bool) → joined t (cond b (firstLine (operand l) ls) [])
-            ≡ cond b (joined t (firstLine (operand l) ls)) empty
-        go true = refl
-        go false = none-joined
+    pub first-other : (j : ℕ) → eqb (job (at p k)) j ≡ false → firstSet p k j ≡ firstSet p (suc k) j
+    first-other j e =
+        first-step j ∙ set-there (claim p k) (at p k) (drop (suc k) (table p)) (drop (suc k) p) j e
 
 -- ---- the walk back
 
@@ -218,32 +137,22 @@ module _ (p rs sets : List ℕ) (k : ℕ) (fine : fault devices p ≡ none) (m :
       go true e = m .setsAre (operand (at p k)) (started-small devices (at p k) isIt e)
       go false e = refl
 
-  own-is : ownOf (at p k) ≡ own p k
-  unfolding ownOf own takesAt deviceAt onlyOf
-  own-is = go (isTake (at p k)) refl
-    where
-      go : (b : Bool) → isTake (at p k) ≡ b
-          → cond b (cond (ltb (operand (at p k)) devices) (only (operand (at p k))) empty) empty
-          ≡ cond b (only (operand (at p k))) empty
-      go true e = rw (lt-ltb (operand (at p k)) devices (taken-small devices (at p k) isIt e))
-      go false e = refl
-
   -- which is the table's
   claim-made : claimOf (at p k) next sets ≡ claim p k
   unfolding claimOf
   claim-made =
-      rw (own-is, next-is, started-is)
-      (ap (union (own p k)) (sym (beyond-is p k inPlan)) ∙ sym (claim-is p k inPlan))
+      rw (own-is devices p k isIt, next-is, started-is)
+      (ap (union (own p k)) (sym (beyond-is p (table p) k)) ∙ sym (claim-is p k inPlan))
 
   -- beyond a lasting take lies what its job claims after it
   beyond-take : isTake (at p k) ≡ true → beyond p (table p) k ≡ next
   beyond-take t =
-      beyond-is p k inPlan
+      beyond-is p (table p) k
       ∙ ap
       (λ (b : Bool). union (firstSet p (suc k) (job (at p k)))
       (cond b (firstSet p (suc k) (operand (at p k))) empty))
       (take-no-start (at p k) t)
-      ∙ union-empty (firstSet p (suc k) (job (at p k)))
+      ∙ union-none (firstSet p (suc k) (job (at p k)))
       ∙ sym next-is
 
   -- the sets of the jobs after the line
@@ -260,7 +169,7 @@ module _ (p rs sets : List ℕ) (k : ℕ) (fine : fault devices p ≡ none) (m :
       go (inr e) =
           let z = eqb-false (job (at p k)) j e in
           getD-set-other sets (job (at p k)) j (claim p k) 0 (λ q. z (sym q)) ∙ m .setsAre j h
-          ∙ sym (first-other p k inPlan j z)
+          ∙ sym (first-other p k inPlan j e)
 
   -- a line that is no lasting take of d leaves its row
   row-later : (d : ℕ) → lasting p k d ≡ false → rowFrom p d (suc k) ≡ rowFrom p d k
@@ -325,14 +234,13 @@ module _ (p rs sets : List ℕ) (k : ℕ) (fine : fault devices p ≡ none) (m :
   })
 
 -- one line further back, as the loop counts
-pub one-gathered : (p rs sets : List ℕ) (i flag s : ℕ) (new : List ℕ) → 0 < i → fault devices p ≡ none
-    → Gathered p rs sets i → flag ≡ lastingFlag p (i - 1)
-    → new ≡ rowJoined (at p (i - 1)) flag (getD sets (job (at p (i - 1))) 0) rs
-    → s ≡ claimOf (at p (i - 1)) (getD sets (job (at p (i - 1))) 0) sets
-    → Gathered p new (set sets (job (at p (i - 1))) s) (i - 1)
-one-gathered p rs sets i flag s new h fine m ef en es =
+pub one-gathered : (p rs sets rs′ sets′ : List ℕ) (i flag : ℕ) → 0 < i → fault devices p ≡ none
+    → Gathered p rs sets i → flag ≡ lastingFlag p (i - 1) → GatheredOn (at p (i - 1)) flag rs sets rs′ sets′
+    → Gathered p rs′ sets′ (i - 1)
+one-gathered p rs sets rs′ sets′ i flag h fine m ef n =
     let e : i ≡ suc (i - 1) = omega arith in
-    rw (en, es, ef) (gathered-on p rs sets (i - 1) fine (subst (λ (x : ℕ). Gathered p rs sets x) e m))
+    rw (n .rowsAre, n .setsAre, ef)
+    (gathered-on p rs sets (i - 1) fine (subst (λ (x : ℕ). Gathered p rs sets x) e m))
 
 -- at the front the rows are the plan's
 pub all-gathered : (p rs sets : List ℕ) (i : ℕ) → i ≤ 0 → Gathered p rs sets i → rs ≡ rows devices p

@@ -7,6 +7,7 @@ pub mod Verbs
 pub mod Wanted
 pub mod Counted
 pub mod Gathered
+pub mod Walked
 pub mod Searched
 pub mod Outcome
 pub mod Tight

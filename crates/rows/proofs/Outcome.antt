@@ -1,12 +1,11 @@
 -- The outcome of the holds of a plan by what the scan found (01, "Refusal numbers", 2 to 8).
 use Prim.Native.Nat.{ℕ}
 use mathlib.Core.List.{List}
-use mathlib.Core.Option.{Option, none, some}
-use mathlib.Core.Path.{_≡_, refl, sym, _∙_, ap}
+use mathlib.Core.Option.{none, some}
+use mathlib.Core.Path.{_≡_, sym, _∙_, ap}
 use Rattle.model.specs.Board.{devices}
 use Rattle.model.specs.WellFormed.{fault}
 use Rattle.model.specs.declared.Refusal.{Refusal}
-use Rattle.plan.specs.Checked.{checked}
 use Rattle.plan.specs.Ends.{leftBy, ScansAs}
 use Rattle.plan.specs.declared.Checked.{Checked}
 use Rattle.plan.proofs.Told.{told, untold}

@@ -1,13 +1,13 @@
 -- A line's kind as the code reads it off a packed number (01, "Packed"), and what a line's kind says of its operand.
 use Prim.Native.Nat.{ℕ, _/_, _%_, _<_}
 use mathlib.Core.Bool.{true, false}
-use mathlib.Core.Logic.{inl, inr}
 use mathlib.Core.Path.{_≡_}
 use native.Mathlib.Omega.{arith}
 use borrow.Author.Tests.{eq-eqb, ne-eqb, eqb-true}
 use Rattle.model.specs.Line.{job, kind, operand, isTake, isGive, isStart, isLine}
 use Rattle.theory.proofs.Tests.{or-left}
-use Rattle.theory.proofs.Line.{Fits, ofDo, ofDevice, ofStart, line-parts, device-line}
+use Rattle.theory.proofs.Line.{line-parts, device-line}
+use Rattle.claims.proofs.Joining.{start-job}
 
 module _ (l : ℕ) where
   pub takes-1 : l / 256 % 4 ≡ 1 → isTake l ≡ true
@@ -40,13 +40,7 @@ job-small D l h = omega (arith, line-parts D l h .1)
 
 pub started-small : (D l : ℕ) → isLine D l ≡ true → isStart l ≡ true → operand l < 65
 unfolding isStart
-started-small D l h s = go (eqb-true (kind l) 3 s) (line-parts D l h .2)
-  where
-    go : kind l ≡ 3 → Fits D (kind l) (operand l) → operand l < 65
-    go e (ofStart k a b) = omega arith
-    go e (ofDo k a) = absurd (omega arith)
-    go e (ofDevice (inl k) a) = absurd (omega arith)
-    go e (ofDevice (inr k) a) = absurd (omega arith)
+started-small D l h s = omega (arith, start-job D l h (eqb-true (kind l) 3 s))
 
 -- the device of a take is on the board
 pub taken-small : (D l : ℕ) → isLine D l ≡ true → isTake l ≡ true → operand l < D

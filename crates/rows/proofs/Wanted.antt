@@ -156,6 +156,26 @@ flag-is p k =
     (zero-test (wanted (job (at p k)) (drop (suc k) p))
     ∙ sym (none-mates (job (at p k)) 0 (suc k) (drop (suc k) p)))
 
+-- what the walk makes of a line of whatever job: no more is wanted than a plan has lines
+after-made : (p flags : List ℕ) (j w i l : ℕ) → Marked p flags j w i → wantedAfter l j w ≡ wanted (job l) (drop i p)
+after-made p flags j w i l m = rw (m .jobIs, m .wantedIs) (after-is p l i)
+
+pub after-small : (p flags : List ℕ) (j w i l a : ℕ) → length p ≤ maxLines → Marked p flags j w i
+    → a ≡ wantedAfter l j w → a ≤ maxLines
+after-small p flags j w i l a few m e =
+    omega (arith, after-made p flags j w i l m, wanted-few (job l) (drop i p), length-drop i p)
+
+-- the flag of the line before, as the loop counts
+pub flag-made : (p flags : List ℕ) (j w i a v : ℕ) → 0 < i → Marked p flags j w i
+    → a ≡ wantedAfter (at p (i - 1)) j w → v ≡ lastsFlag (at p (i - 1)) a → v ≡ lastingFlag p (i - 1)
+flag-made p flags j w i a v h m ea ev =
+    let l : ℕ = at p (i - 1) in
+    let e : i ≡ suc (i - 1) = omega arith in
+    ev
+    ∙ ap (lastsFlag l)
+    (ea ∙ after-made p flags j w i l m ∙ ap (λ (x : ℕ). wanted (job l) (drop x p)) e)
+    ∙ flag-is p (i - 1)
+
 -- one line further back
 module _ (p flags : List ℕ) (j w k : ℕ) (few : length p ≤ maxLines) (m : Marked p flags j w (suc k)) where
   after : ℕ
@@ -163,7 +183,7 @@ module _ (p flags : List ℕ) (j w k : ℕ) (few : length p ≤ maxLines) (m : M
 
   after-wanted : after ≡ wanted (job (at p k)) (drop (suc k) p)
   unfolding after
-  after-wanted = rw (m .jobIs, m .wantedIs) (after-is p (at p k) (suc k))
+  after-wanted = after-made p flags j w (suc k) (at p k) m
 
   marked-on : Marked p (set flags k (lastsFlag (at p k) (wantedAfter (at p k) j w))) (job (at p k))
       (wantedBefore (at p k) (wantedAfter (at p k) j w)) k
@@ -186,13 +206,6 @@ module _ (p flags : List ℕ) (j w k : ℕ) (few : length p ≤ maxLines) (m : M
       at-place i h g (inr q) =
           let z = eqb-false i k q in
           getD-set-other flags k i (lastsFlag (at p k) after) 0 z ∙ m .done i (omega arith) g
-
--- no more is wanted than a plan has lines
-pub after-small : (p flags : List ℕ) (j w i l a : ℕ) → length p ≤ maxLines → Marked p flags j w i
-    → a ≡ wantedAfter l j w → a ≤ maxLines
-after-small p flags j w i l a few m e =
-    let z : wantedAfter l j w ≡ wanted (job l) (drop i p) = rw (m .jobIs, m .wantedIs) (after-is p l i) in
-    omega (arith, wanted-few (job l) (drop i p), length-drop i p)
 
 -- one line further back, as the loop counts
 pub one-marked : (p flags : List ℕ) (j w i a v x : ℕ) → 0 < i → length p ≤ maxLines → Marked p flags j w i

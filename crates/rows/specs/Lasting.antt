@@ -59,15 +59,12 @@ unfolding operand union
 rowJoined l flag next rows =
     cond (eqb flag 1) (set rows (operand l) (union next (getD rows (operand l) 0))) rows
 
--- a line's own claim, and its claim set: with what its job claims after it and, at a start, what the started job claims
-unfoldable pub ownOf : ℕ → ℕ
-unfolding isTake onlyOf operand empty
-ownOf l = cond (isTake l) (onlyOf devices (operand l)) empty
-
+-- what the job claims that a line starts, and the line's claim set: its own claim, with what its job claims after it
+-- and what the started job claims
 unfoldable pub startedOf : ℕ → List ℕ → ℕ
 unfolding isStart operand empty
 startedOf l sets = cond (isStart l) (getD sets (operand l) 0) empty
 
 unfoldable pub claimOf : ℕ → ℕ → List ℕ → ℕ
-unfolding ownOf startedOf union
-claimOf l next sets = union (ownOf l) (union next (startedOf l sets))
+unfolding isTake onlyOf operand empty startedOf union
+claimOf l next sets = union (cond (isTake l) (onlyOf devices (operand l)) empty) (union next (startedOf l sets))

@@ -3,71 +3,55 @@
 use model::Refusal;
 use plan::Checked;
 ghost use mathlib.Core.Path.{_≡_};
-ghost use mathlib.Core.Bool.{true, false};
+ghost use mathlib.Core.Bool.{true};
 ghost use mathlib.Core.Option.{none};
-ghost use mathlib.Core.List.{map};
-ghost use Prim.Native.Nat.{_*_, _≤_, _<_};
+ghost use Prim.Native.Nat.{_≤_, _<_};
 ghost use lib.ListN.{length};
-ghost use Rattle.model.specs.Lists.{upFrom};
 ghost use Rattle.model.specs.Board.{devices};
 ghost use Rattle.model.specs.Line.{operand, isLine, maxLines};
 ghost use Rattle.model.specs.WellFormed.{fault};
 ghost use Rattle.rows.specs.Where.{onlyIf, devicesWhere, circlesOf};
-ghost use Rattle.rows.specs.Lasting.{lastingFlags, wantedBefore, wantedAfter, lastsFlag, flaggedDevice};
-ghost use Rattle.rows.specs.Lasting.{rowJoined, ownOf, startedOf, claimOf};
-ghost use Rattle.rows.specs.Holds.{HeldAs, WalkedAs, HoldsAs, rowsOf};
-ghost use Rattle.rows.specs.Square.{places, flag, spreadOf, throughOne, swept, closed};
+ghost use Rattle.rows.specs.Lasting.{wantedBefore, wantedAfter, lastsFlag, flaggedDevice};
+ghost use Rattle.rows.specs.Lasting.{rowJoined, startedOf, claimOf};
+ghost use Rattle.rows.specs.Holds.{CountedOn, GatheredOn, WalkedAs, HoldsAs};
+ghost use Rattle.rows.specs.Square.{ledBy, swept, closed, inOwnRow};
 
-// The square of flags: each device leads to the members of its row.
-fn spread(rows: &[u32], flags: &mut [bool])
-    requires { ⌜ (length (now rows) ≡ devices) × (length (now flags) ≡ places) ⌝ }
-    ensures { λ r. ⌜ now (flags .exit) ≡ map (spreadOf (now (rows .entry))) (upFrom 0 places) ⌝ }
+// The circle search keeps a square of flags, a row of it in a word: it starts as the rows.
+
+// The row of a device with what device k leads to, where the row has k. The answer is chosen and the caller always
+// stores it, so that the loop over the rows takes several of them at a time.
+fn led(row: u32, through: u32, k: u32) -> u32
+    ensures { λ r. ⌜ r ≡ ledBy k through row ⌝ }
 {
-    let mut n: usize = 0;
-    while n < 1024 {
-        let row = rows[n / 32];
-        let e = (n % 32) as u32;
-        let leads = sets::member(row, e);
-        flags[n] = leads;
-        n += 1;
+    if sets::member(row, k) {
+        return sets::union(row, through);
+    }
+    row
+}
+
+// One sweep: every device that leads to k leads to what k leads to. The row of k itself is not changed by it.
+fn sweep(square: &mut [u32], k: usize)
+    requires { ⌜ (k < devices) × (length (now square) ≡ devices) ⌝ }
+    ensures { λ r. ⌜ now (square .exit) ≡ swept k (now (square .entry)) ⌝ }
+{
+    let through = square[k];
+    let mut d: usize = 0;
+    while d < 32 {
+        let row = led(square[d], through, k as u32);
+        square[d] = row;
+        d += 1;
     }
 }
 
-// Does the device of a place lead to the other also through device k?
-fn through(flags: &[bool], k: usize, n: usize) -> bool
-    requires { ⌜ (k < devices) × (n < places) × (length (now flags) ≡ places) ⌝ }
-    ensures { λ r. ⌜ r ≡ throughOne k (now (flags .entry)) n ⌝ }
-{
-    if flags[n] {
-        return true;
-    }
-    if flags[n / 32 * 32 + k] {
-        return flags[k * 32 + n % 32];
-    }
-    false
-}
-
-// One sweep: every device that leads to k leads to what k leads to.
-fn sweep(flags: &mut [bool], k: usize)
-    requires { ⌜ (k < devices) × (length (now flags) ≡ places) ⌝ }
-    ensures { λ r. ⌜ now (flags .exit) ≡ swept k (now (flags .entry)) ⌝ }
-{
-    let mut n: usize = 0;
-    while n < 1024 {
-        let leads = through(flags, k, n);
-        flags[n] = leads;
-        n += 1;
-    }
-}
-
-// The closure: a sweep for each device.
-fn close(flags: &mut [bool])
-    requires { ⌜ length (now flags) ≡ places ⌝ }
-    ensures { λ r. ⌜ now (flags .exit) ≡ closed devices (now (flags .entry)) ⌝ }
+// The closure: a sweep for each device. The square has as many rows.
+fn close(square: &mut [u32; 32])
+    ensures { λ r. ⌜
+        (length (now (square .entry)) ≡ devices) × (now (square .exit) ≡ closed devices (now (square .entry)))
+        ⌝ }
 {
     let mut k: usize = 0;
     while k < 32 {
-        sweep(flags, k);
+        sweep(square, k);
         k += 1;
     }
 }
@@ -83,16 +67,15 @@ fn only_if(passed: bool, d: u32) -> u32
     0
 }
 
-// The devices with a flag on the diagonal.
-fn diagonal(flags: &[bool]) -> u32
-    requires { ⌜ length (now flags) ≡ places ⌝ }
-    ensures { λ r. ⌜ r ≡ devicesWhere devices (λ d. flag (now (flags .entry)) (d * 33)) ⌝ }
+// The devices whose own row has them.
+fn diagonal(square: &[u32; 32]) -> u32
+    ensures { λ r. ⌜ r ≡ devicesWhere devices (inOwnRow (now (square .entry))) ⌝ }
 {
     let mut s: u32 = 0;
     let mut d: usize = 32;
     while 0 < d {
         d -= 1;
-        let back = flags[d * 33];
+        let back = sets::member(square[d], d as u32);
         let one = only_if(back, d as u32);
         s = sets::union(one, s);
     }
@@ -103,10 +86,9 @@ fn diagonal(flags: &[bool]) -> u32
 pub fn circles(rows: &[u32; 32]) -> u32
     ensures { λ r. ⌜ r ≡ circlesOf (now (rows .entry)) ⌝ }
 {
-    let mut flags = [false; 1024];
-    spread(rows, &mut flags);
-    close(&mut flags);
-    diagonal(&flags)
+    let mut square = *rows;
+    close(&mut square);
+    diagonal(&square)
 }
 
 // What is wanted before a line, with so many gives wanting their takes after it.
@@ -150,26 +132,6 @@ fn lasts(l: u32, after: u32) -> u8
     0
 }
 
-// The flags of the lasting takes, from the plan's end.
-fn mark(plan: &[u32], lasting: &mut [u8; 1024])
-    requires { ⌜ length (now plan) ≤ maxLines ⌝ }
-    ensures { λ r. ⌜ now (lasting .exit) ≡ lastingFlags (now (plan .entry)) ⌝ }
-{
-    *lasting = [0u8; 1024];
-    let mut job: u32 = 0;
-    let mut wanted: u32 = 0;
-    let mut i = plan.len();
-    while 0 < i {
-        i -= 1;
-        let l = plan[i];
-        let after = wanted_after(l, job, wanted);
-        let flag = lasts(l, after);
-        lasting[i] = flag;
-        wanted = wanted_before(l, after);
-        job = l / 1024;
-    }
-}
-
 // The devices held to the end, and those of them with two lasting takes.
 struct Held {
     held: u32,
@@ -186,22 +148,16 @@ fn flagged_device(l: u32, flag: u8) -> u32
     0
 }
 
-// The two sets, from the plan's end.
-fn held_sets(plan: &[u32], lasting: &[u8; 1024]) -> Held
-    requires { ⌜ (length (now plan) ≤ maxLines) × (now lasting ≡ lastingFlags (now plan)) ⌝ }
-    ensures { λ r. ⌜ HeldAs r (now (plan .entry)) ⌝ }
+// The two sets with the device of a line that is flagged: one that was held already is held twice.
+fn count_held(h: Held, l: u32, flag: u8) -> Held
+    ensures { λ r. ⌜ CountedOn r h l flag ⌝ }
 {
-    let mut held: u32 = 0;
-    let mut twice: u32 = 0;
-    let mut i = plan.len();
-    while 0 < i {
-        i -= 1;
-        let one = flagged_device(plan[i], lasting[i]);
-        let again = held & one;
-        twice = sets::union(again, twice);
-        held = sets::union(one, held);
+    let one = flagged_device(l, flag);
+    let again = h.held & one;
+    Held {
+        held: sets::union(one, h.held),
+        twice: sets::union(again, h.twice),
     }
-    Held { held, twice }
 }
 
 // What lies beyond a flagged line is joined to the row of its device.
@@ -214,16 +170,6 @@ fn join_row(l: u32, flag: u8, next: u32, rows: &mut [u32; 32])
         let row = rows[d];
         rows[d] = sets::union(next, row);
     }
-}
-
-// A line's own claim.
-fn own(l: u32) -> u32
-    ensures { λ r. ⌜ r ≡ ownOf l ⌝ }
-{
-    if l / 256 % 4 == 1 {
-        return sets::only(l % 256);
-    }
-    0
 }
 
 // What the job claims that a line starts.
@@ -245,36 +191,48 @@ fn claim(l: u32, next: u32, sets: &[u32; 65]) -> u32
 {
     let begun = started(l, sets);
     let beyond = sets::union(next, begun);
-    sets::union(own(l), beyond)
+    sets::union(claims::own(l), beyond)
 }
 
-// The rows, from the plan's end. For each job the claim set of its first line met so far is kept.
-fn gather(plan: &[u32], lasting: &[u8; 1024], rows: &mut [u32; 32])
-    requires { ⌜ (fault devices (now plan) ≡ none) × (now lasting ≡ lastingFlags (now plan)) ⌝ }
-    ensures { λ r. ⌜ now (rows .exit) ≡ rowsOf (now (plan .entry)) ⌝ }
+// The rows with a line, and the claim set of its job's first line so far, which is now this line.
+fn gather(l: u32, flag: u8, rows: &mut [u32; 32], sets: &mut [u32; 65])
+    requires { ⌜ (isLine devices l ≡ true) × (flag ≡ 1 → operand l < devices) ⌝ }
+    ensures { λ r. ⌜
+        GatheredOn l flag (now (rows .entry)) (now (sets .entry)) (now (rows .exit)) (now (sets .exit))
+        ⌝ }
 {
-    *rows = [0u32; 32];
-    let mut sets = [0u32; 65];
-    let mut i = plan.len();
-    while 0 < i {
-        i -= 1;
-        let l = plan[i];
-        let j = (l / 1024) as usize;
-        let next = sets[j];
-        join_row(l, lasting[i], next, rows);
-        let s = claim(l, next, &sets);
-        sets[j] = s;
-    }
+    let j = (l / 1024) as usize;
+    let next = sets[j];
+    join_row(l, flag, next, rows);
+    let s = claim(l, next, sets);
+    sets[j] = s;
 }
 
-// The walk back over a plan without a fault: its flags, its rows and the two sets.
+// The walk back over a plan without a fault: its flags, its rows and the two sets, all in one pass from the plan's end,
+// since a line's flag decides what it adds to the rows and to the sets.
 fn walk_back(plan: &[u32], rows: &mut [u32; 32], lasting: &mut [u8; 1024]) -> Held
     requires { ⌜ fault devices (now plan) ≡ none ⌝ }
     ensures { λ r. ⌜ WalkedAs r (now (plan .entry)) (now (rows .exit)) (now (lasting .exit)) ⌝ }
 {
-    mark(plan, lasting);
-    gather(plan, lasting, rows);
-    held_sets(plan, lasting)
+    *rows = [0u32; 32];
+    *lasting = [0u8; 1024];
+    let mut sets = [0u32; 65];
+    let mut found = Held { held: 0, twice: 0 };
+    let mut job: u32 = 0;
+    let mut wanted: u32 = 0;
+    let mut i = plan.len();
+    while 0 < i {
+        i -= 1;
+        let l = plan[i];
+        let after = wanted_after(l, job, wanted);
+        let flag = lasts(l, after);
+        lasting[i] = flag;
+        gather(l, flag, rows, &mut sets);
+        found = count_held(found, l, flag);
+        wanted = wanted_before(l, after);
+        job = l / 1024;
+    }
+    found
 }
 
 // What the holds of a plan are: the set of the devices held to the end and the set of those with two lasting takes.

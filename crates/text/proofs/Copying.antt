@@ -1,5 +1,5 @@
--- 01, "Refusal numbers" (entries past the last one written stay as they were): a list copied into the front of a lent
--- one, entry by entry. What was copied so far stands in front of the old contents; one law serves numbers and bytes.
+-- 01, "Refusal numbers" (what a success leaves as it was): a list copied into the front of a lent one, entry by entry.
+-- What was copied so far stands in front of the old contents; one law serves numbers and bytes.
 use Prim.Native.Nat.{ℕ, suc, _+_, _≤_, _<_}
 use mathlib.Core.List.{List, _++_, append-assoc}
 use mathlib.Core.Path.{_≡_, refl, _∙_, ap}

@@ -120,7 +120,7 @@ written-then-read plan lent left m r list h answer taken w =
 
 -- ---- the line reader
 
--- After a refusal or the end the same answer comes again.
+-- Where no line came, asking again gives the same answer.
 pub same-again : (text : List ℕ) (c : Cursor) (a b : LineAnswer) → a ≡ nextLine devices text c → NoLine a
     → b ≡ nextLine devices text (cursorAfter c a) → b ≡ a
 same-again text c a b e h f =

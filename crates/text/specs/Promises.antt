@@ -4,14 +4,15 @@ use Prim.Native.Nat.{ℕ}
 use mathlib.Core.List.{List}
 use mathlib.Core.Path.{_≡_}
 use Rattle.model.specs.Board.{devices}
+use Rattle.model.specs.Answers.{readValues, writeValues}
 use Rattle.model.specs.Entries.{reading, writing}
 use Rattle.model.specs.declared.ReadAnswer.{ReadAnswer}
 use Rattle.model.specs.declared.WriteAnswer.{WriteAnswer}
 
 pub record ReadsAs (text lent : List ℕ) (answer : ReadAnswer) (left : List ℕ) : Type 0 where
-  pub answers : answer ≡ reading devices text lent .answer
+  pub answers : readValues answer ≡ readValues (reading devices text lent .answer)
   pub leaves : left ≡ reading devices text lent .plan
 
 pub record WritesAs (plan lent : List ℕ) (answer : WriteAnswer) (left : List ℕ) : Type 0 where
-  pub answers : answer ≡ writing devices plan lent .answer
+  pub answers : writeValues answer ≡ writeValues (writing devices plan lent .answer)
   pub leaves : left ≡ writing devices plan lent .text

@@ -1,9 +1,10 @@
 -- 01, "The plan as text": what the private functions of this crate answer as they go through a line from left to right.
 -- That this is what the definition by splitting gives is shown in proofs/Scanned.antt; no promise rests on these words.
-use Prim.Native.Nat.{ℕ, suc, _+_, _-_, _*_}
+use Prim.Native.Nat.{ℕ, suc, _+_, _-_, _*_, _≤_, _<_}
 use mathlib.Core.Bool.{Bool, false, cond}
 use mathlib.Core.List.{List, [], _∷_}
-use lib.Dec.{eqb, leb}
+use mathlib.Core.Path.{_≡_}
+use lib.Dec.{eqb, leb, ltb}
 use lib.ListN.{drop}
 use Rattle.model.specs.Line.{pack, isStep}
 use Rattle.model.specs.Text.{tab, newline, isDigit, verb, linesOf, handedLine}
@@ -25,6 +26,17 @@ digitsAt end v i (b ∷ s) =
     cond (isDigit b)
     (cond (leb (v * 10 + (b - 48)) 255) (digitsAt end (v * 10 + (b - 48)) (suc i) s) Field.Wrong)
     (endedAt end v i (b ∷ s))
+
+-- the value of a digit, or a number that is none's
+pub record DigitOf (b d : ℕ) : Type 0 where
+  pub small : d ≤ 255
+  pub digit : ltb d 10 ≡ isDigit b
+  pub value : d < 10 → d ≡ b - 48
+
+-- the value v with one digit more; over 255 if the byte is none
+unfoldable pub joinedBy : ℕ → ℕ → ℕ
+unfolding isDigit
+joinedBy v b = cond (isDigit b) (v * 10 + (b - 48)) 256
 
 -- nought alone, or digits that do not begin with it
 unfoldable pub fieldAt : ℕ → ℕ → List ℕ → Field

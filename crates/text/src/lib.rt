@@ -7,6 +7,7 @@ use model::Refusal;
 use model::WriteAnswer;
 use plan::Checked;
 ghost use Prim.Native.Nat.{_+_, _/_, _≤_, _<_};
+ghost use mathlib.Core.Bool.{cond};
 ghost use mathlib.Core.List.{[], _∷_};
 ghost use mathlib.Core.Option.{none};
 ghost use mathlib.Core.Path.{_≡_};
@@ -17,9 +18,10 @@ ghost use Rattle.model.specs.Lists.{over};
 ghost use Rattle.model.specs.Text.{decimal, verb, lineText, textOf, nextLine};
 ghost use Rattle.model.specs.WellFormed.{fault};
 ghost use Rattle.text.specs.Promises.{ReadsAs, WritesAs};
-ghost use Rattle.text.specs.Scan.{endedAt, digitsAt, fieldAt, wordAt, verbAt, lineAt, handedAt};
+ghost use Rattle.text.specs.Scan.{endedAt, digitsAt, DigitOf, joinedBy, fieldAt};
+ghost use Rattle.text.specs.Scan.{wordAt, verbAt, lineAt, handedAt};
 ghost use Rattle.text.specs.Gathered.{GathersAs};
-ghost use Rattle.text.specs.Made.{Puts};
+ghost use Rattle.text.specs.Made.{Puts, Lays, verbTable};
 
 // ---- one line, from left to right
 
@@ -55,32 +57,106 @@ fn ended(text: &[u8], at: usize, end: u8, v: u32) -> Field
     Field::Wrong
 }
 
-// The number of the digits from the place on, up to the byte that ends the field; a value over 255 is no line's.
-fn digits(text: &[u8], from: usize, end: u8) -> Field
-    ensures { λ r. ⌜ r ≡ digitsAt end 0 from (drop from (now (text .entry))) ⌝ }
+// The number whose two digits before the place make v, with a third if one stands there; over 255 it is no line's.
+fn third_digit(text: &[u8], at: usize, end: u8, v: u32) -> Field
+    requires { ⌜ (end < 48) × (10 ≤ v) × (v ≤ 99) ⌝ }
+    ensures { λ r. ⌜ r ≡ digitsAt end v at (drop at (now (text .entry))) ⌝ }
 {
-    let mut v: u32 = 0;
-    let mut i = from;
-    while i < text.len() {
-        let b = text[i];
-        if b < 48 {
-            return ended(text, i, end, v);
-        }
-        if 57 < b {
-            return ended(text, i, end, v);
-        }
-        let w = v * 10 + (b - 48) as u32;
-        if 255 < w {
-            return Field::Wrong;
-        }
-        v = w;
-        i += 1;
+    if text.len() <= at {
+        return Field::Wrong;
     }
-    Field::Wrong
+    let b = text[at];
+    if b == end {
+        return Field::Number(v, at + 1);
+    }
+    if b < 48 {
+        return Field::Wrong;
+    }
+    if 57 < b {
+        return Field::Wrong;
+    }
+    let w = v * 10 + (b - 48) as u32;
+    if 255 < w {
+        return Field::Wrong;
+    }
+    ended(text, at + 1, end, w)
 }
 
-// The decimal field at the place: nought alone, or digits that do not begin with it.
+// The number whose first digit, before the place, is v, with those that stand there.
+fn second_digit(text: &[u8], at: usize, end: u8, v: u32) -> Field
+    requires { ⌜ (end < 48) × (1 ≤ v) × (v ≤ 9) ⌝ }
+    ensures { λ r. ⌜ r ≡ digitsAt end v at (drop at (now (text .entry))) ⌝ }
+{
+    if text.len() <= at {
+        return Field::Wrong;
+    }
+    let b = text[at];
+    if b == end {
+        return Field::Number(v, at + 1);
+    }
+    if b < 48 {
+        return Field::Wrong;
+    }
+    if 57 < b {
+        return Field::Wrong;
+    }
+    third_digit(text, at + 1, end, v * 10 + (b - 48) as u32)
+}
+
+// The value of a digit; 10 or more for any other byte, 208 being 48 below 256.
+fn digit(b: u8) -> u32
+    ensures { λ r. ⌜ DigitOf b r ⌝ }
+{
+    (b as u32 + 208) % 256
+}
+
+// The first value, or the other.
+fn pick(first: bool, a: u32, b: u32) -> u32
+    ensures { λ r. ⌜ r ≡ cond first a b ⌝ }
+{
+    if first {
+        return a;
+    }
+    b
+}
+
+// The value v with one digit more; over 255 if the byte is none.
+fn joined(v: u32, b: u8) -> u32
+    requires { ⌜ v ≤ 999 ⌝ }
+    ensures { λ r. ⌜ r ≡ joinedBy v b ⌝ }
+{
+    let d = digit(b);
+    pick(d < 10, v * 10 + d, 256)
+}
+
+// The number whose first digit, before the place, is v, with up to two more. The values with one and with two more are
+// worked out both, and the byte that ends the field picks, so that no branch asks how many digits there are.
+fn digits(text: &[u8], at: usize, end: u8, v: u32) -> Field
+    requires { ⌜ (end < 48) × (1 ≤ v) × (v ≤ 9) ⌝ }
+    ensures { λ r. ⌜ r ≡ digitsAt end v at (drop at (now (text .entry))) ⌝ }
+{
+    if text.len() <= at {
+        return Field::Wrong;
+    }
+    if text.len() - at < 2 {
+        return second_digit(text, at, end, v);
+    }
+    let b = text[at];
+    let c = text[at + 1];
+    let two = joined(v, b);
+    let three = joined(two, c);
+    let value = pick(b == end, v, pick(c == end, two, three));
+    let more = pick(b == end, 0, pick(c == end, 1, 2));
+    if 255 < value {
+        return Field::Wrong;
+    }
+    ended(text, at + more as usize, end, value)
+}
+
+// The decimal field at the place: nought alone, or digits that do not begin with it. A job, which a tab ends, mostly
+// has as many as the job before it, so that branches can foretell them; an operand has not.
 fn field_at(text: &[u8], from: usize, end: u8) -> Field
+    requires { ⌜ end < 48 ⌝ }
     ensures { λ r. ⌜ r ≡ fieldAt end from (drop from (now (text .entry))) ⌝ }
 {
     if text.len() <= from {
@@ -96,7 +172,11 @@ fn field_at(text: &[u8], from: usize, end: u8) -> Field
     if 57 < b {
         return Field::Wrong;
     }
-    digits(text, from, end)
+    let v = (b - 48) as u32;
+    if end == 9 {
+        return second_digit(text, from + 1, end, v);
+    }
+    digits(text, from + 1, end, v)
 }
 
 // Is the field at the place, which a tab ends, this word?
@@ -161,7 +241,7 @@ fn is_step(j: u32, k: u32, o: u32) -> bool
     o < 32
 }
 
-// The line at the place: job, verb and operand, parted by one tab each, ended by a newline.
+// The line at the place: a job and a verb, each with its tab, and an operand with its newline.
 fn line_at(text: &[u8], from: usize) -> Spelt
     ensures { λ r. ⌜ r ≡ lineAt devices (now (text .entry)) from ⌝ }
 {
@@ -306,8 +386,8 @@ fn put_byte(made: &mut [u8; 12288], at: usize, b: u8) -> usize
 }
 
 // A word more.
-fn put_word(made: &mut [u8; 12288], at: usize, word: &[u8]) -> usize
-    requires { ⌜ (at + length (now word) ≤ 12288) × (length (now made) ≡ 12288) ⌝ }
+fn put_word(made: &mut [u8], at: usize, word: &[u8]) -> usize
+    requires { ⌜ at + length (now word) ≤ length (now made) ⌝ }
     ensures { λ r. ⌜ Puts (now (word .entry)) at (now (made .entry)) r (now (made .exit)) ⌝ }
 {
     let mut i = 0;
@@ -318,50 +398,66 @@ fn put_word(made: &mut [u8; 12288], at: usize, word: &[u8]) -> usize
     at + i
 }
 
-// The verb of a kind.
-fn put_verb(made: &mut [u8; 12288], at: usize, k: u32) -> usize
-    requires { ⌜ (k < 4) × (at + length (verb k) ≤ 12288) × (length (now made) ≡ 12288) ⌝ }
-    ensures { λ r. ⌜ Puts (verb k) at (now (made .entry)) r (now (made .exit)) ⌝ }
+// The table of verbs, five bytes for each kind.
+fn verb_table() -> [u8; 20]
+    ensures { λ r. ⌜ r ≡ verbTable ⌝ }
 {
-    if k == 0 {
-        return put_word(made, at, b"do");
-    }
-    if k == 1 {
-        return put_word(made, at, b"take");
-    }
-    if k == 2 {
-        return put_word(made, at, b"give");
-    }
-    put_word(made, at, b"start")
+    let mut table = [0u8; 20];
+    put_word(&mut table, 0, b"do");
+    put_word(&mut table, 5, b"take");
+    put_word(&mut table, 10, b"give");
+    put_word(&mut table, 15, b"start");
+    table
 }
 
-// A number of at most three digits.
+// How many bytes the verb of a kind has.
+fn verb_length(k: u32) -> usize
+    requires { ⌜ k < 4 ⌝ }
+    ensures { λ r. ⌜ r ≡ length (verb k) ⌝ }
+{
+    if k == 0 {
+        return 2;
+    }
+    if k == 3 {
+        return 5;
+    }
+    4
+}
+
+// The verb of a kind: its five bytes of the table, so that no branch asks for the kind. What stands behind a shorter
+// verb is written over by what comes next.
+fn put_verb(made: &mut [u8; 12288], at: usize, table: &[u8], k: u32) -> usize
+    requires { ⌜ (k < 4) × (at + 5 ≤ 12288) × (now table ≡ verbTable) × (length (now made) ≡ 12288) ⌝ }
+    ensures { λ r. ⌜ Lays (verb k) at (at + 5) (now (made .entry)) r (now (made .exit)) ⌝ }
+{
+    let from = k as usize * 5;
+    let past = from + 5;
+    put_word(made, at, &table[from..past]);
+    at + verb_length(k)
+}
+
+// A number of at most three digits. A nought in front is put too, and the next digit takes its place.
 fn put_number(made: &mut [u8; 12288], at: usize, n: u32) -> usize
     requires { ⌜ (n ≤ 255) × (at + length (decimal n) ≤ 12288) × (length (now made) ≡ 12288) ⌝ }
     ensures { λ r. ⌜ Puts (decimal n) at (now (made .entry)) r (now (made .exit)) ⌝ }
 {
-    let last = (48 + n % 10) as u8;
-    if n < 10 {
-        return put_byte(made, at, last);
-    }
-    let middle = (48 + n / 10 % 10) as u8;
-    if n < 100 {
-        let a = put_byte(made, at, middle);
-        return put_byte(made, a, last);
-    }
-    let a = put_byte(made, at, (48 + n / 100) as u8);
-    let b = put_byte(made, a, middle);
-    put_byte(made, b, last)
+    made[at] = (48 + n / 100) as u8;
+    let a = at + (99 < n) as usize;
+    made[a] = (48 + n / 10 % 10) as u8;
+    let b = a + (9 < n) as usize;
+    made[b] = (48 + n % 10) as u8;
+    b + 1
 }
 
-// A line: job, verb and operand, parted by one tab each, ended by a newline.
-fn put_line(made: &mut [u8; 12288], at: usize, l: u32) -> usize
-    requires { ⌜ (l / 1024 ≤ 255) × (at + length (lineText l) ≤ 12288) × (length (now made) ≡ 12288) ⌝ }
+// A line: a job and a verb, each with its tab, and an operand with its newline.
+fn put_line(made: &mut [u8; 12288], at: usize, table: &[u8], l: u32) -> usize
+    requires { ⌜ (l / 1024 ≤ 255) × (at + length (lineText l) ≤ 12288) × (now table ≡ verbTable)
+        × (length (now made) ≡ 12288) ⌝ }
     ensures { λ r. ⌜ Puts (lineText l) at (now (made .entry)) r (now (made .exit)) ⌝ }
 {
     let a = put_number(made, at, l / 1024);
     let b = put_byte(made, a, 9);
-    let c = put_verb(made, b, l / 256 % 4);
+    let c = put_verb(made, b, table, l / 256 % 4);
     let d = put_byte(made, c, 9);
     let e = put_number(made, d, l % 256);
     put_byte(made, e, 10)
@@ -372,10 +468,11 @@ fn make(plan: &[u32], made: &mut [u8; 12288]) -> usize
     requires { ⌜ (fault devices (now plan) ≡ none) × (length (now made) ≡ 12288) ⌝ }
     ensures { λ r. ⌜ Puts (textOf (now (plan .entry))) 0 (now (made .entry)) r (now (made .exit)) ⌝ }
 {
+    let table = verb_table();
     let mut at: usize = 0;
     let mut i = 0;
     while i < plan.len() {
-        at = put_line(made, at, plan[i]);
+        at = put_line(made, at, &table, plan[i]);
         i += 1;
     }
     at

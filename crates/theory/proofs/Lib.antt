@@ -1,6 +1,7 @@
 -- The theorems about the definitions of `model`, in the order in which they build on each other; the one that a user
 -- of a file wants stands last in it. A legal order exists exactly if the verdict is an order: `Verdict`. The round
--- trips: `Text`. The line reader: `Reader`.
+-- trips: `Text`. The line reader: `Reader`; by an offset alone: `Offsets`. What is printed fits the screens' buffer:
+-- `Printed`.
 pub mod Tests
 pub mod Lists
 pub mod Sets
@@ -26,3 +27,5 @@ pub mod Fields
 pub mod Spelling
 pub mod Text
 pub mod Reader
+pub mod Offsets
+pub mod Printed

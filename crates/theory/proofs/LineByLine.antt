@@ -92,6 +92,14 @@ not-more k x done h n = go (test (has k (done ++ (x ∷ []))))
     go (inl m) = which (more-only k x done m)
     go (inr m) = m
 
+-- another line is done or not as before
+pub has-other : (k x : ℕ) (done : List ℕ) → k ≢ x → has k done ≡ has k (done ++ (x ∷ []))
+has-other k x done n = go (test (has k done))
+  where
+    go : (has k done ≡ true) ⊎ (has k done ≡ false) → has k done ≡ has k (done ++ (x ∷ []))
+    go (inl e) = e ∙ sym (more-old k x done e)
+    go (inr e) = e ∙ sym (not-more k x done e n)
+
 -- ---- the lines that stand next
 
 pub record Stands (p done : List ℕ) (i : ℕ) : Type 0 where

@@ -188,6 +188,17 @@ those-same f g (x ∷ xs) h = go (f x) (g x) (h x (has-head x xs)) (those-same f
     go true false e ih = clash true refl e
     go false true e ih = clash true refl (sym e)
 
+-- no more pass than there are
+pub those-length : (f : ℕ → Bool) (xs : List ℕ) → length (those f xs) ≤ length xs
+unfolding those
+those-length f [] = omega arith
+those-length f (x ∷ xs) = go (f x) (those-length f xs)
+  where
+    go : (b : Bool) → length (those f xs) ≤ length xs
+        → length {A = ℕ} (elim b [ true ↦ x ∷ those f xs | false ↦ those f xs ]) ≤ suc (length xs)
+    go true ih = omega arith
+    go false ih = omega arith
+
 -- ---- what a search finds
 
 -- an answer is of the list and passes; where there is none, nothing of the list passes
@@ -369,3 +380,9 @@ left-one f g i a b h (suc n) l = go (test (eqb n i)) (left-one f g i a b h n)
 -- a list as a test
 abbrev pub among : List ℕ → ℕ → Bool
 among xs k = has k xs
+
+-- nothing is done: all is left
+pub left-every : (n : ℕ) → left (among []) n ≡ n
+unfolding left has
+left-every zero = refl
+left-every (suc n) = ap suc (left-every n)

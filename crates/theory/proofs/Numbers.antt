@@ -95,23 +95,22 @@ decimal-digits = by-tenths (λ n. all isDigit (decimal n) ≡ true) small step
 pub digits-one : (n : ℕ) → n < 10 → length (decimal n) ≡ 1
 digits-one n h = rw (decimal-small n h)
 
--- one digit more than a tenth
-digits-more : (n k : ℕ) → 10 ≤ n → length (decimal (n / 10)) ≤ k → length (decimal n) ≤ suc k
-digits-more n k h l = rw (decimal-step n h, length-append) (omega arith)
+-- at most one digit more than a tenth
+digits-more : (n k : ℕ) → length (decimal (n / 10)) ≤ k → length (decimal n) ≤ suc k
+digits-more n k h = go (le-or-lt 10 n)
+  where
+    go : (10 ≤ n) ⊎ (n < 10) → length (decimal n) ≤ suc k
+    go (inl l) = rw (decimal-step n l, length-append) (omega arith)
+    go (inr l) = omega (arith, digits-one n l)
 
 pub digits-two : (n : ℕ) → n < 100 → length (decimal n) ≤ 2
-digits-two n h = go (le-or-lt 10 n)
-  where
-    go : (10 ≤ n) ⊎ (n < 10) → length (decimal n) ≤ 2
-    go (inl l) = digits-more n 1 l (omega (arith, digits-one (n / 10) (omega arith)))
-    go (inr l) = omega (arith, digits-one n l)
+digits-two n h = digits-more n 1 (omega (arith, digits-one (n / 10) (omega arith)))
 
 pub digits-three : (n : ℕ) → n < 1000 → length (decimal n) ≤ 3
-digits-three n h = go (le-or-lt 10 n)
-  where
-    go : (10 ≤ n) ⊎ (n < 10) → length (decimal n) ≤ 3
-    go (inl l) = digits-more n 2 l (digits-two (n / 10) (omega arith))
-    go (inr l) = omega (arith, digits-one n l)
+digits-three n h = digits-more n 2 (digits-two (n / 10) (omega arith))
+
+pub digits-four : (n : ℕ) → n < 10000 → length (decimal n) ≤ 4
+digits-four n h = digits-more n 3 (digits-three (n / 10) (omega arith))
 
 -- a byte that is no digit stands nowhere in a number
 pub no-digit : (b : ℕ) → isDigit b ≡ false → (s : List ℕ) → all isDigit s ≡ true → has b s ≡ false

@@ -7,7 +7,8 @@ use mathlib.Core.List.{List, [], _∷_, map}
 use mathlib.Core.Logic.{_⊎_, inl, inr}
 use mathlib.Core.Path.{_≡_, refl, sym, _∙_, ap}
 use mathlib.Core.Option.{some, Option·getD}
-use native.Mathlib.Nat.{zero-add, add-zero, zero-div, div-one, div-eq-of-lt, lt-of-lt-of-le, pow-suc}
+use native.Mathlib.Nat.{zero-add, add-zero, zero-div, div-one, div-eq-of-lt, lt-of-lt-of-le, pow-suc, one-mul}
+use native.Mathlib.Nat.{mod-eq-of-lt}
 use native.Mathlib.Numerals.{add-one}
 use native.Mathlib.Omega.{arith}
 use lib.Bits.{bitOr, or-shr, or-step, or-lt}
@@ -43,6 +44,11 @@ member-union a b d =
 pub member-empty : (d : ℕ) → member empty d ≡ false
 unfolding member empty
 member-empty d = ap (λ (x : ℕ). eqb (x % 2) 1) (zero-div (2 ^ d))
+
+-- a 1 shifted by less than the width of a word is the set of one
+pub shifted : (W d : ℕ) → d < W → 1 * 2 ^ d % 2 ^ W ≡ only d
+unfolding only
+shifted W d h = ap (λ (x : ℕ). x % 2 ^ W) (one-mul (2 ^ d)) ∙ mod-eq-of-lt (pow-lt h)
 
 pub member-only : (d e : ℕ) → member (only d) e ≡ eqb d e
 unfolding member only

@@ -22,7 +22,7 @@ use Rattle.theory.proofs.Tests.{clash, test, or-right, or-neither, and-split, a
 use Rattle.theory.proofs.Lists.{any-found, any-none, left, left-zero, left-none, left-same, left-one}
 use Rattle.theory.proofs.Sets.{member-union, member-only}
 use Rattle.theory.proofs.Progress.{has-undone, undone-has, device-below}
-use Rattle.theory.proofs.LineByLine.{more-old, more-new, not-more}
+use Rattle.theory.proofs.LineByLine.{more-new, has-other}
 use Rattle.verdict.specs.declared.waiting.Waiting.{Waiting}
 use Rattle.verdict.specs.Waiting.{added, tallied, scarceBelow, counted, settled}
 use Rattle.verdict.proofs.Words.{scarce-below}
@@ -36,13 +36,6 @@ through p done d k = has k done || not (takes p k d)
 unfoldable pub wanted : List ℕ → List ℕ → ℕ → ℕ
 unfolding through
 wanted p done d = left (through p done d) (length p)
-
-pub has-other : (k x : ℕ) (done : List ℕ) → k ≢ x → has k done ≡ has k (done ++ (x ∷ []))
-has-other k x done n = go (test (has k done))
-  where
-    go : (has k done ≡ true) ⊎ (has k done ≡ false) → has k done ≡ has k (done ++ (x ∷ []))
-    go (inl e) = e ∙ sym (more-old k x done e)
-    go (inr e) = e ∙ sym (not-more k x done e n)
 
 -- a line that takes the device is done
 pub wanted-less : (p done : List ℕ) (x d : ℕ) → x < length p → has x done ≡ false → takes p x d ≡ true

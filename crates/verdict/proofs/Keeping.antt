@@ -24,29 +24,23 @@ use Rattle.model.specs.Handed.{undone, standing, goingOn, alone, lastingNext, h
 use Rattle.model.specs.Board.{devices}
 use Rattle.theory.proofs.Tests.{clash, test, and-split, and-both, le-or-lt}
 use Rattle.theory.proofs.Lists.{has-none, has-those, those-has, Answer, first-answer, Least, least-answer, left}
-use Rattle.theory.proofs.Lists.{left-zero, left-one, among}
+use Rattle.theory.proofs.Lists.{left-zero, left-one, left-every, among}
 use Rattle.theory.proofs.Sets.{member-empty}
 use Rattle.theory.proofs.OnlyIf.{LastsTwice}
 use Rattle.theory.proofs.Successors.{earlier-precedes, jobs-grow}
 use Rattle.theory.proofs.Progress.{undone-has, never-stuck}
 use Rattle.theory.proofs.LineByLine.{chosen, linesAfter, lines-step, Stands, stands-has, has-stands, LowestIs, goes-on}
-use Rattle.theory.proofs.LineByLine.{more-new, handed-line-by-line}
+use Rattle.theory.proofs.LineByLine.{more-new, has-other, handed-line-by-line}
 use Rattle.verdict.specs.declared.waiting.Waiting.{Waiting}
 use Rattle.verdict.specs.Waiting.{allPlaces, placeOf, waits, vacated, taking, placing, foremost, opening}
 use Rattle.verdict.specs.Waiting.{nextLine, startedLine, tallied, scarceBelow, counted, settled, idle}
 use Rattle.verdict.proofs.Words.{Foremost, ofJob, ofDevice, ofNone, the-foremost}
-use Rattle.verdict.proofs.Counts.{alone-wanted, Counted, none-counted, one-counted, has-other}
+use Rattle.verdict.proofs.Counts.{alone-wanted, Counted, none-counted, one-counted}
 use Rattle.verdict.proofs.Places.{Shows, shows-same, come, goes-off, scarce-vacated, scarce-taking}
 use Rattle.verdict.proofs.Places.{shows-settled}
 use Rattle.verdict.proofs.Standing.{Closed, closed-on, job-fits, first-stands, stands-first, place-below, apart}
 use Rattle.verdict.proofs.Standing.{place-lasting, place-job, lasting-below, stayed-stands, next-stands}
 use Rattle.verdict.proofs.Standing.{started-stands, who-stands}
-
--- nothing is done: all is left
-left-every : (n : ℕ) → left (among []) n ≡ n
-unfolding left has
-left-every zero = refl
-left-every (suc n) = ap suc (left-every n)
 
 lasting-take : (p : List ℕ) (i : ℕ) → lastingAt p i ≡ true → takesAt p i ≡ true
 unfolding lastingAt

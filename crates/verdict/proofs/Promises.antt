@@ -26,8 +26,8 @@ use Rattle.model.specs.declared.VerdictAnswer.{VerdictAnswer}
 use Rattle.theory.proofs.Tests.{test, clash}
 use Rattle.theory.proofs.Lists.{has-head, has-right}
 use Rattle.theory.proofs.Places.{when}
-use Rattle.theory.proofs.WellFormed.{Broken, atLine, noLines, noStart, fault-exactly}
-use Rattle.theory.proofs.WellFormed.{BrokenAt, tooMany, malformed, outOfSequence, badStart, badGive, takeOfHeld}
+use Rattle.theory.proofs.WellFormed.{fault-exactly}
+use Rattle.theory.proofs.Printed.{broken-bounds}
 use Rattle.theory.proofs.Verdict.{NoOrder, accepted-is-legal, refused-exactly, legal-order-exactly, no-legal-order}
 use Rattle.verdict.specs.Promises.{JudgesAs, Apart, OnceEach, Ordered}
 use Rattle.verdict.proofs.Outcome.{tests, outcome}
@@ -62,12 +62,12 @@ passed none (some r) c e = absurd (Option·none-ne-some r (sym e))
 passed none none (some r) e = absurd (Option·none-ne-some r (sym e))
 
 -- an outcome: the tests refused and the list is as it was, or the order handed out stands in front
-data Judged (p lent : List ℕ) : VerdictAnswer → List ℕ → Type 0 where
+pub data Judged (p lent : List ℕ) : VerdictAnswer → List ℕ → Type 0 where
   refused : (r : Refusal) → tests p lent ≡ some r → Judged p lent (VerdictAnswer.Refused r) lent
   accepted : tests p lent ≡ none
       → Judged p lent (VerdictAnswer.Held (heldAtEnd devices p)) (over (map lineNumber (handed p)) lent)
 
-judged : (p lent : List ℕ) (a : VerdictAnswer) (left : List ℕ) → JudgesAs p lent a left → Judged p lent a left
+pub judged : (p lent : List ℕ) (a : VerdictAnswer) (left : List ℕ) → JudgesAs p lent a left → Judged p lent a left
 unfolding judging verdictBy
 judged p lent a left j =
     subst (λ (x : VerdictAnswer). Judged p lent x left) (sym (one .0))
@@ -138,20 +138,6 @@ accepted-exactly p lent a left j sound room = (λ l. to (legal-order-exactly dev
         let o = order-is-legal p lent (h .0) left (subst (λ (x : VerdictAnswer). JudgesAs p lent x left) (h .1) j) in
         (o .order, o .legal)
 
--- the refusals of a plan's own tests are 2 to 8
-broken-below : (p : List ℕ) (r : Refusal) → Broken devices p r → numberOf r ≤ 8
-broken-below p r (atLine k s h f b) = go s b
-  where
-    go : (s : Refusal) → BrokenAt devices p k s → numberOf s ≤ 8
-    go s (tooMany h) = omega arith
-    go s (malformed h a) = omega arith
-    go s (outOfSequence h a b) = omega arith
-    go s (badStart h a b c d) = omega arith
-    go s (badGive h a b c d) = omega arith
-    go s (takeOfHeld h a b c d) = omega arith
-broken-below p r (noLines i f h a b) = omega arith
-broken-below p r (noStart j f h a b c d) = omega arith
-
 short-number : (n m : ℕ) (r : Refusal) → tooShort n m ≡ some r → numberOf r ≡ 11
 unfolding tooShort refuseIf
 short-number n m r e = go (ltb n m) e
@@ -171,7 +157,7 @@ no-order-exists p lent r left j low high =
         → firstRefusal (a ∷ b ∷ c ∷ []) ≡ some r → NoOrder devices p r
     by (some s) b c ea eb ec e =
         let z : s ≡ r = cc in
-        let n = broken-below p r (fault-exactly devices p r .0 (ea ∙ ap {B = Option Refusal} some z)) in
+        let n = broken-bounds devices p r (fault-exactly devices p r .0 (ea ∙ ap {B = Option Refusal} some z)) in
         absurd (omega arith)
     by none (some s) c ea eb ec e =
         let z : s ≡ r = cc in

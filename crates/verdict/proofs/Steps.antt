@@ -1,14 +1,16 @@
 -- What the code of the order computes, step by step, is what the definitions say; one law for each way through a
 -- function.
-use Prim.Native.Nat.{ℕ, suc, _+_, _-_, _/_, _%_, _<_, _≤_}
-use mathlib.Core.Bool.{Bool, true, false, cond}
+use Prim.Native.Nat.{ℕ, suc, _+_, _-_, _*_, _/_, _%_, _^_, _<_, _≤_}
+use mathlib.Core.Bool.{Bool, true, false, cond, _&&_}
 use mathlib.Core.List.{List, [], _∷_}
-use mathlib.Core.Logic.{inl, inr}
-use mathlib.Core.Path.{_≡_, refl, _∙_, ap}
+use mathlib.Core.Logic.{_⊎_, inl, inr}
+use mathlib.Core.Path.{_≡_, refl, sym, _∙_, ap}
 use native.Mathlib.Numerals.{add-one}
 use native.Mathlib.Omega.{arith}
-use lib.Bits.{bitOr}
-use lib.Dec.{eqb}
+use mir.Val.{boolByte}
+use lib.Bits.{bitOr, or-comm}
+use lib.Dec.{eqb, leb}
+use lib.Seq.{set-getD}
 use lib.ListN.{length, getD, set, length-set, List·getD-eq-default}
 use borrow.Author.Tests.{eqb-true, eq-eqb, ne-eqb, le-leb, lt-leb}
 use Rattle.model.specs.Lists.{any, has}
@@ -22,12 +24,14 @@ use Rattle.theory.proofs.WellFormed.{no-fault-exactly, any-line}
 use Rattle.theory.proofs.Line.{line-parts, start-of, Fits, ofDo, ofDevice, ofStart}
 use Rattle.theory.proofs.Successors.{first-is, first-at}
 use Rattle.theory.proofs.Lists.{left-all}
+use Rattle.theory.proofs.Sets.{shifted}
+use Rattle.theory.proofs.Tests.{le-or-lt}
 use Rattle.theory.proofs.Progress.{device-below}
 use Rattle.verdict.proofs.Counts.{through, takes-own, tallied-takes}
 use Rattle.verdict.specs.declared.waiting.Waiting.{Waiting}
 use Rattle.verdict.specs.Waiting.{Marked, Told, allPlaces, placeOf, taken, taking, placing, nextLine, startedLine}
 use Rattle.verdict.specs.Waiting.{counted, settled, added, tallied, withScarce, scarceBelow, opening, passed}
-use Rattle.verdict.specs.Waiting.{replaced}
+use Rattle.verdict.specs.Waiting.{replaced, CanFall}
 use Rattle.verdict.proofs.Standing.{place-below, job-fits, first-one}
 
 module _ (p lasting : List ℕ) (m : Marked p lasting) where
@@ -155,24 +159,92 @@ pub no-take : (p : List ℕ) (i : ℕ) → (at p i / 256 % 4 ≡ 1 → ⊥) → 
 unfolding takesAt isTake kind
 no-take p i n = ne-eqb (at p i / 256 % 4) 1 n
 
-module _ (p counts : List ℕ) (w : Waiting) (i : ℕ) where
-  pub settles-scarce : (s : ℕ) → at p i / 256 % 4 ≡ 1 → getD counts (at p i % 256) 0 - 1 ≤ 1 → s ≡ only (at p i % 256)
-      → (_≡_ {A = Waiting} (record { ready = w .ready; standing = w .standing; scarce = bitOr (w .scarce) s })
+-- ---- a line is done: one count falls where it is a take, and its device may come to be scarce
+
+-- the word of a device, or nought
+none-shifted : (d : ℕ) → 0 * 2 ^ d % 4294967296 ≡ 0
+none-shifted d = omega arith
+
+with-scarce : (w : Waiting) (d : ℕ) (t : Bool) → d < 32
+    → _≡_ {A = Waiting}
+    (record {
+      ready = w .ready;
+      standing = w .standing;
+      scarce = bitOr (w .scarce) (boolByte t * 2 ^ d % 4294967296);
+    })
+    (cond t (record { ready = w .ready; standing = w .standing; scarce = union (w .scarce) (only d) }) w)
+unfolding union
+with-scarce w d true h = rw (shifted 32 d h)
+with-scarce w d false h = rw (none-shifted d, or-comm (w .scarce) 0)
+
+-- at most one is left where at most two were
+leb-less : (c : ℕ) → 1 ≤ c → leb c 2 ≡ leb (c - 1) 1
+leb-less c h = go (le-or-lt c 2)
+  where
+    go : (c ≤ 2) ⊎ (2 < c) → leb c 2 ≡ leb (c - 1) 1
+    go (inl l) = le-leb c 2 l ∙ sym (le-leb (c - 1) 1 (omega arith))
+    go (inr l) = lt-leb c 2 l ∙ sym (lt-leb (c - 1) 1 (omega arith))
+
+module _ (p counts : List ℕ) (w : Waiting) (i : ℕ) (can : CanFall p counts i) where
+  abbrev takes : Bool
+  takes = eqb (at p i / 256 % 4) 1
+
+  abbrev place : ℕ
+  place = at p i % 32
+
+  module _ (e : takes ≡ true) where
+    device : (deviceAt p i ≡ place) × (1 ≤ getD counts place 0)
+    unfolding deviceAt operand takesAt isTake kind
+    device =
+        let f = can e in
+        let d : at p i % 256 ≡ at p i % 32 = omega (arith, f .0) in
+        (d, rw d at f .1)
+
+    settles-take : (_≡_ {A = Waiting}
+        (cond (leb (getD counts place 0) 2)
+        (record { ready = w .ready; standing = w .standing; scarce = union (w .scarce) (only place) }) w)
+        (settled p counts w i))
+        × (set counts place (getD counts place 0 - 1) ≡ counted p counts i)
+    unfolding settled counted takesAt isTake kind
+    settles-take = rw (e, device .0, leb-less (getD counts place 0) (device .1)) (refl, refl)
+
+  settles-other : takes ≡ false
+      → (_≡_ {A = Waiting} w (settled p counts w i))
+      × (set counts place (getD counts place 0 - 0) ≡ counted p counts i)
+  unfolding settled counted takesAt isTake kind
+  settles-other e =
+      let z : getD counts place 0 - 0 ≡ getD counts place 0 = omega arith in rw (e, z, set-getD counts place 0)
+      (refl, refl)
+
+  falls : (t : Bool) → takes ≡ t → boolByte t ≤ getD counts place 0
+  falls true e = device e .1
+  falls false e = omega arith
+
+  pub fall-fits : boolByte takes ≤ getD counts place 0
+  fall-fits = falls takes refl
+
+  pub settles : (_≡_ {A = Waiting}
+      (record {
+        ready = w .ready;
+        standing = w .standing;
+        scarce = bitOr (w .scarce) (boolByte (takes && leb (getD counts place 0) 2) * 2 ^ place % 4294967296);
+      })
       (settled p counts w i))
-      × (set counts (at p i % 256) (getD counts (at p i % 256) 0 - 1) ≡ counted p counts i)
-  unfolding settled counted deviceAt operand union
-  settles-scarce s e h q =
-      rw (take-of p i e) (rw (le-leb (getD counts (at p i % 256) 0 - 1) 1 h, q), refl)
-
-  pub settles-more : at p i / 256 % 4 ≡ 1 → 1 < getD counts (at p i % 256) 0 - 1
-      → (w ≡ settled p counts w i)
-      × (set counts (at p i % 256) (getD counts (at p i % 256) 0 - 1) ≡ counted p counts i)
-  unfolding settled counted deviceAt operand
-  settles-more e h = rw (take-of p i e) (rw (lt-leb (getD counts (at p i % 256) 0 - 1) 1 h), refl)
-
-  pub settles-none : (at p i / 256 % 4 ≡ 1 → ⊥) → (w ≡ settled p counts w i) × (counts ≡ counted p counts i)
-  unfolding settled counted
-  settles-none n = rw (no-take p i n) (refl, refl)
+      × (set counts place (getD counts place 0 - boolByte takes) ≡ counted p counts i)
+  settles = (
+    with-scarce w place (takes && leb (getD counts place 0) 2) (omega arith)
+        ∙ go takes refl .0,
+    go takes refl .1,
+  )
+    where
+      go : (t : Bool) → takes ≡ t
+          → (_≡_ {A = Waiting}
+          (cond (t && leb (getD counts place 0) 2)
+          (record { ready = w .ready; standing = w .standing; scarce = union (w .scarce) (only place) }) w)
+          (settled p counts w i))
+          × (set counts place (getD counts place 0 - boolByte t) ≡ counted p counts i)
+      go true e = settles-take e
+      go false e = settles-other e
 
 -- ---- the counts at the start
 

@@ -7,8 +7,6 @@ use mathlib.Core.Logic.{_⊎_, inl, inr}
 use mathlib.Core.Option.{Option, none, some, Option·getD}
 use mathlib.Core.Path.{_≡_, refl, sym, _∙_, ap}
 use native.Mathlib.Omega.{arith}
-use native.Mathlib.Nat.{one-mul, mod-eq-of-lt}
-use lib.Pow.{pow-lt}
 use lib.Bits.{bitAnd, bitOr, bitXor, and-shr, and-step, xor-shr, xor-step, differ}
 use lib.Dec.{eqb, leb, ltb}
 use lib.ListN.{getD}
@@ -242,11 +240,6 @@ scarce-below counts (suc n) d h =
     go false e (inr q) p ih = ih (let z = eqb-false n d q in omega (arith, z))
 
 -- ---- what the code computes
-
--- a shift by less than the width makes the set of one
-pub shifted : (W d : ℕ) → d < W → 1 * 2 ^ d % 2 ^ W ≡ only d
-unfolding only
-shifted W d h = ap (λ (x : ℕ). x % 2 ^ W) (one-mul (2 ^ d)) ∙ mod-eq-of-lt (pow-lt h)
 
 pub taken-job : (w : Waiting) (s r : ℕ) → s < maxJob → r ≡ only s
     → _≡_ {A = Waiting} (record { ready = bitOr (w .ready) r; standing = w .standing; scarce = w .scarce }) (taken w s)

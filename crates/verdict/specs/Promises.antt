@@ -8,13 +8,14 @@ use lib.ListN.{length}
 use Rattle.model.specs.Lists.{upFrom, has, those, over}
 use Rattle.model.specs.Line.{lineNumber}
 use Rattle.model.specs.Legal.{held, Legal}
+use Rattle.model.specs.Answers.{verdictValues}
 use Rattle.model.specs.Entries.{judging}
 use Rattle.model.specs.Board.{devices}
 use Rattle.model.specs.declared.VerdictAnswer.{VerdictAnswer}
 
 -- Of a plan and a lent list, the answer and the list left are those of the outcome that `model` defines.
 pub record JudgesAs (plan lent : List ℕ) (answer : VerdictAnswer) (left : List ℕ) : Type 0 where
-  pub answers : answer ≡ judging devices plan lent .answer
+  pub answers : verdictValues answer ≡ verdictValues (judging devices plan lent .answer)
   pub leaves : left ≡ judging devices plan lent .order
 
 -- no number stands twice in a list

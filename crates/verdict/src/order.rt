@@ -93,7 +93,8 @@ fn begin(
     w
 }
 
-// Line `i` is done: if it is a take, one line less takes its device.
+// Line `i` is done: if it is a take, one line less takes its device. There is no branch on the verb, which cannot be
+// foretold: of another line nothing is taken off, and no device comes to be scarce.
 fn settle(plan: &[u32], counts: &mut [u32; 32], w: Waiting, i: usize) -> Waiting
     requires { ⌜ i < length (now plan) ⌝ }
     requires { ⌜ CanFall (now plan) (now counts) i ⌝ }
@@ -101,20 +102,16 @@ fn settle(plan: &[u32], counts: &mut [u32; 32], w: Waiting, i: usize) -> Waiting
     ensures { λ r. ⌜ now (counts .exit) ≡ counted (now (plan .entry)) (now (counts .entry)) i ⌝ }
 {
     let l = plan[i];
-    if l / 256 % 4 == 1 {
-        let d = (l % 256) as usize;
-        let c = counts[d] - 1;
-        counts[d] = c;
-        if c <= 1 {
-            return Waiting {
-                ready: w.ready,
-                standing: w.standing,
-                scarce: w.scarce | waiting::device_set(d),
-            };
-        }
-        return w;
+    let takes = l / 256 % 4 == 1;
+    let d = (l % 32) as usize;
+    let c = counts[d];
+    counts[d] = c - takes as u32;
+    let scarce = takes & (c <= 2);
+    Waiting {
+        ready: w.ready,
+        standing: w.standing,
+        scarce: w.scarce | (scarce as u32) << d,
     }
-    w
 }
 
 // Line `i`, which has left its place, is done.

@@ -8,15 +8,19 @@
 //! * the second, [`plain`], knows claims, rows, circles, the order handed out and the move.
 //!
 //! [`orders`] and [`read`] never call [`plain`], and [`plain`] never calls [`orders`]; the run
-//! `readings` is the only place where their answers meet. [`random`] makes the plans for it.
+//! `readings` is the only place where their answers meet. [`random`] makes the plans for it,
+//! [`damage`] spoils them, [`small`] brings every small one, and [`tally`] counts what was seen.
 
 #![forbid(unsafe_code)]
 #![warn(missing_docs)]
 
+pub mod damage;
 pub mod line;
 pub mod orders;
 pub mod plain;
 pub mod random;
 pub mod read;
+pub mod small;
+pub mod tally;
 
 pub use line::{Line, Refusal, Verb};

@@ -11,7 +11,7 @@ mod lent;
 mod moving;
 
 pub use lent::{printed, read_into, screen, table_into, verdict_into, write_into, SCREEN};
-pub use moving::{move_claim, way};
+pub use moving::{edited, move_claim, way};
 
 use crate::line::{Line, Refusal, Verb, DEVICES};
 use std::collections::BTreeMap;

@@ -33,6 +33,11 @@ impl<'a> Lines<'a> {
         Lines { text, offset: 0, handed: 0 }
     }
 
+    /// Where the next line begins.
+    pub fn offset(&self) -> usize {
+        self.offset
+    }
+
     /// The next line, tested by 1, 3 and 2 and nothing else. A refusal and the end leave the
     /// reader where it stands, so that asking again brings the same answer.
     pub fn next_line(&mut self) -> Handed {

@@ -4,66 +4,62 @@ use mathlib.Core.List.{List, []}
 use Prim.Native.Nat.{ℕ, _≤_, _-_}
 use native.Mathlib.Omega.{arith}
 use borrow.Author.Needs.{needs}
-use lib.ListN.{length, take, drop, getD}
+use lib.ListN.{length, drop, getD}
 use Rattle.model.specs.Line.{job}
 use Rattle.model.specs.declared.Refusal.{Refusal}
 use Rattle.theory.proofs.Line.{line-parts}
-use Rattle.plan.specs.Walk.{walkFrom, stepOf, on, bad, nextBy, depthBy}
+use Rattle.plan.specs.Walk.{walkFrom, stepOf, on, bad, heldIn, Holding, nextBy}
 use Rattle.plan.specs.declared.After.{After}
 use Rattle.plan.proofs.Steps.{walk-end, walk-on, walk-bad, on-line}
+use Rattle.plan.proofs.Stacks.{none-held}
 use Rattle.plan.proofs.walk.Statement.{statement}
 use Rattle.plan.proofs.walk.Tie as tie
 use Rattle.plan.proofs.walk.Reads as reads
 use Rattle.plan.proofs.walk.Lts as lts
 use Rattle.plan.proofs.line.Reads as line-reads
 
-record State (n i depth prev : ℕ) (held first starter : List ℕ) : Type 0 where
+record State (n i depth held prev : ℕ) (stack first starter : List ℕ) : Type 0 where
   at-most : i ≤ n
-  few : depth ≤ i
   job : prev ≤ 64
-  held-long : length held ≡ 1024
+  holding : Holding depth held stack
   first-long : length first ≡ 65
   starter-long : length starter ≡ 65
 
 abbrev Inv-loop : tie.InvT-loop
-Inv-loop plan first₀ starter₀ held₀ depth₀ prev₀ i₀ first starter held depth prev i =
-    State (length plan) i depth prev held first starter
-    × (walkFrom 32 0 0 [] first₀ starter₀ plan ≡ walkFrom 32 i prev (take depth held) first starter (drop i plan))
+Inv-loop plan first₀ starter₀ stack₀ depth₀ held₀ prev₀ i₀ first starter stack depth held prev i =
+    State (length plan) i depth held prev stack first starter
+    × (walkFrom 32 0 0 [] first₀ starter₀ plan ≡ walkFrom 32 i prev (heldIn depth stack) first starter (drop i plan))
 
 abbrev μ-loop : tie.MeasureT-loop
-μ-loop plan first₀ starter₀ held₀ depth₀ prev₀ i₀ first starter held depth prev i = length plan - i
+μ-loop plan first₀ starter₀ stack₀ depth₀ held₀ prev₀ i₀ first starter stack depth held prev i = length plan - i
 
--- src/lib.rt:163:5
+array-write-stack : tie.Need-array-write-stack Inv-loop μ-loop
+array-write-stack c = search needs
+
 loop-holds : tie.Need-loop-holds Inv-loop μ-loop
 loop-holds c = (
   record {
     at-most = search needs;
-    few = search needs;
     job = search needs;
-    held-long = refl;
+    holding = none-held _ refl refl;
     first-long = c .before .pre .0;
     starter-long = c .before .pre .1;
   },
   refl,
 )
 
--- src/lib.rt:164:17
 mul-n : tie.Need-mul-n Inv-loop μ-loop
 mul-n c = search needs
 
--- src/lib.rt:164:17
 shared-slice-read-n : tie.Need-shared-slice-read-n Inv-loop μ-loop
 shared-slice-read-n c = search needs
 
--- src/lib.rt:165:15
 line-requires : tie.Need-line-requires Inv-loop μ-loop
 line-requires c κs = search needs
 
--- src/lib.rt:166:24
 enum-known-r : tie.Need-enum-known-r Inv-loop μ-loop
 enum-known-r c = search needs
 
--- src/lib.rt:167:17
 returns : tie.Need-returns Inv-loop μ-loop
 returns c =
     let f = c .before .before .before .line in
@@ -71,34 +67,30 @@ returns c =
     let p = l .before .before .args .plan .now in
     let r : Refusal = c .before .r .given .0 .0 in
     let told : f .result ≡ After.Bad r = c .before .r .given .1 in
+    let stack = f .last .1 .1 .1 .1 .1 .0 in
+    let first = f .last .1 .1 .1 .1 .1 .1 .0 in
+    let starter = f .last .1 .1 .1 .1 .1 .1 .1 .0 in
     let state : bad r
-    ≡ stepOf 32 (getD p (l .loop .i) 0) (l .loop .i) (l .loop .prev) (take (l .loop .depth) (l .loop .held))
+    ≡ stepOf 32 (getD p (l .loop .i) 0) (l .loop .i) (l .loop .prev) (heldIn (l .loop .depth) (l .loop .stack))
     (l .loop .first)
-    (l .loop .starter) =
-    ap (λ (x : After). nextBy x (f .last .1 .1 .1 .1 .0) (f .last .1 .1 .1 .1 .1 .0) (f .last .1 .1 .1 .1 .1 .1 .0))
-    (sym told)
-    ∙ f .ensures .0 in (
+    (l .loop .starter) = ap (λ (x : After). nextBy x stack first starter) (sym told) ∙ f .ensures .0 in (
       sym
           (l .loop .inv .1
-          ∙ walk-bad 32 (l .loop .i) (l .loop .prev) (take (l .loop .depth) (l .loop .held)) (l .loop .first)
+          ∙ walk-bad 32 (l .loop .i) (l .loop .prev) (heldIn (l .loop .depth) (l .loop .stack)) (l .loop .first)
           (l .loop .starter) p
           (search needs) r state),
-      (f .ensures .1 .1 .1, f .ensures .1 .1 .2),
+      f .ensures .1 .1,
     )
 
--- src/lib.rt:169:23
 enum-known-d : tie.Need-enum-known-d Inv-loop μ-loop
 enum-known-d c = search needs
 
--- src/lib.rt:172:17
 add-i : tie.Need-add-i Inv-loop μ-loop
 add-i c = search needs
 
--- src/lib.rt:163:5
 loop-less : tie.Need-loop-less Inv-loop μ-loop
 loop-less c = search needs
 
--- src/lib.rt:163:5
 loop-again : tie.Need-loop-again Inv-loop μ-loop
 unfolding job
 loop-again c =
@@ -106,38 +98,37 @@ loop-again c =
     let l = c .before .before .before .before .before .before .before .before .before in
     let p = l .before .before .args .plan .now in
     let d : ℕ = c .before .d .given .0 .0 in
-    let told : f .result ≡ After.On d = c .before .d .given .1 in
-    let deep : depthBy (f .result) ≡ d = ap depthBy told in
-    let held = f .last .1 .1 .1 .1 .0 in
-    let first = f .last .1 .1 .1 .1 .1 .0 in
-    let starter = f .last .1 .1 .1 .1 .1 .1 .0 in
-    let state : on (take d held) first starter
-    ≡ stepOf 32 (getD p (l .loop .i) 0) (l .loop .i) (l .loop .prev) (take (l .loop .depth) (l .loop .held))
+    let w : ℕ = c .before .d .given .0 .1 .0 in
+    let told : f .result ≡ After.On d w = c .before .d .given .1 in
+    let stack = f .last .1 .1 .1 .1 .1 .0 in
+    let first = f .last .1 .1 .1 .1 .1 .1 .0 in
+    let starter = f .last .1 .1 .1 .1 .1 .1 .1 .0 in
+    let state : on (heldIn d stack) first starter
+    ≡ stepOf 32 (getD p (l .loop .i) 0) (l .loop .i) (l .loop .prev) (heldIn (l .loop .depth) (l .loop .stack))
     (l .loop .first)
-    (l .loop .starter) = ap (λ (x : After). nextBy x held first starter) (sym told) ∙ f .ensures .0 in
-    let line = on-line 32 (getD p (l .loop .i) 0) (l .loop .i) (l .loop .prev) (take (l .loop .depth) (l .loop .held))
-    (l .loop .first) (l .loop .starter) (take d held) first starter state in (
+    (l .loop .starter) = ap (λ (x : After). nextBy x stack first starter) (sym told) ∙ f .ensures .0 in
+    let line = on-line 32 (getD p (l .loop .i) 0) (l .loop .i) (l .loop .prev)
+    (heldIn (l .loop .depth) (l .loop .stack)) (l .loop .first) (l .loop .starter)
+    (heldIn d stack) first starter state in (
       record {
         at-most = search needs;
-        few = omega (arith, f .ensures .1 .0);
         job = line-parts 32 (getD p (l .loop .i) 0) line .1;
-        held-long = f .ensures .1 .1 .0;
-        first-long = f .ensures .1 .1 .1;
-        starter-long = f .ensures .1 .1 .2;
+        holding = rw told at (f .ensures .1 .0);
+        first-long = f .ensures .1 .1 .0;
+        starter-long = f .ensures .1 .1 .1;
       },
       l .loop .inv .1
-          ∙ walk-on 32 (l .loop .i) (l .loop .prev) (take (l .loop .depth) (l .loop .held)) (l .loop .first)
+          ∙ walk-on 32 (l .loop .i) (l .loop .prev) (heldIn (l .loop .depth) (l .loop .stack)) (l .loop .first)
           (l .loop .starter) p
-          (search needs) (take d held) first starter state,
+          (search needs) (heldIn d stack) first starter state,
     )
 
--- src/lib.rt:154:1
 returns-2 : tie.Need-returns-2 Inv-loop μ-loop
 returns-2 c =
     let l = c .before in (
       sym
           (l .loop .inv .1
-          ∙ walk-end 32 (l .loop .i) (l .loop .prev) (take (l .loop .depth) (l .loop .held)) (l .loop .first)
+          ∙ walk-end 32 (l .loop .i) (l .loop .prev) (heldIn (l .loop .depth) (l .loop .stack)) (l .loop .first)
           (l .loop .starter)
           (l .before .before .args .plan .now) (c .loop-test .left)),
       (l .loop .inv .0 .first-long, l .loop .inv .0 .starter-long),
@@ -149,6 +140,7 @@ walk-spec =
     (tie.spec
     Inv-loop
     μ-loop
+    array-write-stack
     loop-holds
     mul-n
     shared-slice-read-n

@@ -1,5 +1,5 @@
 -- `rows::diagonal` meets its contract: the set so far has what passes from device d on.
-use Prim.Native.Nat.{_*_, _≤_, _-_}
+use Prim.Native.Nat.{_≤_, _-_}
 use mathlib.Core.Path.{_≡_, ap, _∙_}
 use mathlib.Core.List.{map}
 use native.Mathlib.Omega.{arith}
@@ -8,31 +8,37 @@ use Rattle.model.specs.Board.{devices}
 use Rattle.model.specs.Lists.{upFrom}
 use Rattle.model.specs.Sets.{empty, union, unionOf}
 use Rattle.rows.specs.Where.{onlyIf}
-use Rattle.rows.specs.Square.{flag}
+use Rattle.rows.specs.Square.{inOwnRow}
 use Rattle.rows.proofs.Where.{where-begins, where-grows, where-whole}
 use Rattle.rows.proofs.diagonal.Statement.{statement}
 use Rattle.rows.proofs.diagonal.Tie as tie
 
 abbrev Inv-loop : tie.InvT-loop
-Inv-loop flags s₀ d₀ s d =
-    (d ≤ devices) × (s ≡ unionOf (map (λ e. onlyIf (flag flags (e * 33)) e) (upFrom d (devices - d))))
+Inv-loop square s₀ d₀ s d =
+    (d ≤ devices) × (s ≡ unionOf (map (λ e. onlyIf (inOwnRow square e) e) (upFrom d (devices - d))))
 
 abbrev μ-loop : tie.MeasureT-loop
-μ-loop flags s₀ d₀ s d = d
+μ-loop square s₀ d₀ s d = d
 
 loop-holds : tie.Need-loop-holds Inv-loop μ-loop
 unfolding empty
 loop-holds c =
-    (search needs, where-begins devices devices (λ e. flag (c .before .args .flags .now) (e * 33)) (omega arith))
+    (search needs, where-begins devices _ (inOwnRow (c .args .square .now)) (omega arith))
 
 sub-d : tie.Need-sub-d Inv-loop μ-loop
 sub-d c = search needs
 
-mul-back : tie.Need-mul-back Inv-loop μ-loop
-mul-back c = omega arith
+mul-member : tie.Need-mul-member Inv-loop μ-loop
+mul-member c = omega arith
 
-shared-slice-read-back : tie.Need-shared-slice-read-back Inv-loop μ-loop
-shared-slice-read-back c = omega arith
+element-copy-out-member : tie.Need-element-copy-out-member Inv-loop μ-loop
+element-copy-out-member c = omega arith
+
+cast-member : tie.Need-cast-member Inv-loop μ-loop
+cast-member c = omega arith
+
+member-requires : tie.Need-member-requires Inv-loop μ-loop
+member-requires c κs = search needs
 
 cast-only-if : tie.Need-cast-only-if Inv-loop μ-loop
 cast-only-if c = omega arith
@@ -47,19 +53,21 @@ loop-less : tie.Need-loop-less Inv-loop μ-loop
 loop-less c = search needs
 
 loop-again : tie.Need-loop-again Inv-loop μ-loop
+unfolding inOwnRow
 loop-again c =
-    let l = c .before .before .before .before .loop in
-    let flags = c .before .before .before .before .before .before .args .flags .now in (
+    let l = c .before .before .before .before .before .loop in
+    let f = inOwnRow (c .before .before .before .before .before .before .args .square .now) in (
       omega arith,
       c .union .ensures ∙ ap (λ x. union x (l .s)) (c .before .only-if .ensures)
-          ∙ where-grows devices (l .d) (λ e. flag flags (e * 33)) (l .s) (omega arith) (l .inv .0) (l .inv .1),
+          ∙ ap (λ b. union (onlyIf b (l .d - 1)) (l .s)) (c .before .before .member .ensures)
+          ∙ where-grows devices (l .d) f (l .s) (omega arith) (l .inv .0) (l .inv .1),
     )
 
 returns : tie.Need-returns Inv-loop μ-loop
 returns c =
     let l = c .before .loop in
-    where-whole devices (l .d) (λ e. flag (c .before .before .before .args .flags .now) (e * 33)) (l .s)
-    (c .loop-test .left) (l .inv .1)
+    where-whole devices (l .d) (inOwnRow (c .before .before .args .square .now)) (l .s) (c .loop-test .left)
+    (l .inv .1)
 
 pub diagonal-spec : {M : Type 1} → statement M
 diagonal-spec =
@@ -69,8 +77,10 @@ diagonal-spec =
     μ-loop
     loop-holds
     sub-d
-    mul-back
-    shared-slice-read-back
+    mul-member
+    element-copy-out-member
+    cast-member
+    member-requires
     cast-only-if
     only-if-requires
     union-requires

@@ -1,38 +1,52 @@
--- `rows::sweep` meets its contract: the places passed are swept, the others as they were, and what is read for the next
--- place is what stood there before the sweep.
+-- `rows::sweep` meets its contract: the rows passed are swept, the others as they were.
 use Prim.Native.Nat.{_≤_, _-_}
-use mathlib.Core.Path.{sym, _∙_}
-use mathlib.Core.Bool.{false}
+use mathlib.Core.Path.{_≡_, refl, sym, _∙_}
 use native.Mathlib.Omega.{arith}
 use borrow.Author.Needs.{needs}
-use Rattle.rows.specs.Square.{places, throughOne, swept}
-use Rattle.rows.proofs.Filled.{Filled, none-filled, one-filled, all-filled}
-use Rattle.rows.proofs.Square.{reads-old}
+use lib.ListN.{length, getD, length-set}
+use Rattle.model.specs.Board.{devices}
+use Rattle.rows.specs.Square.{ledBy, swept}
+use Rattle.rows.proofs.Filled.{filled, one-filled, all-filled}
 use Rattle.rows.proofs.sweep.Statement.{statement}
 use Rattle.rows.proofs.sweep.Tie as tie
 
 abbrev Inv-loop : tie.InvT-loop
-Inv-loop flags₀ k n₀ flags n = (n ≤ places) × Filled (throughOne k flags₀) false places flags₀ flags n
+Inv-loop square₀ k through d₀ square d =
+    (d ≤ devices) × (length square ≡ devices) × (square ≡ filled (ledBy k through) d square₀)
 
 abbrev μ-loop : tie.MeasureT-loop
-μ-loop flags₀ k n₀ flags n = places - n
+μ-loop square₀ k through d₀ square d = devices - d
+
+mul-through : tie.Need-mul-through Inv-loop μ-loop
+mul-through c = search needs
+
+slice-read-through : tie.Need-slice-read-through Inv-loop μ-loop
+slice-read-through c = search needs
 
 loop-holds : tie.Need-loop-holds Inv-loop μ-loop
-loop-holds c =
-    let s = c .before in
-    let old = s .args .flags .now in
-    (search needs, none-filled (throughOne (s .args .k) old) false places old (s .pre .1))
+unfolding filled
+loop-holds c = (search needs, c .before .before .pre .1, refl)
 
-through-requires : tie.Need-through-requires Inv-loop μ-loop
-through-requires c κs =
-    let l = c .before .before in (l .before .before .pre .0, c .before .loop-test .taken, l .loop .inv .1 .long)
+mul-led : tie.Need-mul-led Inv-loop μ-loop
+mul-led c = search needs
 
-slice-write-flags : tie.Need-slice-write-flags Inv-loop μ-loop
-slice-write-flags c =
-    let l = c .before .before .before in omega (arith, l .loop .inv .1 .long, c .before .before .loop-test .taken)
+slice-read-led : tie.Need-slice-read-led Inv-loop μ-loop
+slice-read-led c = search needs
 
-add-n : tie.Need-add-n Inv-loop μ-loop
-add-n c = search needs
+cast-led : tie.Need-cast-led Inv-loop μ-loop
+cast-led c = search needs
+
+led-requires : tie.Need-led-requires Inv-loop μ-loop
+led-requires c κs = search needs
+
+mul-square : tie.Need-mul-square Inv-loop μ-loop
+mul-square c = search needs
+
+slice-write-square : tie.Need-slice-write-square Inv-loop μ-loop
+slice-write-square c = search needs
+
+add-d : tie.Need-add-d Inv-loop μ-loop
+add-d c = search needs
 
 loop-less : tie.Need-loop-less Inv-loop μ-loop
 loop-less c = search needs
@@ -40,25 +54,25 @@ loop-less c = search needs
 loop-again : tie.Need-loop-again Inv-loop μ-loop
 loop-again c =
     let l = c .before .before .before .loop in
-    let s = c .before .before .before .before .before in
-    let k = s .args .k in
-    let old = s .args .flags .now in (
+    let s = c .before .before .before .before .before .before in
+    let old = s .args .square .now in (
       search needs,
-      one-filled (throughOne k old) false places old (l .flags) (l .n) (c .through .result)
-          (c .before .before .loop-test .taken)
-          (c .through .ensures ∙ reads-old k (s .pre .0) old (l .flags) (l .n) (l .inv .1)) (l .inv .1),
+      length-set (l .square) (l .d) (c .led .result) ∙ l .inv .1,
+      one-filled (ledBy (s .args .k) (getD old (s .args .k) 0)) old (l .square) (l .d) (c .led .result) (l .inv .2)
+          (c .led .ensures),
     )
 
 same-length : tie.Need-same-length Inv-loop μ-loop
-same-length c = c .before .loop .inv .1 .long ∙ sym (c .before .before .before .pre .1)
+same-length c = c .before .loop .inv .1 ∙ sym (c .before .before .before .before .pre .1)
 
 returns : tie.Need-returns Inv-loop μ-loop
 unfolding swept
 returns c =
     let l = c .before .loop in
-    let s = c .before .before .before in
-    all-filled (throughOne (s .args .k) (s .args .flags .now)) false places (s .args .flags .now) (l .flags) (l .n)
-    (c .loop-test .left) (l .inv .1)
+    let s = c .before .before .before .before in
+    let old = s .args .square .now in
+    let h : length old ≤ l .d = omega (arith, c .loop-test .left, s .pre .1) in
+    l .inv .2 ∙ all-filled (ledBy (s .args .k) (getD old (s .args .k) 0)) (l .d) old h
 
 pub sweep-spec : {M : Type 1} → statement M
 sweep-spec =
@@ -66,10 +80,16 @@ sweep-spec =
     (tie.spec
     Inv-loop
     μ-loop
+    mul-through
+    slice-read-through
     loop-holds
-    through-requires
-    slice-write-flags
-    add-n
+    mul-led
+    slice-read-led
+    cast-led
+    led-requires
+    mul-square
+    slice-write-square
+    add-d
     loop-less
     loop-again
     same-length

@@ -3,6 +3,7 @@ use Prim.Native.Nat.{_-_}
 use native.Mathlib.Numerals.{add-one}
 use Rattle.rows.specs.Lasting.{wantedBefore}
 use Rattle.rows.proofs.Verbs.{takes-1, takes-not, gives-2, gives-not}
+use native.Mathlib.Omega.{arith}
 use borrow.Author.Needs.{needs}
 use Rattle.rows.proofs.wanted_before.Statement.{statement}
 use Rattle.rows.proofs.wanted_before.Tie as tie
@@ -11,7 +12,7 @@ returns : tie.Need-returns
 unfolding wantedBefore
 returns c =
     let a = c .before .before .args in
-    rw (takes-1 (a .l) (c .before .if1 .taken), c .if2 .taken)
+    rw (takes-1 (a .l) (omega (arith, c .before .if1 .taken)), c .if2 .taken)
 
 sub-result : tie.Need-sub-result
 sub-result c = search needs

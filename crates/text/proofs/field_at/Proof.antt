@@ -37,16 +37,36 @@ returns-4 c =
     (c .before .before .if2 .left)
     (c .before .if3 .left) (c .if4 .taken)
 
-digits-requires : tie.Need-digits-requires
-digits-requires c κs = search needs
+cast-v : tie.Need-cast-v
+cast-v c = search needs
+
+add-second-digit : tie.Need-add-second-digit
+add-second-digit c = search needs
+
+second-digit-requires : tie.Need-second-digit-requires
+second-digit-requires c κs = search needs
 
 returns-5 : tie.Need-returns-5
 returns-5 c =
-    let a = c .before .before .before .before .before .before .before .args in
+    let t = c .before .before in
+    let a = t .before .before .before .before .before .before .args in
+    c .second-digit .ensures
+    ∙ field-digits (a .end) (a .from) (a .text .now) (t .before .before .before .before .if1 .left)
+    (t .before .before .if2 .left) (t .before .if3 .left) (t .if4 .left)
+
+add-digits : tie.Need-add-digits
+add-digits c = search needs
+
+digits-requires : tie.Need-digits-requires
+digits-requires c κs = search needs
+
+returns-6 : tie.Need-returns-6
+returns-6 c =
+    let t = c .before .before in
+    let a = t .before .before .before .before .before .before .args in
     c .digits .ensures
-    ∙ field-digits (a .end) (a .from) (a .text .now) (c .before .before .before .before .before .if1 .left)
-    (c .before .before .before .if2 .left)
-    (c .before .before .if3 .left) (c .before .if4 .left)
+    ∙ field-digits (a .end) (a .from) (a .text .now) (t .before .before .before .before .if1 .left)
+    (t .before .before .if2 .left) (t .before .if3 .left) (t .if4 .left)
 
 pub field-at-spec : {M : Type 1} → statement M
 field-at-spec =
@@ -59,5 +79,10 @@ field-at-spec =
     returns-2
     returns-3
     returns-4
+    cast-v
+    add-second-digit
+    second-digit-requires
+    returns-5
+    add-digits
     digits-requires
-    returns-5)
+    returns-6)

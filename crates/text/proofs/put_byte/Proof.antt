@@ -1,4 +1,5 @@
 -- `text::put_byte` meets its contract: one store behind what is made.
+use native.Mathlib.Omega.{arith}
 use borrow.Author.Needs.{needs}
 use Rattle.text.proofs.Making.{put-one}
 use Rattle.text.proofs.put_byte.Statement.{statement}
@@ -11,7 +12,7 @@ add-result : tie.Need-add-result
 add-result c = search needs
 
 returns : tie.Need-returns
-returns c = put-one (c .args .at) (c .args .b) (c .args .made .now) (c .pre .0) (c .pre .1)
+returns c = put-one (c .args .at) (c .args .b) (c .args .made .now) (omega arith)
 
 pub put-byte-spec : {M : Type 1} → statement M
 put-byte-spec = tie.close (tie.spec element-write-made add-result returns)

@@ -1,96 +1,71 @@
 -- `text::put_number` meets its contract: as many digits as the number has.
-use mathlib.Core.Path.{ap}
 use native.Mathlib.Omega.{arith}
-use lib.ListN.{length}
 use borrow.Author.Needs.{needs}
-use Rattle.text.proofs.Making.{put-then, one-digit, two-digits, three-digits}
+use Rattle.text.proofs.Making.{decimal-length, put-digits}
 use Rattle.text.proofs.put_number.Statement.{statement}
 use Rattle.text.proofs.put_number.Tie as tie
 
-add-last : tie.Need-add-last
-add-last c = search needs
+add-made : tie.Need-add-made
+add-made c = search needs
 
-cast-last : tie.Need-cast-last
-cast-last c = search needs
+cast-made : tie.Need-cast-made
+cast-made c = search needs
 
-put-byte-requires : tie.Need-put-byte-requires
-put-byte-requires c κs =
-    let n = c .before .before .args .n in
-    omega (arith, ap length (one-digit n (c .before .if1 .taken)))
+element-write-made : tie.Need-element-write-made
+element-write-made c = omega (arith, decimal-length (c .args .n) (c .pre .0))
+
+cast-a : tie.Need-cast-a
+cast-a c = search needs
+
+add-a : tie.Need-add-a
+add-a c = record { fits = omega (arith, decimal-length (c .args .n) (c .pre .0)) }
+
+add-made-2 : tie.Need-add-made-2
+add-made-2 c = search needs
+
+cast-made-2 : tie.Need-cast-made-2
+cast-made-2 c = search needs
+
+element-write-made-2 : tie.Need-element-write-made-2
+element-write-made-2 c = omega (arith, decimal-length (c .args .n) (c .pre .0))
+
+cast-b : tie.Need-cast-b
+cast-b c = search needs
+
+add-b : tie.Need-add-b
+add-b c = record { fits = omega (arith, decimal-length (c .args .n) (c .pre .0)) }
+
+add-made-3 : tie.Need-add-made-3
+add-made-3 c = search needs
+
+cast-made-3 : tie.Need-cast-made-3
+cast-made-3 c = search needs
+
+element-write-made-3 : tie.Need-element-write-made-3
+element-write-made-3 c = omega (arith, decimal-length (c .args .n) (c .pre .0))
+
+add-result : tie.Need-add-result
+add-result c = record { fits = omega (arith, decimal-length (c .args .n) (c .pre .0)) }
 
 returns : tie.Need-returns
-returns c = rw (one-digit (c .before .before .before .args .n) (c .before .before .if1 .taken)) (c .put-byte .ensures)
-
-add-middle : tie.Need-add-middle
-add-middle c = search needs
-
-cast-middle : tie.Need-cast-middle
-cast-middle c = search needs
-
-put-byte-requires-2 : tie.Need-put-byte-requires-2
-put-byte-requires-2 c κs =
-    let n = c .before .before .before .args .n in
-    omega (arith, ap length (two-digits n (c .before .before .if1 .left) (c .before .if2 .taken)))
-
-put-byte-requires-3 : tie.Need-put-byte-requires-3
-put-byte-requires-3 c κs =
-    let t = c .before .before .before in
-    let n = t .before .before .args .n in
-    omega (arith, ap length (two-digits n (t .before .if1 .left) (t .if2 .taken)))
-
-returns-2 : tie.Need-returns-2
-returns-2 c =
-    let t = c .before .before .before .before in
-    rw (two-digits (t .before .before .args .n) (t .before .if1 .left) (t .if2 .taken))
-    (put-then (c .before .before .put-byte2 .ensures) (c .put-byte3 .ensures))
-
-add-put-byte : tie.Need-add-put-byte
-add-put-byte c = search needs
-
-cast-put-byte : tie.Need-cast-put-byte
-cast-put-byte c = search needs
-
-put-byte-requires-4 : tie.Need-put-byte-requires-4
-put-byte-requires-4 c κs =
-    let t = c .before in
-    let n = t .before .before .args .n in
-    omega (arith, ap length (three-digits n (t .if2 .left) (t .before .before .pre .0)))
-
-put-byte-requires-5 : tie.Need-put-byte-requires-5
-put-byte-requires-5 c κs =
-    let t = c .before .before .before in
-    let n = t .before .before .args .n in
-    omega (arith, ap length (three-digits n (t .if2 .left) (t .before .before .pre .0)))
-
-put-byte-requires-6 : tie.Need-put-byte-requires-6
-put-byte-requires-6 c κs =
-    let t = c .before .before .before .before .before in
-    let n = t .before .before .args .n in
-    omega (arith, ap length (three-digits n (t .if2 .left) (t .before .before .pre .0)))
-
-returns-3 : tie.Need-returns-3
-returns-3 c =
-    let t = c .before .before .before .before .before .before in
-    rw (three-digits (t .before .before .args .n) (t .if2 .left) (t .before .before .pre .0))
-    (put-then (c .before .before .before .before .put-byte4 .ensures)
-    (put-then (c .before .before .put-byte5 .ensures) (c .put-byte6 .ensures)))
+returns c = put-digits (c .args .n) (c .args .at) (c .args .made .now) (c .pre .0) (omega arith)
 
 pub put-number-spec : {M : Type 1} → statement M
 put-number-spec =
     tie.close
     (tie.spec
-    add-last
-    cast-last
-    put-byte-requires
-    returns
-    add-middle
-    cast-middle
-    put-byte-requires-2
-    put-byte-requires-3
-    returns-2
-    add-put-byte
-    cast-put-byte
-    put-byte-requires-4
-    put-byte-requires-5
-    put-byte-requires-6
-    returns-3)
+    add-made
+    cast-made
+    element-write-made
+    cast-a
+    add-a
+    add-made-2
+    cast-made-2
+    element-write-made-2
+    cast-b
+    add-b
+    add-made-3
+    cast-made-3
+    element-write-made-3
+    add-result
+    returns)

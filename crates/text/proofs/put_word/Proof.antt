@@ -1,6 +1,7 @@
 -- `text::put_word` meets its contract: the bytes stored so far are the front of the word.
 use Prim.Native.Nat.{_-_, _≤_, _+_}
 use lib.ListN.{length, take}
+use native.Mathlib.Omega.{arith}
 use borrow.Author.Needs.{needs}
 use Rattle.text.proofs.Making.{word-none, word-more, word-all}
 use Rattle.text.specs.Made.{Puts}
@@ -14,7 +15,7 @@ abbrev μ-loop : tie.MeasureT-loop
 μ-loop made₀ at word i₀ made i = length word - i
 
 loop-holds : tie.Need-loop-holds Inv-loop μ-loop
-loop-holds c = (search needs, word-none (c .args .at) (c .args .made .now) (c .pre .1))
+loop-holds c = (search needs, word-none (c .args .at) (c .args .made .now))
 
 shared-slice-read-made : tie.Need-shared-slice-read-made Inv-loop μ-loop
 shared-slice-read-made c = search needs
@@ -22,8 +23,8 @@ shared-slice-read-made c = search needs
 add-made : tie.Need-add-made Inv-loop μ-loop
 add-made c = search needs
 
-element-write-made : tie.Need-element-write-made Inv-loop μ-loop
-element-write-made c = search needs
+slice-write-made : tie.Need-slice-write-made Inv-loop μ-loop
+slice-write-made c = search needs
 
 add-i : tie.Need-add-i Inv-loop μ-loop
 add-i c = search needs
@@ -37,11 +38,14 @@ loop-again c =
     let a = l .before .args in (
       search needs,
       word-more (a .word .now) (a .at) (l .loop .i) (a .made .now) (l .loop .made) (c .before .loop-test .taken)
-          (l .before .pre .0) (l .loop .inv .1),
+          (omega arith) (l .loop .inv .1),
     )
 
 add-result : tie.Need-add-result Inv-loop μ-loop
 add-result c = search needs
+
+same-length : tie.Need-same-length Inv-loop μ-loop
+same-length c = search needs
 
 returns : tie.Need-returns Inv-loop μ-loop
 returns c =
@@ -58,9 +62,10 @@ put-word-spec =
     loop-holds
     shared-slice-read-made
     add-made
-    element-write-made
+    slice-write-made
     add-i
     loop-less
     loop-again
     add-result
+    same-length
     returns)

@@ -15,22 +15,42 @@ mod by_hand;
 mod lists;
 #[path = "readings/moves.rs"]
 mod moves;
-#[path = "readings/tally.rs"]
-mod tally;
 
 use by_hand::{claims_by_hand, order_by_hand, refusal_by_hand};
 use second::line::{pack, LINES};
 use second::plain::{self, passes_over, table, verdict, Order};
 use second::random::{plan, ring, wish, Cut, Random, Wish};
-use second::read::{check_packed, read, write, Rules};
-use second::{orders, Line, Refusal, Verb};
+use second::read::{check_packed, read, write};
+use second::small::small_plans;
+use second::tally::{Tally, LEAST};
+use second::{orders, Line, Refusal};
 use std::process::ExitCode;
-use tally::Tally;
 
 /// The seed where none is asked for.
 const SEED: u64 = 20_260_417;
 /// All plans of up to so many lines are tried.
 const SMALL: usize = 6;
+
+/// The classes of plans and moves that have to be met.
+const CLASSES: [&str; 17] = [
+    "plan: accepted",
+    "plan: refusal 9",
+    "plan: refusal 10",
+    "plan: shortest circle 1",
+    "plan: shortest circle 2",
+    "plan: shortest circle 3",
+    "plan: shortest circle 4 or more",
+    "plan: (b) passes over a lower blocked device",
+    "plan: accepted with over 500 lines",
+    "move: accepted, sets changed",
+    "move: accepted, no set changed",
+    "move: accepted, stale off the way",
+    "move: refusal 8",
+    "move: refusal 11",
+    "move: refusal 12",
+    "move: refusal 13",
+    "move: refusal 14",
+];
 
 /// Counts the plan in its classes.
 fn sort(tally: &mut Tally, plan: &[Line], verdict: &Result<Order, Refusal>) {
@@ -147,27 +167,14 @@ fn large_plans(tally: &mut Tally, random: &mut Random) {
     }
 }
 
-/// Every well-formed plan of up to `SMALL` lines over two devices, with one action code for all.
-/// Grown line by line: a list that the rules refuse has no well-formed list below it, but for what
-/// is judged at the end. Counts the plans by their number of lines.
-fn small_plans(tally: &mut Tally, rules: &Rules, lines: usize, counts: &mut [u64; SMALL + 1]) {
-    if let Ok(plan) = rules.clone().end() {
-        counts[lines] += 1;
-        compare_plan(tally, "all small plans", &plan);
-    }
-    if lines == SMALL {
-        return;
-    }
-    let verbs = [Verb::Do(0), Verb::Take(0), Verb::Take(1), Verb::Give(0), Verb::Give(1)];
-    let starts = (2..=SMALL as u8).map(Verb::Start);
-    for verb in verbs.into_iter().chain(starts) {
-        for job in 1..=SMALL as u8 {
-            let mut longer = rules.clone();
-            if longer.add(Line { job, verb }).is_ok() {
-                small_plans(tally, &longer, lines + 1, counts);
-            }
-        }
-    }
+/// Every well-formed plan of up to `SMALL` lines over two devices. Counts them by their lines.
+fn all_small(tally: &mut Tally) -> [u64; SMALL + 1] {
+    let mut counts = [0; SMALL + 1];
+    small_plans(SMALL, &mut |plan| {
+        counts[plan.len()] += 1;
+        compare_plan(tally, "all small plans", plan);
+    });
+    counts
 }
 
 /// Prints how many small plans there were.
@@ -198,7 +205,7 @@ fn main() -> ExitCode {
         }
     };
     println!("seed {seed}");
-    let mut tally = Tally::new();
+    let mut tally = Tally::new(CLASSES.map(|class| (class.to_string(), LEAST)));
     let mut random = Random::new(seed);
     random_plans(&mut tally, &mut random);
     rings(&mut tally, &mut random);
@@ -206,9 +213,7 @@ fn main() -> ExitCode {
     lists::damaged_texts(&mut tally, &mut random);
     lists::lent_lists(&mut tally, &mut random);
     moves::moves(&mut tally, &mut random);
-    let mut small = [0; SMALL + 1];
-    small_plans(&mut tally, &Rules::default(), 0, &mut small);
-    print_small(&small);
+    print_small(&all_small(&mut tally));
     match tally.print() {
         true => ExitCode::SUCCESS,
         false => ExitCode::FAILURE,

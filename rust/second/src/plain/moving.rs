@@ -77,7 +77,7 @@ fn device_asked(device: u32) -> Result<u8, Refusal> {
 }
 
 /// The plan with another device in the take, and in its give if it has one.
-fn edited(plan: &[Line], at: usize, device: u8) -> Vec<Line> {
+pub fn edited(plan: &[Line], at: usize, device: u8) -> Vec<Line> {
     let mut edited = plan.to_vec();
     edited[at].verb = Verb::Take(device);
     if let Some(give) = gives(plan)[at] {

@@ -1,6 +1,6 @@
 -- `verdict::waiting::device_set` meets its contract: the shift is less than the width.
 use borrow.Author.Needs.{needs}
-use Rattle.verdict.proofs.Words.{shifted}
+use Rattle.theory.proofs.Sets.{shifted}
 use Rattle.verdict.proofs.waiting.device_set.Statement.{statement}
 use Rattle.verdict.proofs.waiting.device_set.Tie as tie
 

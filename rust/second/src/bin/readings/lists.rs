@@ -1,39 +1,15 @@
 //! Comparisons of what is read from damaged texts and packed lists, and of the entries that fill
 //! lent lists. The paragraph is "Refusal numbers" of document 01, with its order and its lengths.
 
-use crate::tally::Tally;
+use second::damage::damaged_text;
 use second::line::pack;
 use second::plain::{self, table, verdict};
 use second::random::{plan, wish, Random};
 use second::read::{check_packed, read, write, Handed, Lines};
+use second::tally::Tally;
 use second::{Line, Refusal};
 use std::collections::HashMap;
 use std::fmt::Debug;
-
-/// Damages a text: one byte or one line goes, comes, or changes its place.
-fn damaged(random: &mut Random, text: &[u8]) -> Vec<u8> {
-    let mut bytes = text.to_vec();
-    let mut lines: Vec<&[u8]> = text.split_inclusive(|&byte| byte == b'\n').collect();
-    let byte = random.one_of(b"0123456789\t\n\r dotakegivestart\0");
-    let place = random.below(bytes.len() + 1);
-    if bytes.len() == place {
-        bytes.push(byte);
-        return bytes;
-    }
-    let (line, other) = (random.below(lines.len()), random.below(lines.len()));
-    match random.below(6) {
-        0 => bytes.insert(place, byte),
-        1 => bytes[place] = byte,
-        2 => drop(bytes.remove(place)),
-        3 => drop(lines.remove(line)),
-        4 => lines.insert(other, lines[line]),
-        _ => lines.swap(line, other),
-    }
-    if bytes == text {
-        bytes = lines.concat();
-    }
-    bytes
-}
 
 /// The packed numbers of all lines there are, by the bytes they are written with. A line has one
 /// spelling only, so what is not in here is malformed.
@@ -78,9 +54,9 @@ pub fn damaged_texts(tally: &mut Tally, random: &mut Random) {
     for _ in 0..30_000 {
         let wish = wish(random, 12, 4, 3);
         let plan = plan(random, wish);
-        let mut text = damaged(random, &write(&plan));
+        let mut text = damaged_text(random, &write(&plan));
         if random.once_in(2) {
-            text = damaged(random, &text);
+            text = damaged_text(random, &text);
         }
         let packed = packed_by_spelling(&all_lines, &text);
         let name = "damaged texts: lines are handed out by their spelling";
@@ -143,7 +119,7 @@ pub fn lent_lists(tally: &mut Tally, random: &mut Random) {
         let mut packed = pack(&plan);
         let mut text = write(&plan);
         if random.once_in(3) {
-            text = damaged(random, &text);
+            text = damaged_text(random, &text);
             if let Some(last) = packed.len().checked_sub(1) {
                 packed[random.below(last + 1)] ^= 1 << random.below(17);
             }

@@ -2,11 +2,11 @@
 //! has to be that of the edited plan afterwards. The paragraph is "Moving a claim" of document 01.
 
 use crate::by_hand::bound_after;
-use crate::tally::Tally;
 use second::line::{pack, DEVICES};
 use second::plain::{move_claim, table};
 use second::random::{plan, wish, Random};
 use second::read::check_packed;
+use second::tally::Tally;
 use second::{Line, Refusal, Verb};
 
 /// A move as the caller sees it: what is lent, and what is asked.

@@ -1,0 +1,2 @@
+-- What the contracts of `port` cite beside `model`.
+pub mod Promises

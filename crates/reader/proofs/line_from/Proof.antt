@@ -1,0 +1,22 @@
+-- `reader::line_from` meets its contract: the step of the reader with a cursor, at the count of the newlines.
+use mathlib.Core.Path.{_∙_}
+use borrow.Author.Needs.{needs}
+use Rattle.model.specs.Board.{devices}
+use Rattle.theory.proofs.Offsets.{from-count}
+use Rattle.reader.proofs.line_from.Statement.{statement}
+use Rattle.reader.proofs.line_from.Tie as tie
+
+newlines-before-requires : tie.Need-newlines-before-requires
+newlines-before-requires c κs = search needs
+
+next-line-requires : tie.Need-next-line-requires
+next-line-requires c κs = search needs
+
+returns : tie.Need-returns
+returns c =
+    let n = c .before .newlines-before in
+    let a = c .before .before .before .args in
+    c .next-line .ensures ∙ from-count devices (a .text .now) (a .offset) (n .result) (n .ensures)
+
+pub line-from-spec : {M : Type 1} → statement M
+line-from-spec = tie.close (tie.spec newlines-before-requires next-line-requires returns)

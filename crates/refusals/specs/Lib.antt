@@ -1,0 +1,2 @@
+-- What the contracts of this room, and of the entries for C and Rust, cite beside the definitions of `model`.
+pub mod InOne

@@ -1,0 +1,56 @@
+// Number and place of a refusal (01, "Refusal numbers"), for what is printed and for callers in other languages.
+use model::Refusal;
+ghost use mathlib.Core.Path.{_≡_};
+ghost use Rattle.model.specs.Answers.{numberOf, placeOf, refusalValues};
+ghost use Rattle.refusals.specs.InOne.{inOne};
+
+// The refusal's number.
+pub fn number(r: Refusal) -> u32
+    ensures { λ n. ⌜ n ≡ numberOf r ⌝ }
+{
+    match r {
+        Refusal::TextTooLong => 1,
+        Refusal::Malformed(_) => 2,
+        Refusal::TooManyLines => 3,
+        Refusal::JobOutOfSequence(_) => 4,
+        Refusal::BadStart(_) => 5,
+        Refusal::NeverStarted(_) => 6,
+        Refusal::GiveWithoutTake(_) => 7,
+        Refusal::TakeOfHeld(_) => 8,
+        Refusal::TwoLasting(_) => 9,
+        Refusal::LeadsBack(_) => 10,
+        Refusal::ListTooShort(_) => 11,
+        Refusal::NotATake(_) => 12,
+        Refusal::NoSuchDevice(_) => 13,
+        Refusal::StaleTable(_) => 14,
+    }
+}
+
+// The refusal's place.
+pub fn place(r: Refusal) -> u32
+    ensures { λ n. ⌜ n ≡ placeOf r ⌝ }
+{
+    match r {
+        Refusal::TextTooLong => 0,
+        Refusal::Malformed(line) => line,
+        Refusal::TooManyLines => 1025,
+        Refusal::JobOutOfSequence(line) => line,
+        Refusal::BadStart(line) => line,
+        Refusal::NeverStarted(line) => line,
+        Refusal::GiveWithoutTake(line) => line,
+        Refusal::TakeOfHeld(line) => line,
+        Refusal::TwoLasting(device) => device,
+        Refusal::LeadsBack(device) => device,
+        Refusal::ListTooShort(needed) => needed,
+        Refusal::NotATake(asked) => asked,
+        Refusal::NoSuchDevice(asked) => asked,
+        Refusal::StaleTable(line) => line,
+    }
+}
+
+// Both in one number: the refusal's number in the upper half, its place in the lower.
+pub fn in_one(r: Refusal) -> u64
+    ensures { λ n. ⌜ n ≡ inOne (refusalValues r) ⌝ }
+{
+    number(r) as u64 * 4294967296 + place(r) as u64
+}

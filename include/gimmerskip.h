@@ -1,0 +1,140 @@
+/*
+ * Gimmerskip for C and C++: plans as text or as packed numbers, their tables of claims, their orders, and moved claims.
+ *
+ * Link libscreen.a for gimmerskip_order, libreader.a for gimmerskip_line and libport.a for the other five. The commands
+ * `rt staticlib screen`, `rt staticlib reader` and `rt staticlib port` leave them in target/staticlib. No entry keeps
+ * anything of what it is lent, and none has a memory of its own.
+ *
+ * A lent list is a pointer and then its length, counted in entries of the list's type.
+ *   - A pointer is never null, not even where the length is 0: then it points at anything that is there.
+ *   - The lists of one call do not overlap. An entry that fills one list while it reads another relies on this.
+ *   - A list that is filled may be longer than needed; what lies past the last entry written stays as it was.
+ *
+ * Lines and jobs count from 1, devices from 0. A packed line is job * 1024 + kind * 256 + operand, its kind being 0 for
+ * do, 1 for take, 2 for give and 3 for start. A set of devices is 32 bits, device d being bit d.
+ */
+#ifndef GIMMERSKIP_H
+#define GIMMERSKIP_H
+
+#include <stddef.h>
+#include <stdint.h>
+
+#ifdef __cplusplus
+extern "C" {
+#endif
+
+/* The most lines of a plan. Lists of so many entries are long enough for every plan. */
+#define GIMMERSKIP_MAX_LINES 1024
+/* The most bytes of a text. A buffer of so many bytes is long enough for every plan that is written. */
+#define GIMMERSKIP_MAX_BYTES 12288
+/* The least room that gimmerskip_order asks for: the longest print there is. */
+#define GIMMERSKIP_SCREEN_ROOM 4027
+
+/* Why an entry refuses. Each comment says what the place of that refusal is. */
+enum gimmerskip_refusal {
+    GIMMERSKIP_TEXT_TOO_LONG = 1,        /* the text is longer than GIMMERSKIP_MAX_BYTES; the place is 0 */
+    GIMMERSKIP_MALFORMED = 2,            /* a line is malformed, unended, or the packed number of none; that line */
+    GIMMERSKIP_TOO_MANY_LINES = 3,       /* there is more after line 1024; the place is 1025 */
+    GIMMERSKIP_JOB_OUT_OF_SEQUENCE = 4,  /* a line's job does not follow on from the line before; that line */
+    GIMMERSKIP_BAD_START = 5,            /* the started job is not higher, is started already, or is empty; that line */
+    GIMMERSKIP_NEVER_STARTED = 6,        /* nothing starts a job; the first line of that job */
+    GIMMERSKIP_GIVE_WITHOUT_TAKE = 7,    /* the given device is not the latest its job still holds; that line */
+    GIMMERSKIP_TAKE_OF_HELD = 8,         /* the job already holds the device it takes; that line */
+    GIMMERSKIP_TWO_LASTING = 9,          /* more than one lasting take of a device; the lowest such device */
+    GIMMERSKIP_LEADS_BACK = 10,          /* a device leads back to itself; the lowest such device */
+    GIMMERSKIP_LIST_TOO_SHORT = 11,      /* the list to fill is too short; the length it needs */
+    GIMMERSKIP_NOT_A_TAKE = 12,          /* the line to move is no take of the plan; the line that was asked */
+    GIMMERSKIP_NO_SUCH_DEVICE = 13,      /* a claim cannot move to a device over 31; the device that was asked */
+    GIMMERSKIP_STALE_TABLE = 14          /* the table does not fit on the way; its line nearest to the one to move */
+};
+
+/*
+ * The 64-bit answers. Below 2^32 an answer is a success, and is the count that the entry promises. From there on it is
+ * a refusal: its number in the upper half, its place in the lower. A refused call has changed nothing that it was lent.
+ */
+
+/* Not 0 exactly if the answer is a refusal. */
+static inline int gimmerskip_is_refusal(uint64_t answer) {
+    return (answer >> 32) != 0;
+}
+
+/* The refusal's number, one of enum gimmerskip_refusal; 0 for a success. */
+static inline uint32_t gimmerskip_number(uint64_t answer) {
+    return (uint32_t)(answer >> 32);
+}
+
+/* The refusal's place; for a success, the count. */
+static inline uint32_t gimmerskip_place(uint64_t answer) {
+    return (uint32_t)(answer & 0xffffffffu);
+}
+
+/*
+ * For the screens: orders a text and prints the outcome.
+ * Reads   the n bytes at text.
+ * Writes  into out what the program `order` prints for that text: the order, or one line that begins with `refused`.
+ *         No byte of 0 is put behind it.
+ * Answers the number of bytes written. It is 0 only if room is below GIMMERSKIP_SCREEN_ROOM, whatever the text; nothing
+ *         is written then.
+ */
+size_t gimmerskip_order(const uint8_t *text, size_t n, uint8_t *out, size_t room);
+
+/*
+ * One line of a text. The lines of a text are handed out one after another: the first stands at offset 0, and each of
+ * the others just past the newline that ends the one before it.
+ * Reads   the n bytes at text.
+ * Answers the packed number of the line at offset, or 0 where nothing is left. The line counts as one more than there
+ *         are newlines before it. Refuses with 1, 3 or 2; what the other lines say is not tested.
+ */
+uint64_t gimmerskip_line(const uint8_t *text, size_t n, size_t offset);
+
+/*
+ * A text into packed numbers.
+ * Reads   the n bytes at text.
+ * Writes  into plan one packed number a line; it needs room for as many as there are lines.
+ * Answers the number of lines. Refuses with 1 to 8 where the text is no plan, then with 11; plan is then as it was.
+ */
+uint64_t gimmerskip_read(const uint8_t *text, size_t n, uint32_t *plan, size_t room);
+
+/*
+ * A packed plan into text.
+ * Reads   the n packed numbers at plan, all of which are the plan.
+ * Writes  into text the lines, each ended by a newline, and no byte of 0 behind them; it needs room for all of them.
+ * Answers the number of bytes. Refuses with 2 to 8 where the list is no plan, then with 11; text is then as it was.
+ */
+uint64_t gimmerskip_write(const uint32_t *plan, size_t n, uint8_t *text, size_t room);
+
+/*
+ * The table of claims.
+ * Reads   the n packed numbers at plan.
+ * Writes  into sets the claim set of each line; it needs room for n.
+ * Answers the number of lines, n. Refuses with 2 to 8 where the list is no plan, then with 11; sets is then as it was.
+ */
+uint64_t gimmerskip_table(const uint32_t *plan, size_t n, uint32_t *sets, size_t room);
+
+/*
+ * The verdict, and the order where there is one.
+ * Reads   the n packed numbers at plan.
+ * Writes  into order the line numbers in the order in which the lines are done; it needs room for n.
+ * Answers the number of devices that are still held after the last line. Refuses with 2 to 8 where the list is no plan,
+ *         then with 11, then with 9 or 10 where the plan has no legal order; order is then as it was.
+ */
+uint64_t gimmerskip_verdict(const uint32_t *plan, size_t n, uint16_t *order, size_t room);
+
+/*
+ * Moves the claim of a line, counted from 1, to another device.
+ * Reads   the n packed numbers at plan and the first n sets at sets, which is the plan's table from gimmerskip_table or
+ *         from earlier moves; so room is at least n.
+ * Writes  into plan the new device, in the take and in its give if it has one, and into sets the mended sets of the
+ *         lines on the way, from the moved line back to line 1.
+ * Answers the number of lines whose set is now another. Refuses with 2 to 8 where the list is no plan, then with 11
+ *         where sets is too short, then with 12, 13 or 14, and last with 8 where the job would hold the new device
+ *         twice, at the take that would be the second; plan and sets are then both as they were. A plan without a legal
+ *         order can be moved too.
+ */
+uint64_t gimmerskip_move(uint32_t *plan, size_t n, uint32_t *sets, size_t room, uint32_t line, uint32_t device);
+
+#ifdef __cplusplus
+}
+#endif
+
+#endif

@@ -1,0 +1,167 @@
+//! The two sides on plans of all kinds, before any time is taken: whole and damaged plans, rings, lists too short,
+//! stale tables. A version that refused differently would not be one to hold times against.
+
+use crate::sides::{FAST, OURS};
+use bench::fast;
+use second::line::pack;
+use second::random::{plan, ring, wish, Cut, Random};
+use std::collections::BTreeMap;
+
+/// Plans tried.
+pub const TRIED: usize = 20_000;
+
+/// How often each entry gave each refusal, 0 being that it gave none.
+pub type Counts = BTreeMap<(&'static str, u64), usize>;
+
+/// Tries both sides; what differs is an error.
+pub fn compare(random: &mut Random) -> Result<Counts, String> {
+    let mut counts = Counts::new();
+    for _ in 0..TRIED {
+        let mut packed = any_plan(random);
+        let mut text = vec![0; 16 * packed.len()];
+        let bytes = fast::write(&packed, &mut text) as usize;
+        text.truncate(bytes);
+        let mut table = vec![0; packed.len()];
+        fast::table(&packed, &mut table);
+        if random.once_in(2) {
+            damage_text(random, &mut text);
+            damage_plan(random, &mut packed);
+        }
+        if random.once_in(4) && !table.is_empty() {
+            let at = random.below(table.len());
+            table[at] ^= 1 << random.below(32);
+        }
+        compare_lists(random, &text, &packed, &mut counts)?;
+        compare_move(random, &packed, &table, &mut counts)?;
+    }
+    Ok(counts)
+}
+
+/// A well-formed plan, of a few lines or of up to 1,024; about one in eight is a ring.
+fn any_plan(random: &mut Random) -> Vec<u32> {
+    if random.once_in(8) {
+        let length = 1 + random.below(5);
+        let cut = random.one_of(&[Cut::Whole, Cut::LeftOut, Cut::GivenBack]);
+        return pack(&ring(random, length, cut));
+    }
+    let most = random.one_of(&[8, 40, 300, 1_024]);
+    let wish = wish(random, most, 64, 32);
+    pack(&plan(random, wish))
+}
+
+/// One byte other, more or less, or far too many; another verb; or too many lines of the last job.
+fn damage_text(random: &mut Random, text: &mut Vec<u8>) {
+    let byte = random.one_of(b"0123456789\t\n\r dotakegivst");
+    let at = random.below(text.len() + 1);
+    match random.below(8) {
+        0 => text.insert(at, byte),
+        1 => text.extend(std::iter::repeat_n(byte, 12_288)),
+        2 => text.truncate(at),
+        3 => {
+            let last = text[..text.len().saturating_sub(1)].rsplit(|&byte| byte == b'\n').next();
+            let job = last.and_then(|last| last.split(|&byte| byte == b'\t').next());
+            let line = [job.filter(|job| !job.is_empty()).unwrap_or(b"1"), b"\tdo\t1\n"].concat();
+            text.extend(line.repeat(1_025));
+        }
+        4 | 5 => exchange_verb(random, text),
+        _ if at < text.len() && random.once_in(3) => drop(text.remove(at)),
+        _ if at < text.len() => text[at] = byte,
+        _ => {}
+    }
+}
+
+/// Another verb in one line of a text, which is that of a plan.
+fn exchange_verb(random: &mut Random, text: &mut Vec<u8>) {
+    let tabs: Vec<usize> = (0..text.len()).filter(|&at| text[at] == b'\t').collect();
+    if tabs.is_empty() {
+        return;
+    }
+    let line = random.below(tabs.len() / 2);
+    let verb = random.one_of(&[&b"do"[..], b"take", b"give", b"start"]);
+    text.splice(tabs[2 * line] + 1..tabs[2 * line + 1], verb.iter().copied());
+}
+
+/// One line other, more or less; or far too many.
+fn damage_plan(random: &mut Random, plan: &mut Vec<u32>) {
+    let at = random.below(plan.len() + 1);
+    let any = (random.below(66) * 1_024 + random.below(4) * 256 + random.below(66)) as u32;
+    match random.below(10) {
+        0 => plan.insert(at, any),
+        1 => plan.extend(vec![plan.last().map_or(1_024, |last| last & !1_023); 1_025]),
+        2 => plan.truncate(at),
+        _ if at == plan.len() => {}
+        3 => drop(plan.remove(at)),
+        4 => plan[at] ^= 1 << random.below(32),
+        5 => plan[at] = any,
+        6 => plan[at] = plan[at] & !1_023 | any & 1_023,
+        7 => plan[at] = plan[at] & !255 | any & 63,
+        _ => plan[at] = plan[at] & !768 | any & 768,
+    }
+}
+
+/// Counts the answer, if the two sides gave the same.
+fn meet<T: PartialEq>(
+    counts: &mut Counts,
+    entry: &'static str,
+    ours: (u64, T),
+    fast: (u64, T),
+) -> Result<(), String> {
+    if ours.0 != fast.0 {
+        return Err(format!(
+            "{entry}, a plan of any kind: ours answers {:#x}, fast {:#x}",
+            ours.0, fast.0
+        ));
+    }
+    if ours.1 != fast.1 {
+        return Err(format!("{entry}, a plan of any kind: the lists differ"));
+    }
+    *counts.entry((entry, ours.0 >> 32)).or_default() += 1;
+    Ok(())
+}
+
+/// Calls an entry with a list of its own.
+fn lend<T: Clone>(list: &[T], call: impl FnOnce(&mut [T]) -> u64) -> (u64, Vec<T>) {
+    let mut list = list.to_vec();
+    (call(&mut list), list)
+}
+
+/// The entries that fill one list.
+fn compare_lists(
+    random: &mut Random,
+    text: &[u8],
+    plan: &[u32],
+    counts: &mut Counts,
+) -> Result<(), String> {
+    let room = if random.once_in(8) { random.below(plan.len() + 1) } else { 1_030 };
+    let (words, halves, bytes) = (vec![7u32; room], vec![7u16; room], vec![7u8; 12 * room]);
+    let read = |side: fn(&[u8], &mut [u32]) -> u64| lend(&words, |list| side(text, list));
+    meet(counts, "read", read(OURS.read), read(FAST.read))?;
+    let write = |side: fn(&[u32], &mut [u8]) -> u64| lend(&bytes, |list| side(plan, list));
+    meet(counts, "write", write(OURS.write), write(FAST.write))?;
+    let table = |side: fn(&[u32], &mut [u32]) -> u64| lend(&words, |list| side(plan, list));
+    meet(counts, "table", table(OURS.table), table(FAST.table))?;
+    let verdict = |side: fn(&[u32], &mut [u16]) -> u64| lend(&halves, |list| side(plan, list));
+    meet(counts, "verdict", verdict(OURS.verdict), verdict(FAST.verdict))
+}
+
+/// The move, mostly of a take, to a device that may not be there, with a table that may be stale or short.
+fn compare_move(
+    random: &mut Random,
+    plan: &[u32],
+    table: &[u32],
+    counts: &mut Counts,
+) -> Result<(), String> {
+    let (mut line, device) = (random.below(plan.len() + 2), random.below(36) as u32);
+    for _ in 0..random.below(8) {
+        if plan.get(line.wrapping_sub(1)).is_some_and(|line| line / 256 % 4 == 1) {
+            break;
+        }
+        line = random.below(plan.len() + 2);
+    }
+    let room = if random.once_in(8) { random.below(table.len() + 1) } else { table.len() };
+    let side = |entry: fn(&mut [u32], &mut [u32], u32, u32) -> u64| {
+        let (mut plan, mut sets) = (plan.to_vec(), table[..room].to_vec());
+        (entry(&mut plan, &mut sets, line as u32, device), (plan, sets))
+    };
+    meet(counts, "move", side(OURS.move_claim), side(FAST.move_claim))
+}

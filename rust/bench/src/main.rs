@@ -1,0 +1,92 @@
+//! The benchmark: each entry of the library beside the fast one, on the same inputs, in turn and in many rounds.
+//!
+//! Answers and lent lists are compared in every round; a difference ends the run with exit status 1. The seed is taken
+//! from the environment variable SEED, the number of rounds from ROUNDS; without them fixed ones are used.
+
+mod damaged;
+mod inputs;
+mod report;
+mod sides;
+
+use inputs::Inputs;
+use report::{Figures, Report};
+use second::random::Random;
+use sides::{Entry, Lent, FAST, OURS};
+use std::process::ExitCode;
+use std::time::Duration;
+
+const SEED: u64 = 20_260_418;
+const ROUNDS: usize = 301;
+const SIZES: [usize; 3] = [256, 512, 1_024];
+const ENTRIES: [Entry; 5] = [Entry::Read, Entry::Write, Entry::Table, Entry::Verdict, Entry::Move];
+
+/// The value of an environment variable, or another where it is not set.
+fn asked<T: std::str::FromStr>(name: &str, otherwise: T) -> T {
+    std::env::var(name).ok().and_then(|value| value.parse().ok()).unwrap_or(otherwise)
+}
+
+/// The times of the two sides in one round.
+type Pair = (Duration, Duration);
+
+/// One round of both sides on one entry at one size, with the answers that both gave.
+fn round(entry: Entry, inputs: &Inputs, ours_first: bool) -> Result<(Pair, Vec<u64>), String> {
+    let (mut ours, mut fast) = (Lent::new(inputs, entry), Lent::new(inputs, entry));
+    let times = if ours_first {
+        let time = OURS.run(entry, inputs, &mut ours);
+        (time, FAST.run(entry, inputs, &mut fast))
+    } else {
+        let time = FAST.run(entry, inputs, &mut fast);
+        (OURS.run(entry, inputs, &mut ours), time)
+    };
+    if ours.answers != fast.answers {
+        return Err(format!("{entry:?}, {} lines: the answers differ", inputs.lines));
+    }
+    if ours.lists != fast.lists {
+        return Err(format!("{entry:?}, {} lines: the lists differ", inputs.lines));
+    }
+    Ok((times, ours.answers))
+}
+
+/// Times both sides on one entry. Every round goes through all sizes, so that a machine that is slower for a while is
+/// so for all of them; which side goes first changes from round to round.
+fn measure(entry: Entry, sizes: &[Inputs], rounds: usize) -> Result<Figures, String> {
+    let rounds = if entry == Entry::Move { rounds.div_ceil(10) } else { rounds };
+    let mut figures = Figures::new(entry, sizes);
+    for number in 0..rounds {
+        for (inputs, of_size) in sizes.iter().zip(&mut figures.sizes) {
+            let (pair, answers) = round(entry, inputs, number % 2 == 0)?;
+            of_size.add(pair, answers, entry.calls(inputs));
+        }
+    }
+    Ok(figures)
+}
+
+fn run(seed: u64, rounds: usize) -> Result<Report, String> {
+    let mut random = Random::new(seed);
+    let mut report = Report { tried: damaged::compare(&mut random)?, ..Report::default() };
+    let mut sizes = Vec::new();
+    for lines in SIZES {
+        let (inputs, make) = Inputs::new(&mut random, lines);
+        report.makes.push((lines, make));
+        sizes.push(inputs);
+    }
+    for entry in ENTRIES {
+        report.figures.push(measure(entry, &sizes, rounds)?);
+    }
+    Ok(report)
+}
+
+fn main() -> ExitCode {
+    let (seed, rounds) = (asked("SEED", SEED), asked("ROUNDS", ROUNDS));
+    report::heading(seed, rounds);
+    match run(seed, rounds) {
+        Ok(report) => {
+            report.print();
+            ExitCode::SUCCESS
+        }
+        Err(difference) => {
+            println!("FAILED: {difference}");
+            ExitCode::FAILURE
+        }
+    }
+}

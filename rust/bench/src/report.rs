@@ -1,0 +1,151 @@
+//! What is printed, in Markdown: the machine, the inputs, the times and ratios, and the growth.
+
+use crate::damaged::{Counts, TRIED};
+use crate::inputs::{Inputs, Make, MOVES};
+use crate::sides::Entry;
+use std::collections::BTreeMap;
+use std::process::Command;
+use std::time::Duration;
+
+/// What one entry took at one size: nanoseconds a call, of both sides, round by round.
+pub struct OfSize {
+    lines: usize,
+    ours: Vec<f64>,
+    fast: Vec<f64>,
+    /// The answers of the last round.
+    answers: Vec<u64>,
+}
+
+/// What one entry took at all sizes.
+pub struct Figures {
+    entry: Entry,
+    pub sizes: Vec<OfSize>,
+}
+
+fn median(mut values: Vec<f64>) -> f64 {
+    values.sort_by(f64::total_cmp);
+    values[values.len() / 2]
+}
+
+/// The median of the ratios, round by round.
+fn ratio(above: &[f64], below: &[f64]) -> f64 {
+    median(above.iter().zip(below).map(|(above, below)| above / below).collect())
+}
+
+impl OfSize {
+    pub fn add(&mut self, pair: (Duration, Duration), answers: Vec<u64>, calls: usize) {
+        let nanos = |time: Duration| time.as_nanos() as f64 / calls as f64;
+        self.ours.push(nanos(pair.0));
+        self.fast.push(nanos(pair.1));
+        self.answers = answers;
+    }
+}
+
+impl Figures {
+    pub fn new(entry: Entry, sizes: &[Inputs]) -> Figures {
+        let of_size = |inputs: &Inputs| OfSize {
+            lines: inputs.lines,
+            ours: Vec::new(),
+            fast: Vec::new(),
+            answers: Vec::new(),
+        };
+        Figures { entry, sizes: sizes.iter().map(of_size).collect() }
+    }
+}
+
+/// How often a refusal was given, 0 being none.
+fn came_out(number: u64, count: usize) -> String {
+    match number {
+        0 => format!("{count} accepted"),
+        _ => format!("{count} refused by {number}"),
+    }
+}
+
+/// All that was found.
+#[derive(Default)]
+pub struct Report {
+    pub tried: Counts,
+    pub makes: Vec<(usize, Make)>,
+    pub figures: Vec<Figures>,
+}
+
+impl Report {
+    pub fn print(&self) {
+        for (lines, make) in &self.makes {
+            println!(
+                "- {lines} lines: {} plans, together {} lasting takes and {} pairs, up to {} takes open at once, \
+                 starts up to {} deep",
+                make.plans, make.lasting, make.pairs, make.deepest_pair, make.deepest_start
+            );
+        }
+        println!(
+            "\n| entry | lines | ours, ns | fast, ns | ours/fast |\n|---|---:|---:|---:|---:|"
+        );
+        for Figures { entry, sizes } in &self.figures {
+            for OfSize { lines, ours, fast, .. } in sizes {
+                let ratio = ratio(ours, fast);
+                let (ours, fast) = (median(ours.clone()), median(fast.clone()));
+                println!("| {entry:?} | {lines} | {ours:.0} | {fast:.0} | {ratio:.2} |");
+            }
+        }
+        self.print_growth();
+        self.print_moves();
+        println!("\nAnswers and lists were compared in every round: no difference.");
+        self.print_tried();
+    }
+
+    /// How the plans of all kinds came out.
+    fn print_tried(&self) {
+        println!("So they were on {TRIED} plans of all kinds, whole and damaged. How often each entry refused:\n");
+        for entry in ["read", "write", "table", "verdict", "move"] {
+            let of_entry = self.tried.iter().filter(|((name, _), _)| *name == entry);
+            let words: Vec<String> =
+                of_entry.map(|((_, number), count)| came_out(*number, *count)).collect();
+            println!("- {entry}: {}", words.join(", "));
+        }
+    }
+
+    /// By how much each entry's time grows from the smallest plans to the largest.
+    fn print_growth(&self) {
+        let (Some(least), Some(most)) = (self.makes.first(), self.makes.last()) else {
+            return;
+        };
+        println!("\n| entry | {} to {} lines, ours | fast |\n|---|---:|---:|", least.0, most.0);
+        for Figures { entry, sizes } in &self.figures {
+            if let (Some(small), Some(large)) = (sizes.first(), sizes.last()) {
+                let (ours, fast) =
+                    (ratio(&large.ours, &small.ours), ratio(&large.fast, &small.fast));
+                println!("| {entry:?} | {ours:.2} | {fast:.2} |");
+            }
+        }
+    }
+
+    /// How the moves came out.
+    fn print_moves(&self) {
+        println!("\nOf the {MOVES} moves a size:\n");
+        let moves = self.figures.iter().filter(|of| of.entry == Entry::Move);
+        for of in moves.flat_map(|of| &of.sizes) {
+            let mut counts: BTreeMap<u64, usize> = BTreeMap::new();
+            for answer in &of.answers {
+                *counts.entry(answer >> 32).or_default() += 1;
+            }
+            let words: Vec<String> =
+                counts.iter().map(|(&number, &count)| came_out(number, count)).collect();
+            println!("- {} lines: {}", of.lines, words.join(", "));
+        }
+    }
+}
+
+/// The machine and how the run goes.
+pub fn heading(seed: u64, rounds: usize) {
+    let cpu = std::fs::read_to_string("/proc/cpuinfo").unwrap_or_default();
+    let model = cpu.lines().find(|line| line.starts_with("model name"));
+    let model = model.and_then(|line| line.split_once(": ")).map_or("unknown", |(_, model)| model);
+    let rustc = Command::new("rustc").arg("--version").output();
+    let rustc = rustc.map(|out| String::from_utf8_lossy(&out.stdout).trim().to_string());
+    println!("- processor: {model}");
+    println!("- compiler of the fast version: {}", rustc.unwrap_or("unknown".into()));
+    println!("- seed {seed}, {rounds} rounds (a tenth of them for moves), the two sides in turn");
+    println!("- medians, a plan or, for moves, a move; the plans of each size have as many lines together");
+    println!("- lists are filled anew before each round, outside the time");
+}

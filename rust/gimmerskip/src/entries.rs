@@ -1,0 +1,139 @@
+//! The entries on slices that the caller lends, for those who keep their own lists.
+//!
+//! Each tests what it is given, so that nothing has to be true of it beforehand. A list that is filled may be longer
+//! than needed: what lies past the last entry written stays as it was. A refusal changes nothing at all.
+
+use crate::refusal::outcome;
+use crate::{raw, Refusal, SCREEN_ROOM};
+
+/// Reads a text into packed numbers, one a line: job × 1,024 + kind × 256 + operand, the kind of a do, take, give and
+/// start being 0 to 3. The count is that of the lines, and the list needs as many entries.
+///
+/// Refuses with 1 to 8 what is no plan, and then with 11 a list that is too short.
+///
+/// ```
+/// use gimmerskip::{entries, Refusal};
+///
+/// let mut plan = [0; 3];
+/// assert_eq!(entries::read(b"1\ttake\t5\n1\tgive\t5\n", &mut plan), Ok(2));
+/// assert_eq!(plan, [1_285, 1_541, 0]);
+/// assert_eq!(entries::read(b"1\ttake\t5\n1\tgive\t5\n", &mut plan[..1]), Err(Refusal::ListTooShort(2)));
+/// ```
+pub fn read(text: &[u8], plan: &mut [u32]) -> Result<usize, Refusal> {
+    outcome(raw::read(text, plan))
+}
+
+/// Writes a packed plan as text. The count is that of the bytes, and the buffer needs as many;
+/// [`MAX_BYTES`](crate::MAX_BYTES) are always enough.
+///
+/// Refuses with 2 to 8 what is no plan, and then with 11 a buffer that is too short.
+///
+/// ```
+/// use gimmerskip::entries;
+///
+/// let mut text = [b'.'; 20];
+/// assert_eq!(entries::write(&[1_285, 1_541], &mut text), Ok(18));
+/// assert_eq!(&text, b"1\ttake\t5\n1\tgive\t5\n..");
+/// ```
+pub fn write(plan: &[u32], text: &mut [u8]) -> Result<usize, Refusal> {
+    outcome(raw::write(plan, text))
+}
+
+/// Works out the table of claims: for each line the set of the devices that it or what comes after it takes, device d
+/// being bit d. The count is that of the lines, and the list needs as many sets.
+///
+/// Refuses with 2 to 8 what is no plan, and then with 11 a list that is too short.
+///
+/// ```
+/// use gimmerskip::entries;
+///
+/// let mut sets = [0; 2];
+/// assert_eq!(entries::table(&[1_285, 1_541], &mut sets), Ok(2));
+/// assert_eq!(sets, [1 << 5, 0]);
+/// ```
+pub fn table(plan: &[u32], sets: &mut [u32]) -> Result<usize, Refusal> {
+    outcome(raw::table(plan, sets))
+}
+
+/// Works out the order: the numbers of the lines, as they are to be done. The count is that of the devices which are
+/// still held after the last line; the list needs as many entries as there are lines.
+///
+/// Refuses with 2 to 8 what is no plan, then with 11 a list that is too short, then with 9 or 10 a plan that has no
+/// legal order.
+///
+/// ```
+/// use gimmerskip::entries;
+///
+/// let mut order = [0; 2];
+/// assert_eq!(entries::verdict(&[1_285, 1_541], &mut order), Ok(0));
+/// assert_eq!(order, [1, 2]);
+/// ```
+pub fn verdict(plan: &[u32], order: &mut [u16]) -> Result<usize, Refusal> {
+    outcome(raw::verdict(plan, order))
+}
+
+/// Moves the claim of a line, counted from 1, to another device: the take there, and its give if it has one. The sets
+/// are the plan's table, from [`table`] or from earlier moves; those on the way back to line 1 are mended, and the
+/// count is that of the lines whose set is then another.
+///
+/// Refuses with 2 to 8 what is no plan, then with 11 a table that is too short, then with 12 to 14, and last with 8
+/// where the job would hold the new device twice; the place is then the take that would be the second. A plan without a
+/// legal order can be moved as well.
+///
+/// ```
+/// use gimmerskip::entries;
+///
+/// let (mut plan, mut sets) = ([1_285, 1_541], [1 << 5, 0]);
+/// assert_eq!(entries::move_claim(&mut plan, &mut sets, 1, 6), Ok(1));
+/// assert_eq!((plan, sets), ([1_286, 1_542], [1 << 6, 0]));
+/// ```
+pub fn move_claim(
+    plan: &mut [u32],
+    sets: &mut [u32],
+    line: u32,
+    device: u32,
+) -> Result<usize, Refusal> {
+    outcome(raw::move_claim(plan, sets, line, device))
+}
+
+/// The packed number of the line at an offset of a text, or `None` where nothing is left. The first line stands at 0,
+/// each other one just past the newline of the line before. Tested are only the text's length, the number of the line
+/// and the line itself: 1, 3 and 2.
+///
+/// ```
+/// use gimmerskip::{entries, Refusal};
+///
+/// let text = b"1\ttake\t5\n1\tdrop\t5\n";
+/// assert_eq!(entries::line(text, 0), Ok(Some(1_024 + 256 + 5)));
+/// assert_eq!(entries::line(text, 9), Err(Refusal::Malformed(2)));
+/// assert_eq!(entries::line(text, text.len()), Ok(None));
+/// ```
+pub fn line(text: &[u8], offset: usize) -> Result<Option<u32>, Refusal> {
+    let number = outcome(raw::line(text, offset))?;
+    Ok(if number == 0 { None } else { Some(number as u32) })
+}
+
+/// Orders a text and prints the outcome, as the program `order` does: for an order a header with the numbers of lines
+/// and of devices still held, then one line number a line; for a refused text one line that begins with `refused`. The
+/// count is that of the bytes.
+///
+/// The one refusal is 11, for a buffer of less than [`SCREEN_ROOM`], whatever the text. A text that is refused is no
+/// refusal here: its line is printed.
+///
+/// ```
+/// use gimmerskip::{entries, Refusal, SCREEN_ROOM};
+///
+/// let mut out = [0; SCREEN_ROOM];
+/// let count = entries::order(b"1\ttake\t5\n1\tdo\t7\n", &mut out)?;
+/// assert_eq!(&out[..count], b"order\t2\t1\n1\n2\n");
+/// let count = entries::order(b"1\ttake\t32\n", &mut out)?;
+/// assert_eq!(&out[..count], b"refused\t2\t1\n");
+/// # Ok::<(), Refusal>(())
+/// ```
+pub fn order(text: &[u8], out: &mut [u8]) -> Result<usize, Refusal> {
+    match raw::order(text, out) {
+        // No print is empty, so this is the answer to too little room and to nothing else.
+        0 => Err(Refusal::ListTooShort(SCREEN_ROOM as u32)),
+        count => Ok(count),
+    }
+}

@@ -1,0 +1,100 @@
+//! The proved order maker for Rust callers.
+//!
+//! A plan is a list of steps, one a line, each of a job: it takes a shared device, gives it back, starts another job or
+//! does something that touches no device. [`Plan`] reads a plan and gives its order, its table of claims and its text;
+//! the functions of [`entries`] do the same on slices that the caller lends. What is refused comes back as a
+//! [`Refusal`], which says in words what is wrong and where.
+//!
+//! Jobs and lines count from 1, devices from 0 to 31. The work is done by archives of proved code, `libport.a`,
+//! `libreader.a` and `libscreen.a`; [`raw`] is the only place that calls into them.
+//!
+//! # A plan and its order
+//!
+//! Job 1 starts job 2 and takes device 1 to the end. Job 2 takes device 0 to the end and needs device 1 for a while: so
+//! job 2 has to be through with it before job 1 takes it.
+//!
+//! ```
+//! use gimmerskip::Plan;
+//!
+//! let text = "1\tstart\t2\n1\ttake\t1\n1\tdo\t7\n2\ttake\t0\n2\ttake\t1\n2\tgive\t1\n";
+//! let plan: Plan = text.parse()?;
+//! let order = plan.verdict()?;
+//! assert_eq!(order.lines, [1, 4, 5, 6, 2, 3]);
+//! assert_eq!(order.held, 2);
+//! assert_eq!(plan.table(), [3, 2, 0, 3, 2, 0]);
+//! assert_eq!(plan.to_string(), text);
+//! # Ok::<(), gimmerskip::Refusal>(())
+//! ```
+//!
+//! # A plan without an order
+//!
+//! Three jobs in a ring: each holds a device to the end and then wants the one that the next job holds. No two of them
+//! block each other, but the three together do, and the refusal names the lowest device of the circle.
+//!
+//! ```
+//! use gimmerskip::{Plan, Refusal};
+//!
+//! let ring = [
+//!     "1 start 2", "1 start 3", "1 take 0", "1 take 1", "1 give 1", //
+//!     "2 take 1", "2 take 2", "2 give 2", //
+//!     "3 take 2", "3 take 0", "3 give 0",
+//! ];
+//! let text: String = ring.iter().map(|line| line.replace(' ', "\t") + "\n").collect();
+//! let refusal = Plan::from_text(&text)?.verdict().unwrap_err();
+//! assert_eq!(refusal, Refusal::LeadsBack(0));
+//! assert!(refusal.to_string().starts_with("device 0 leads back to itself"));
+//! # Ok::<(), Refusal>(())
+//! ```
+//!
+//! # A moved claim
+//!
+//! The inner claim of the first plan goes from device 1 to device 2, in line 5 and in its give, line 6. The table is
+//! mended along the way, and three of its sets are then others than before.
+//!
+//! ```
+//! use gimmerskip::Plan;
+//!
+//! let mut plan = Plan::from_text("1\tstart\t2\n1\ttake\t1\n1\tdo\t7\n2\ttake\t0\n2\ttake\t1\n2\tgive\t1\n")?;
+//! let mut table = plan.table();
+//! assert_eq!(plan.move_claim(&mut table, 5, 2)?, 3);
+//! assert_eq!(table, [7, 2, 0, 5, 4, 0]);
+//! assert_eq!(table, plan.table());
+//! assert!(plan.text().ends_with("2\ttake\t2\n2\tgive\t2\n"));
+//! assert_eq!(plan.verdict()?.lines, [1, 4, 5, 6, 2, 3]);
+//! # Ok::<(), gimmerskip::Refusal>(())
+//! ```
+//!
+//! # A text that is no plan
+//!
+//! ```
+//! use gimmerskip::{Plan, Refusal};
+//!
+//! let refusal = Plan::from_text("1\ttake\t3\n1 give 3\n").unwrap_err();
+//! assert_eq!(refusal, Refusal::Malformed(2));
+//! assert_eq!((refusal.number(), refusal.place()), (2, 2));
+//! println!("the plan cannot be read: {refusal}");
+//! ```
+
+#![deny(unsafe_code)]
+#![warn(missing_docs)]
+
+pub mod entries;
+mod plan;
+#[allow(unsafe_code)]
+pub mod raw;
+mod refusal;
+
+pub use plan::{Order, Plan};
+pub use refusal::{outcome, Refusal};
+
+/// The most lines of a plan. A list of so many entries is long enough for every plan, its table and its order.
+pub const MAX_LINES: usize = 1_024;
+/// The most bytes of a text. A buffer of so many bytes is long enough for every plan that is written.
+pub const MAX_BYTES: usize = 12_288;
+/// The least room that [`entries::order`] asks for: the longest print there is.
+pub const SCREEN_ROOM: usize = 4_027;
+
+/// The example of the project's README is run too.
+#[cfg(doctest)]
+#[doc = include_str!("../../../README.md")]
+struct Readme;

@@ -1,0 +1,197 @@
+//! Refusals: their numbers and places, and what they mean in words.
+
+use crate::{MAX_BYTES, MAX_LINES};
+use std::error::Error;
+use std::fmt;
+
+/// The first answer that is a refusal; answers below it are counts.
+const FIRST: u64 = 1 << 32;
+
+/// Why an entry refuses. Each case but two carries its place, a line or a device or what was asked for; the places of
+/// those two are always the same. A refused call has changed nothing that it was lent.
+///
+/// ```
+/// use gimmerskip::Refusal;
+///
+/// let refusal = Refusal::GiveWithoutTake(5);
+/// assert_eq!(refusal.to_string(), "line 5 gives a device that is not the latest its job still holds");
+/// assert_eq!((refusal.number(), refusal.place()), (7, 5));
+/// ```
+#[derive(Clone, Copy, Debug, PartialEq, Eq, Hash)]
+pub enum Refusal {
+    /// 1: the text has more than [`MAX_BYTES`] bytes. The place is 0.
+    TextTooLong,
+    /// 2: this line of a text is malformed or lacks its newline, or this number of a list stands for no line.
+    Malformed(u32),
+    /// 3: there is something after line [`MAX_LINES`]. The place is the line after it.
+    TooManyLines,
+    /// 4: the job of this line does not follow on from the line before, or the first line is not of job 1.
+    JobOutOfSequence(u32),
+    /// 5: this line starts a job that is not higher than its own, that is started already, or that has no lines.
+    BadStart(u32),
+    /// 6: nothing starts the job whose first line this is.
+    NeverStarted(u32),
+    /// 7: this line gives a device that is not the latest its job still holds.
+    GiveWithoutTake(u32),
+    /// 8: this line takes a device that its job holds already.
+    TakeOfHeld(u32),
+    /// 9: this device has more than one lasting take; it is the lowest such device.
+    TwoLasting(u32),
+    /// 10: this device leads back to itself; it is the lowest such device.
+    LeadsBack(u32),
+    /// 11: a lent list is too short; it needs this length.
+    ListTooShort(u32),
+    /// 12: the line that was asked for, this one, is not a take of the plan.
+    NotATake(u32),
+    /// 13: the device that was asked for, this one, is over 31.
+    NoSuchDevice(u32),
+    /// 14: the table is stale at this line, of all such lines on the way the nearest to the one to be moved.
+    StaleTable(u32),
+    /// None of the fourteen, kept as it came. The archives that this crate is made for never answer so; only others,
+    /// with rules that are not known here, could. It is no success, and under another number it would send its reader
+    /// to the wrong place: so it has a case of its own.
+    Unlisted {
+        /// The number in the answer.
+        number: u32,
+        /// The place in the answer.
+        place: u32,
+    },
+}
+
+impl Refusal {
+    /// The refusal with this number and place. Nothing is lost: `number` and `place` give back what went in.
+    pub fn new(number: u32, place: u32) -> Refusal {
+        match (number, place) {
+            (1, 0) => Refusal::TextTooLong,
+            (2, line) => Refusal::Malformed(line),
+            (3, line) if line as usize == MAX_LINES + 1 => Refusal::TooManyLines,
+            (4, line) => Refusal::JobOutOfSequence(line),
+            (5, line) => Refusal::BadStart(line),
+            (6, line) => Refusal::NeverStarted(line),
+            (7, line) => Refusal::GiveWithoutTake(line),
+            (8, line) => Refusal::TakeOfHeld(line),
+            (9, device) => Refusal::TwoLasting(device),
+            (10, device) => Refusal::LeadsBack(device),
+            (11, needed) => Refusal::ListTooShort(needed),
+            (12, asked) => Refusal::NotATake(asked),
+            (13, asked) => Refusal::NoSuchDevice(asked),
+            (14, line) => Refusal::StaleTable(line),
+            (number, place) => Refusal::Unlisted { number, place },
+        }
+    }
+
+    /// The number: 1 to 14, unless it is [`Refusal::Unlisted`].
+    pub fn number(self) -> u32 {
+        match self {
+            Refusal::TextTooLong => 1,
+            Refusal::Malformed(_) => 2,
+            Refusal::TooManyLines => 3,
+            Refusal::JobOutOfSequence(_) => 4,
+            Refusal::BadStart(_) => 5,
+            Refusal::NeverStarted(_) => 6,
+            Refusal::GiveWithoutTake(_) => 7,
+            Refusal::TakeOfHeld(_) => 8,
+            Refusal::TwoLasting(_) => 9,
+            Refusal::LeadsBack(_) => 10,
+            Refusal::ListTooShort(_) => 11,
+            Refusal::NotATake(_) => 12,
+            Refusal::NoSuchDevice(_) => 13,
+            Refusal::StaleTable(_) => 14,
+            Refusal::Unlisted { number, .. } => number,
+        }
+    }
+
+    /// The place: a line, a device, a length or what was asked for, by the number.
+    pub fn place(self) -> u32 {
+        use Refusal::*;
+        match self {
+            TextTooLong => 0,
+            TooManyLines => MAX_LINES as u32 + 1,
+            Malformed(line) | JobOutOfSequence(line) | BadStart(line) | NeverStarted(line) => line,
+            GiveWithoutTake(line) | TakeOfHeld(line) | StaleTable(line) => line,
+            TwoLasting(device) | LeadsBack(device) => device,
+            ListTooShort(needed) => needed,
+            NotATake(asked) | NoSuchDevice(asked) => asked,
+            Unlisted { place, .. } => place,
+        }
+    }
+
+    /// What is wrong with the line at the place, where the place is one; the first line of a plan has words of its own.
+    fn on_its_line(self) -> Option<&'static str> {
+        Some(match self {
+            Refusal::Malformed(_) => {
+                "is no line: malformed, without its newline, or a packed number of none"
+            }
+            Refusal::JobOutOfSequence(1) => "is not of job 1, with which a plan begins",
+            Refusal::JobOutOfSequence(_) => {
+                "is of a job that is neither the one before nor the next"
+            }
+            Refusal::BadStart(_) => {
+                "starts a job that is not higher than its own, is started already, or has no lines"
+            }
+            Refusal::NeverStarted(_) => "begins a job that no line starts",
+            Refusal::GiveWithoutTake(_) => {
+                "gives a device that is not the latest its job still holds"
+            }
+            Refusal::TakeOfHeld(_) => "takes a device that its job holds already",
+            Refusal::NotATake(_) => "is not a take of the plan, so it has no claim to move",
+            Refusal::StaleTable(_) => {
+                "has a stale set: it does not follow from the plan and the sets after it"
+            }
+            _ => return None,
+        })
+    }
+}
+
+impl fmt::Display for Refusal {
+    fn fmt(&self, out: &mut fmt::Formatter<'_>) -> fmt::Result {
+        if let Some(wrong) = self.on_its_line() {
+            return write!(out, "line {} {wrong}", self.place());
+        }
+        match self {
+            Refusal::TextTooLong => write!(out, "the text has more than {MAX_BYTES} bytes"),
+            Refusal::TooManyLines => {
+                write!(
+                    out,
+                    "something stands after line {MAX_LINES}, the last that a plan can have"
+                )
+            }
+            Refusal::TwoLasting(device) => {
+                write!(
+                    out,
+                    "device {device} has two lasting takes: two jobs would hold it to the end"
+                )
+            }
+            Refusal::LeadsBack(device) => {
+                write!(out, "device {device} leads back to itself: what follows its lasting take comes back to it")
+            }
+            Refusal::ListTooShort(needed) => {
+                write!(out, "a lent list is too short: it needs a length of {needed}")
+            }
+            Refusal::NoSuchDevice(asked) => {
+                write!(out, "there is no device {asked}: the highest is 31")
+            }
+            other => {
+                write!(out, "refused with number {} and place {}", other.number(), other.place())
+            }
+        }
+    }
+}
+
+impl Error for Refusal {}
+
+/// What a 64-bit answer of [`raw`](crate::raw) means: a count, or a refusal.
+///
+/// ```
+/// use gimmerskip::{outcome, Refusal};
+///
+/// assert_eq!(outcome(6), Ok(6));
+/// assert_eq!(outcome((9 << 32) + 5), Err(Refusal::TwoLasting(5)));
+/// ```
+pub fn outcome(answer: u64) -> Result<usize, Refusal> {
+    if answer < FIRST {
+        return Ok(answer as usize);
+    }
+    // Nothing is cut off: the upper half and the lower half of 64 bits have 32 each.
+    Err(Refusal::new((answer / FIRST) as u32, (answer % FIRST) as u32))
+}

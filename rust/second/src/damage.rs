@@ -1,0 +1,132 @@
+//! Damage done to texts and packed lists, so that refusals come from plans that are nearly right.
+//!
+//! Reads, of document 01: "The plan as text" and the cases 2 to 8 of "Refusal numbers", for what
+//! can go wrong; whether a piece of damage makes a fault is left to the readings.
+
+use crate::line::{Line, Verb, LINES};
+use crate::random::Random;
+use crate::read::write;
+
+/// Damages a text: one byte or one line goes, comes, or changes its place.
+pub fn damaged_text(random: &mut Random, text: &[u8]) -> Vec<u8> {
+    let mut bytes = text.to_vec();
+    let mut lines: Vec<&[u8]> = text.split_inclusive(|&byte| byte == b'\n').collect();
+    let byte = random.one_of(b"0123456789\t\n\r dotakegivestart\0");
+    let place = random.below(bytes.len() + 1);
+    if bytes.len() == place {
+        bytes.push(byte);
+        return bytes;
+    }
+    let (line, other) = (random.below(lines.len()), random.below(lines.len()));
+    match random.below(6) {
+        0 => bytes.insert(place, byte),
+        1 => bytes[place] = byte,
+        2 => drop(bytes.remove(place)),
+        3 => drop(lines.remove(line)),
+        4 => lines.insert(other, lines[line]),
+        _ => lines.swap(line, other),
+    }
+    if bytes == text {
+        bytes = lines.concat();
+    }
+    bytes
+}
+
+/// Damages a packed list: a number is changed, goes, comes, or changes its place, or the list
+/// grows past the longest plan.
+pub fn damaged_packed(random: &mut Random, plan: &[u32]) -> Vec<u32> {
+    let mut list = plan.to_vec();
+    if list.is_empty() {
+        return vec![random.bits() as u32 % (70 * 1_024)];
+    }
+    let (at, other) = (random.below(list.len()), random.below(list.len()));
+    match random.below(13) {
+        0 => list[at] ^= 1 << random.below(17),
+        1 => list[at] = random.bits() as u32,
+        2 => drop(list.remove(at)),
+        3 => list.insert(other, list[at]),
+        4 => list.swap(at, other),
+        5 => list.truncate(at),
+        6 => grow(random, &mut list),
+        7 => put(random, &mut list, 3),
+        8 => put(random, &mut list, 2),
+        9 => put(random, &mut list, 1),
+        10 => unstart(random, &mut list),
+        11 => take_again(random, &mut list),
+        _ => list[at] = list[at].wrapping_add(1_024),
+    }
+    list
+}
+
+/// Lets the last job go on past the longest plan. What stands there need be no line at all.
+fn grow(random: &mut Random, list: &mut Vec<u32>) {
+    let job = list.last().map_or(1, |last| last / 1_024);
+    list.resize(LINES.max(list.len()), job * 1_024);
+    for _ in 0..1 + random.below(8) {
+        let more = random.bits() as u32;
+        list.push(if random.once_in(2) { job * 1_024 } else { more });
+    }
+}
+
+/// Gives a line of a kind another operand; where there is none, some line becomes one.
+fn put(random: &mut Random, list: &mut [u32], kind: u32) {
+    let places = of_kind(list, kind);
+    let at = if places.is_empty() { random.below(list.len()) } else { random.one_of(&places) };
+    // An operand that stands elsewhere in the plan makes a fault more often than a new one.
+    let operand = match random.below(3) {
+        0 => random.below(70) as u32,
+        _ => random.one_of(list) % 256,
+    };
+    list[at] = list[at] / 1_024 * 1_024 + kind * 256 + operand;
+}
+
+/// The places of the lines of a kind.
+fn of_kind(list: &[u32], kind: u32) -> Vec<usize> {
+    (0..list.len()).filter(|&at| list[at] / 256 % 4 == kind).collect()
+}
+
+/// Makes an action of a start, so that its job is never started.
+fn unstart(random: &mut Random, list: &mut [u32]) {
+    let starts = of_kind(list, 3);
+    if !starts.is_empty() {
+        let at = random.one_of(&starts);
+        list[at] = list[at] / 1_024 * 1_024;
+    }
+}
+
+/// Repeats a take somewhere below in its job, where the device may still be held.
+fn take_again(random: &mut Random, list: &mut Vec<u32>) {
+    let takes = of_kind(list, 1);
+    if !takes.is_empty() {
+        let at = random.one_of(&takes);
+        let job = list[at] / 1_024;
+        let below = list[at..].iter().take_while(|&&number| number / 1_024 == job).count();
+        list.insert(at + 1 + random.below(below), list[at]);
+    }
+}
+
+/// A packed list as a text, line by line. What is the number of no line is spelt all the same,
+/// with its job, its verb and its operand, and makes a malformed line.
+pub fn spelt(list: &[u32]) -> Vec<u8> {
+    let spell = |&number: &u32| match Line::unpacked(number) {
+        Some(line) => write(&[line]),
+        None => {
+            let verb = ["do", "take", "give", "start"][(number / 256 % 4) as usize];
+            format!("{}\t{verb}\t{}\n", number / 1_024, number % 256).into_bytes()
+        }
+    };
+    list.iter().flat_map(spell).collect()
+}
+
+/// A line that may stand anywhere, of a job up to so many.
+pub fn any_line(random: &mut Random, jobs: usize) -> Line {
+    let job = 1 + random.below(jobs) as u8;
+    let device = random.below(4) as u8;
+    let verb = match random.below(4) {
+        0 => Verb::Do(random.below(256) as u8),
+        1 => Verb::Take(device),
+        2 => Verb::Give(device),
+        _ => Verb::Start(2 + random.below(jobs.min(63)) as u8),
+    };
+    Line { job, verb }
+}
