@@ -1,5 +1,6 @@
--- The promise is tight; then the laws that the proofs of the code cite.
+-- The promise is tight, and what follows from it; then the laws that the proofs of the code cite.
 pub mod Tight
+pub mod Promises
 pub mod Joining
 pub mod Passed
 pub mod Outcome

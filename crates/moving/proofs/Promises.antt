@@ -1,30 +1,32 @@
 -- What follows from what `move_claim` promises, `MovesAs` (01, "Moving a claim" and "How tight the statements are"): a
--- refused move changes nothing; a move changes sets on the way alone; from a plan without a fault and its own table, an
--- accepted move leaves what would be worked out afresh, with the count of the sets that differ; and so on over any list
--- of moves (demand 3).
+-- refused move changes nothing, nor does one to the present device; 9 and 10 refuse none; a move changes sets on the
+-- way alone; from a plan without a fault and its own table, an accepted move leaves what would be worked out afresh,
+-- with the count of the sets that differ; and so on over any list of moves (demand 3).
 use Prim.Native.Nat.{ℕ}
-use mathlib.Core.Bool.{false}
-use mathlib.Core.List.{List, [], _∷_, _++_}
+use mathlib.Core.Bool.{true, false}
+use mathlib.Core.List.{List, _++_}
+use mathlib.Core.Logic.{_≢_}
 use mathlib.Core.Option.{Option, none, some}
 use mathlib.Core.Path.{_≡_, refl, sym, _∙_, ap, subst}
 use native.Mathlib.Omega.{arith}
 use lib.ListN.{length, getD, take, drop}
 use Rattle.model.specs.Lists.{has, over}
+use Rattle.model.specs.Answers.{numberOf}
+use Rattle.model.specs.Mate.{deviceAt}
 use Rattle.model.specs.WellFormed.{fault}
 use Rattle.model.specs.Claims.{table}
-use Rattle.model.specs.Move.{edited, way, rewritten, changed, askedAt, moveRefusal}
-use Rattle.model.specs.Entries.{MoveOutcome, moveBy, moving, judging}
+use Rattle.model.specs.Move.{edited, way, rewritten, changed, askedAt, isTakeOf, moveRefusal}
+use Rattle.model.specs.Entries.{MoveOutcome, moveBy, moving}
 use Rattle.model.specs.Board.{devices}
 use Rattle.model.specs.declared.Refusal.{Refusal}
 use Rattle.model.specs.declared.MoveAnswer.{MoveAnswer}
-use Rattle.model.specs.declared.TableAnswer.{TableAnswer}
+use Rattle.theory.specs.Move.{differing, Accepted, Step, refused, accepted, Ask, Lent, moved, movedBy, Kept}
 use Rattle.theory.proofs.Claims.{length-table}
 use Rattle.theory.proofs.WellFormed.{no-fault-exactly}
-use Rattle.theory.proofs.Move.{Refused, Accepted, Step, refused, accepted, move-step, rewritten-off}
-use Rattle.theory.proofs.Move.{length-rewritten, differing, own-long, Ask, Lent, moved, movedBy, Kept, moves-keep}
-use Rattle.claims.specs.Promises.{TablesAs}
+use Rattle.theory.proofs.Move.{move-step, rewritten-off, length-rewritten, own-long, moves-keep}
+use Rattle.theory.proofs.Move.{no-verdict-refuses, same-device-stays, same-device-passes}
 use Rattle.claims.proofs.Outcome.{tabled}
-use Rattle.moving.specs.Promises.{MovesAs}
+use Rattle.moving.specs.Promises.{MovesAs, Refuses, Afresh, Moved, notMoved, isMoved, Moves, none-asked, one-more}
 use Rattle.moving.proofs.Tight.{one-outcome}
 
 -- What holds of the outcome that `model` defines holds of any that is promised, since there is but one.
@@ -69,12 +71,7 @@ by-outcome p t line device a p′ t′ m =
     go none e = done e
     go (some r) e = kept r e
 
--- a refusal is that of the first listed test that refuses, and leaves plan and sets as they were
-pub record Refuses (p t : List ℕ) (line device : ℕ) (r : Refusal) (p′ t′ : List ℕ) : Type 0 where
-  pub listed : moveRefusal devices p t line device ≡ some r
-  pub plan : p′ ≡ p
-  pub sets : t′ ≡ t
-
+-- a refusal is listed, and leaves plan and sets as they were
 pub refused-leaves : (p t : List ℕ) (line device : ℕ) (r : Refusal) (p′ t′ : List ℕ)
     → MovesAs p t line device (MoveAnswer.Refused r) p′ t′ → Refuses p t line device r p′ t′
 refused-leaves p t line device r p′ t′ m =
@@ -86,6 +83,23 @@ refused-leaves p t line device r p′ t′ m =
         let z : s ≡ r = cc in
         record { listed = h ∙ ap {B = Option Refusal} some z; plan = refl; sets = refl }
     go a x y e (done h) = let z : _≡_ {A = ℕ} 0 1 = cc in absurd (omega arith)
+
+-- no verdict refuses a move: plans with verdict 9 or 10 may be moved too
+pub no-verdict-bars : (p t : List ℕ) (line device : ℕ) (r : Refusal) (p′ t′ : List ℕ)
+    → MovesAs p t line device (MoveAnswer.Refused r) p′ t′ → (numberOf r ≢ 9) × (numberOf r ≢ 10)
+no-verdict-bars p t line device r p′ t′ m =
+    no-verdict-refuses devices p t line device r (refused-leaves p t line device r p′ t′ m .listed)
+
+-- moving to the present device, where no test refuses, is accepted, with 0, and changes nothing
+pub unrefused-stays-put : (p t : List ℕ) (line device : ℕ) → moveRefusal devices p t line device ≡ none
+    → deviceAt p (askedAt line) ≡ device → (a : MoveAnswer) (p′ t′ : List ℕ) → MovesAs p t line device a p′ t′
+    → (a ≡ MoveAnswer.Changed 0) × (p′ ≡ p) × (t′ ≡ t)
+unrefused-stays-put p t line device h present a p′ t′ m =
+    as-defined (λ b x y. (b ≡ MoveAnswer.Changed 0) × (x ≡ p) × (y ≡ t)) p t line device a p′ t′ m
+    (ap (λ (o : MoveOutcome). o .answer) e, ap (λ (o : MoveOutcome). o .plan) e, ap (λ (o : MoveOutcome). o .sets) e)
+  where
+    e : moving devices p t line device ≡ record { answer = MoveAnswer.Changed 0; plan = p; sets = t }
+    e = same-device-stays devices p t line device present h
 
 -- sets off the way stay what they were
 pub off-way-stays : (p t : List ℕ) (line device : ℕ) (a : MoveAnswer) (p′ t′ : List ℕ)
@@ -106,21 +120,6 @@ as-many-sets p t line device a p′ t′ m = go a p′ t′ (by-outcome p t line
     go b x y (done h) = length-rewritten (edited p (askedAt line) device) t (way p (askedAt line))
 
 -- ---- from a plan without a fault and its own table
-
--- what an accepted move leaves: the edited plan, without a fault; its table, which `table` would leave in the list; its
--- verdict; and the count is the number of places at which the sets differ from those before
-pub record Afresh (p t : List ℕ) (line device count : ℕ) (p′ t′ : List ℕ) : Type 0 where
-  pub plan : p′ ≡ edited p (askedAt line) device
-  pub noFault : fault devices p′ ≡ none
-  pub tables : TablesAs p′ t (TableAnswer.Lines (length p′)) t′
-  pub verdict : (lent : List ℕ) → judging devices p′ lent ≡ judging devices (edited p (askedAt line) device) lent
-  pub counts : count ≡ differing t′ t
-
--- and what a refusal says there: 12, 13 or 8
-pub data Moved (p t : List ℕ) (line device : ℕ) : MoveAnswer → List ℕ → List ℕ → Type 0 where
-  notMoved : (r : Refusal) → Refused devices p line device r → Moved p t line device (MoveAnswer.Refused r) p t
-  isMoved : (n : ℕ) (p′ t′ : List ℕ) → Afresh p t line device n p′ t′
-      → Moved p t line device (MoveAnswer.Changed n) p′ t′
 
 module _ (p t : List ℕ) (line device : ℕ) (noFault : fault devices p ≡ none) (mine : take (length p) t ≡ table p) where
   afresh : (o : MoveOutcome) → Accepted devices p t line device o
@@ -152,14 +151,15 @@ module _ (p t : List ℕ) (line device : ℕ) (noFault : fault devices p ≡ non
       (moved-by (moving devices p t line device)
       (move-step devices p t line device (no-fault-exactly devices p .0 noFault) (omega arith) mine))
 
--- ---- demand 3: any list of moves, refused ones among them
+  -- a take moved to the device that it has is never refused: 0, and nothing changes
+  pub stays-put : isTakeOf p line ≡ true → deviceAt p (askedAt line) ≡ device → (a : MoveAnswer) (p′ t′ : List ℕ)
+      → MovesAs p t line device a p′ t′ → (a ≡ MoveAnswer.Changed 0) × (p′ ≡ p) × (t′ ≡ t)
+  stays-put taken present =
+      let w = no-fault-exactly devices p .0 noFault in
+      unrefused-stays-put p t line device
+      (same-device-passes devices p t line device present w (omega arith) mine taken) present
 
--- one move after the other, each as it promises
-pub data Moves : Lent → List Ask → Lent → Type 0 where
-  none-asked : (s : Lent) → Moves s [] s
-  one-more : (s u v : Lent) (a : Ask) (asks : List Ask) (answer : MoveAnswer)
-      → MovesAs (s .plan) (s .sets) (a .line) (a .device) answer (u .plan) (u .sets) → Moves u asks v
-      → Moves s (a ∷ asks) v
+-- ---- demand 3: any list of moves, refused ones among them
 
 moves-are : (s v : Lent) (asks : List Ask) → Moves s asks v → v ≡ movedBy devices s asks
 unfolding movedBy moved

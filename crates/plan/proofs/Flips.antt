@@ -14,7 +14,6 @@ use Rattle.model.specs.Sets.{only, member}
 use Rattle.theory.proofs.Tests.{test, le-or-lt}
 use Rattle.theory.proofs.Lists.{has-head, has-right, has-upFrom, those-same}
 use Rattle.theory.proofs.Sets.{member-only}
-use Rattle.plan.proofs.Lines.{or-none}
 
 digit : (u v : ℕ) → u < 2 → v < 2 → (differ u v < 2) × (eqb (differ u v) 1 ≡ cond (eqb v 1) (not (eqb u 1)) (eqb u 1))
 digit zero zero h k = (omega arith, refl)

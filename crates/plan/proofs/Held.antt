@@ -1,10 +1,9 @@
 -- The devices held as the walk keeps them, the latest last, against `heldBy`, the latest first.
 use mathlib.Core.Path.{_≡_, refl, ap, sym, _∙_}
-use mathlib.Core.Bool.{Bool, true, false, _&&_, _||_}
+use mathlib.Core.Bool.{Bool, true, false, _&&_}
 use mathlib.Core.List.{List, [], _∷_, _++_, tail, reverse, reverse-cons, reverse-append, reverse-reverse}
 use mathlib.Core.Logic.{_⊎_, inl, inr}
-use Prim.Native.Nat.{ℕ, zero, suc, _+_, _-_, _≤_, _<_}
-use native.Mathlib.Numerals.{add-one}
+use Prim.Native.Nat.{ℕ, zero, suc, _-_, _<_}
 use native.Mathlib.Omega.{arith}
 use lib.Dec.{eqb, leb}
 use lib.ListN.{length, getD, take, length-append}
@@ -15,7 +14,7 @@ use Rattle.model.specs.Line.{job, operand, isTake, isGive, at}
 use Rattle.model.specs.WellFormed.{before, heldBy, isLast}
 use Rattle.plan.specs.Walk.{latest, butLatest}
 use Rattle.theory.proofs.Tests.{clash, test}
-use Rattle.theory.proofs.Lists.{has-none, has-head, has-cases, has-left, has-right, has-append}
+use Rattle.theory.proofs.Lists.{has-none, has-head, has-cases, has-left, has-right}
 
 -- membership does not mind the order
 has-reverse : (d : ℕ) (xs : List ℕ) → has d xs ≡ true → has d (reverse xs) ≡ true

@@ -1,7 +1,7 @@
 -- The tests after the last line find 5 and 6 of `model`, where all lines are in order and the tables are the plan's.
 use mathlib.Core.Path.{_≡_, refl, ap, sym, _∙_, subst}
 use mathlib.Core.Bool.{Bool, true, false, cond, not, _&&_, _||_}
-use mathlib.Core.List.{List, [], _∷_, map, headD}
+use mathlib.Core.List.{List, [], _∷_, headD}
 use mathlib.Core.Logic.{_⊎_, inl, inr}
 use mathlib.Core.Option.{Option, none, some}
 use Prim.Native.Nat.{ℕ, zero, suc, _+_, _≤_, _<_}
@@ -9,23 +9,19 @@ use native.Mathlib.Omega.{arith}
 use lib.Dec.{eqb, ltb}
 use lib.ListN.{length, getD}
 use borrow.Author.Tests.{eqb-true, eqb-false, eq-eqb, ne-eqb, ltb-true, ltb-false, not-true}
-use Rattle.model.specs.Lists.{upFrom, positions, any, has, firstOf}
+use Rattle.model.specs.Lists.{upFrom, positions, any, firstOf}
 use Rattle.model.specs.Answers.{refuseAt, firstRefusal}
-use Rattle.model.specs.Line.{job, kind, operand, isStart, starts, isLine, at, lineNumber, hasLines, firstLine, maxJob}
+use Rattle.model.specs.Line.{job, kind, operand, isStart, starts, at, lineNumber, hasLines, firstLine, maxJob}
 use Rattle.model.specs.WellFormed.{emptyStart, neverStarted, firstFault, fault}
 use Rattle.model.specs.declared.Refusal.{Refusal}
 use Rattle.model.specs.declared.Refusal.the-variants.{BadStart, NeverStarted}
-use Rattle.theory.proofs.Tests.{clash, test, and-split, and-both, and-left, and-right, or-split, or-left, or-right}
-use Rattle.theory.proofs.Tests.{or-neither}
-use Rattle.theory.proofs.Lists.{Answer, first-answer, has-upFrom, upFrom-has, first-lowest, first-is-lowest}
-use Rattle.theory.proofs.Claims.{getD-upFrom}
+use Rattle.theory.proofs.Tests.{clash, test, and-split, and-both, and-left, and-right}
+use Rattle.theory.proofs.Lists.{Answer, first-answer, has-upFrom, first-is-lowest}
 use Rattle.theory.proofs.Line.{start-parts, start-of, line-parts, Fits, ofDo, ofDevice, ofStart}
-use Rattle.theory.proofs.WellFormed.{InOrder, startsEmpty, unstarted, any-line, line-any}
+use Rattle.theory.proofs.WellFormed.{startsEmpty, unstarted, any-line, line-any}
 use Rattle.plan.specs.Checked.{checked}
 use Rattle.plan.specs.Jobs.{numberOfFound}
 use Rattle.plan.specs.Ends.{lowerOf, emptyFrom, neverFrom, endsBy, endsOf}
-use Rattle.plan.specs.declared.Checked.{Checked}
-use Rattle.plan.proofs.Lines.{start-operand}
 use Rattle.plan.proofs.Tables.{firstNumber, number-none, none-number, number-found, number-is}
 use Rattle.plan.proofs.Whole.{Ended, listed, first-line-found}
 

@@ -1,16 +1,14 @@
 -- Which case of `ruleOf` a line picks, over a list whose first `depth` are the devices held.
-use mathlib.Core.Path.{_≡_, refl, ap, sym, _∙_}
-use mathlib.Core.Bool.{Bool, true, false}
+use mathlib.Core.Path.{_≡_, refl, ap, sym}
+use mathlib.Core.Bool.{true, false}
 use mathlib.Core.List.{List}
-use Prim.Native.Nat.{ℕ, suc, _+_, _-_, _≤_, _<_}
+use Prim.Native.Nat.{ℕ, _+_, _-_, _≤_, _<_}
 use native.Mathlib.Numerals.{add-one}
 use native.Mathlib.Omega.{arith}
 use lib.ListN.{length, getD, take, set}
 use lib.Seq.{take-suc-set, getD-take, length-take-le, take-take}
-use borrow.Author.Tests.{ne-eqb, eq-eqb, le-ltb, lt-ltb, le-leb, lt-leb}
+use borrow.Author.Tests.{ne-eqb, eq-eqb, le-ltb, lt-ltb, le-leb}
 use Rattle.model.specs.Lists.{has}
-use Rattle.model.specs.Line.{lineNumber}
-use Rattle.model.specs.declared.Refusal.{Refusal}
 use Rattle.model.specs.declared.Refusal.the-variants.{TakeOfHeld, GiveWithoutTake, BadStart}
 use Rattle.plan.specs.Walk.{Ruled, kept, broken, ruleOf}
 

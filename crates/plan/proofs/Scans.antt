@@ -5,7 +5,7 @@ use mathlib.Core.Option.{Option, none, some}
 use Prim.Native.Nat.{ℕ}
 use native.Mathlib.Omega.{arith}
 use Rattle.model.specs.Answers.{firstRefusal}
-use Rattle.model.specs.WellFormed.{firstFault, emptyStart, neverStarted, fault}
+use Rattle.model.specs.WellFormed.{firstFault, fault}
 use Rattle.model.specs.declared.Refusal.{Refusal}
 use Rattle.plan.specs.Checked.{checked}
 use Rattle.plan.specs.Jobs.{firstLines, starters}

@@ -1,28 +1,28 @@
 -- The walk finds the fault of `model`: step by step, its state is that of the lines before, and a line is in order
 -- exactly where the step goes on. Past the last line its tables are the first lines and the starters of the plan.
 use mathlib.Core.Path.{_≡_, refl, ap, sym, _∙_}
-use mathlib.Core.Bool.{Bool, true, false, _&&_}
+use mathlib.Core.Bool.{true, false, _&&_}
 use mathlib.Core.List.{List, [], _∷_, _++_, tail, reverse}
-use mathlib.Core.Logic.{_⊎_, inl, inr, _↔_}
-use mathlib.Core.Option.{Option, none, some}
-use Prim.Native.Nat.{ℕ, zero, suc, _+_, _≤_, _<_}
+use mathlib.Core.Logic.{_⊎_, inl, inr}
+use mathlib.Core.Option.{none}
+use Prim.Native.Nat.{ℕ, zero, suc, _≤_, _<_}
 use native.Mathlib.Omega.{arith}
 use lib.Dec.{eqb, leb, ltb}
-use lib.ListN.{length, getD, drop, set, length-set, drop-of-length-le}
-use lib.Seq.{drop-cons, getD-set-same, getD-set-other}
+use lib.ListN.{length, getD, set, length-set}
+use lib.Seq.{getD-set-same, getD-set-other}
 use borrow.Author.Tests.{eqb-true, eqb-false, eq-eqb, ne-eqb, le-leb, lt-leb, leb-true, lt-ltb, le-ltb}
 use Rattle.model.specs.Lists.{has}
 use Rattle.model.specs.Line.{job, kind, operand, isTake, isGive, isStart, starts, isLine, at, lineNumber, maxLines}
 use Rattle.model.specs.Line.{maxJob}
-use Rattle.model.specs.WellFormed.{before, heldBy, isLast, lineFault, firstFault}
+use Rattle.model.specs.WellFormed.{before, heldBy, isLast}
 use Rattle.model.specs.declared.Refusal.{Refusal}
 use Rattle.model.specs.declared.Refusal.the-variants.{TakeOfHeld, GiveWithoutTake, BadStart}
 use Rattle.theory.proofs.Tests.{clash, test, and-split, and-left, and-right}
-use Rattle.theory.proofs.Line.{start-parts, start-of, take-no-give, line-parts, kind-small}
+use Rattle.theory.proofs.Line.{start-parts, start-of, line-parts, kind-small}
 use Rattle.theory.proofs.WellFormed.{FollowsOn, InOrder, BrokenAt, tooMany, malformed, outOfSequence, badStart}
 use Rattle.theory.proofs.WellFormed.{badGive, takeOfHeld}
-use Rattle.theory.proofs.WellFormed.{LineView, fine, broken, line-view}
-use Rattle.plan.specs.Walk.{Ruled, kept, ruleOf, Next, on, bad, withFirst, stepOf, latest, butLatest}
+use Rattle.theory.proofs.WellFormed.{broken}
+use Rattle.plan.specs.Walk.{kept, ruleOf, on, bad, withFirst, stepOf, butLatest}
 use Rattle.plan.specs.Walk as Walk
 use Rattle.plan.proofs.Lines.{start-operand}
 use Rattle.plan.proofs.Held.{same-members, give-test, give-leaves, take-adds, held-take, held-give, held-other}

@@ -39,6 +39,12 @@ none-held stack l f = record {
   many = none-counted;
 }
 
+-- what a job holds, or nothing: b says which
+pub held-or-none : (depth held : ℕ) (stack : List ℕ) → Holding depth held stack → (b : Bool)
+    → Holding (cond b depth 0) (cond b held 0) stack
+held-or-none depth held stack h true = h
+held-or-none depth held stack h false = none-held stack (h .long) (h .floor)
+
 -- no more devices than the board has
 pub few : (depth held : ℕ) (stack : List ℕ) → Holding depth held stack → depth ≤ 32
 few depth held stack h =

@@ -1,21 +1,21 @@
 -- Which case of `stepOf` the code's tests pick, and how the walk goes on from a line.
 use mathlib.Core.Path.{_≡_, refl, ap, sym, _∙_}
-use mathlib.Core.Bool.{Bool, true, false}
-use mathlib.Core.List.{List, [], _∷_}
+use mathlib.Core.Bool.{Bool, true, false, cond}
+use mathlib.Core.List.{List, []}
 use mathlib.Core.Logic.{_⊎_, inl, inr}
 use Prim.Native.Nat.{ℕ, suc, _+_, _≤_, _<_}
 use native.Mathlib.Numerals.{add-one}
 use native.Mathlib.Omega.{arith}
-use lib.Dec.{leb}
-use lib.ListN.{length, getD, take, drop, set, drop-of-length-le}
-use lib.Seq.{drop-cons}
-use borrow.Author.Tests.{ne-eqb, eq-eqb, le-leb, lt-leb}
+use lib.Dec.{eqb, leb}
+use lib.ListN.{length, getD, drop, set, drop-of-length-le}
+use lib.Seq.{drop-cons, set-getD}
+use borrow.Author.Tests.{eqb-true, eqb-false, ne-eqb, eq-eqb, le-leb, lt-leb}
 use Rattle.model.specs.Line.{job, kind, operand, isLine, lineNumber, maxLines}
 use Rattle.model.specs.declared.Refusal.{Refusal}
 use Rattle.model.specs.declared.Refusal.the-variants.{Malformed, TooManyLines, JobOutOfSequence}
 use Rattle.theory.proofs.Tests.{test}
-use Rattle.plan.specs.Walk.{Next, on, bad, ruleOf, withFirst, stepOf, Walk, through, stopped, walkFrom}
-use Rattle.plan.specs.Walk.{ruledBy, nextBy}
+use Rattle.plan.specs.Walk.{on, bad, ruleOf, withFirst, stepOf, through, stopped, walkFrom}
+use Rattle.plan.specs.Walk.{heldIn, ruledBy, nextBy}
 use Rattle.plan.specs.declared.After.{After}
 
 pub next-ruled : (r : After) (held first starter : List ℕ)
@@ -44,7 +44,7 @@ module _ (D n i prev : ℕ) (held first starter : List ℕ) where
           let b : suc prev < job n = omega arith in
           rw (lt-leb maxLines i few, ← line, le-leb prev (job n) (omega arith), lt-leb (job n) (suc prev) b, add-one)
 
-      pub same-job : job n ≡ prev
+      same-job : job n ≡ prev
           → withFirst first (ruleOf i (job n) (kind n) (operand n) held starter) ≡ stepOf D n i prev held first starter
       unfolding stepOf
       same-job e =
@@ -56,7 +56,7 @@ module _ (D n i prev : ℕ) (held first starter : List ℕ) where
             eq-eqb (job n) prev e,
           )
 
-      pub next-job : prev ≤ job n → job n ≤ prev + 1 → (job n ≡ prev → ⊥)
+      next-job : prev ≤ job n → job n ≤ prev + 1 → (job n ≡ prev → ⊥)
           → withFirst (set first (job n) (i + 1)) (ruleOf i (job n) (kind n) (operand n) [] starter)
           ≡ stepOf D n i prev held first starter
       unfolding stepOf lineNumber
@@ -69,6 +69,19 @@ module _ (D n i prev : ℕ) (held first starter : List ℕ) where
             ne-eqb (job n) prev e,
             add-one,
           )
+
+-- a line in sequence, whichever job it is of: b says that it is of the job before it
+pub either-job : (D n i prev depth : ℕ) (stack first starter : List ℕ) → i < maxLines → isLine D n ≡ true
+    → prev ≤ job n → job n ≤ prev + 1 → (b : Bool) → eqb (job n) prev ≡ b
+    → withFirst (set first (job n) (cond b (getD first (job n) 0) (i + 1)))
+    (ruleOf i (job n) (kind n) (operand n) (heldIn (cond b depth 0) stack) starter)
+    ≡ stepOf D n i prev (heldIn depth stack) first starter
+either-job D n i prev depth stack first starter few line low high true e =
+    ap (λ (f : List ℕ). withFirst f (ruleOf i (job n) (kind n) (operand n) (heldIn depth stack) starter))
+    (set-getD first (job n) 0)
+    ∙ same-job D n i prev (heldIn depth stack) first starter few (sym line) (eqb-true (job n) prev e)
+either-job D n i prev depth stack first starter few line low high false e =
+    next-job D n i prev (heldIn depth stack) first starter few (sym line) low high (eqb-false (job n) prev e)
 
 -- a step that goes on is at a line
 bad-on : {A : Type 0} (r : Refusal) (h f s : List ℕ) → on h f s ≡ bad r → A

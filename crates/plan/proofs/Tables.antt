@@ -2,21 +2,14 @@
 -- line more changes it only where there was none.
 use mathlib.Core.Path.{_≡_, refl, ap, sym, _∙_}
 use mathlib.Core.Bool.{Bool, true, false}
-use mathlib.Core.List.{List, [], _∷_, map}
-use mathlib.Core.Logic.{_⊎_, inl, inr}
 use mathlib.Core.Option.{Option, none, some}
-use Prim.Native.Nat.{ℕ, zero, suc, _+_, _≤_, _<_}
+use Prim.Native.Nat.{ℕ, zero, suc, _+_, _<_}
 use native.Mathlib.Omega.{arith}
-use lib.Dec.{eqb}
-use lib.ListN.{length, getD, set, length-map}
-use lib.Seq.{ext-getD, getD-set-same, getD-set-other}
-use borrow.Author.Tests.{eqb-true, eqb-false}
-use Rattle.model.specs.Lists.{upFrom, positions, has, firstOf}
-use Rattle.model.specs.Line.{job, starts, at, lineNumber, firstLine, maxJob}
-use Rattle.plan.specs.Jobs.{numberOfFirst, numberOfFound, firstLines, starters}
-use Rattle.theory.proofs.Tests.{clash, no-some, test}
+use Rattle.model.specs.Lists.{upFrom, firstOf}
+use Rattle.model.specs.Line.{lineNumber}
+use Rattle.plan.specs.Jobs.{numberOfFound}
+use Rattle.theory.proofs.Tests.{clash, no-some}
 use Rattle.theory.proofs.Lists.{Answer, first-answer, first-is-lowest, has-upFrom, upFrom-has}
-use Rattle.theory.proofs.Claims.{length-upFrom, getD-upFrom}
 
 -- the number of the first line below i that passes, 0 where there is none
 unfoldable pub firstNumber : (ℕ → Bool) → ℕ → ℕ

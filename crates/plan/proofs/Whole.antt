@@ -3,28 +3,25 @@
 use mathlib.Core.Path.{_≡_, refl, ap, sym, _∙_}
 use mathlib.Core.Bool.{Bool, true, false}
 use mathlib.Core.List.{List, [], _∷_, map}
-use mathlib.Core.Logic.{_⊎_, inl, inr}
 use mathlib.Core.Option.{Option, none, some}
 use Prim.Native.Nat.{ℕ, zero, suc, _+_, _≤_, _<_}
 use native.Mathlib.Omega.{arith}
 use lib.Dec.{eqb}
-use lib.ListN.{length, getD, drop, replicate, length-map, length-replicate, getD-replicate, drop-of-length-le}
+use lib.ListN.{length, getD, drop, replicate, length-map, getD-replicate, drop-of-length-le}
 use lib.Seq.{drop-cons, ext-getD}
-use borrow.Author.Tests.{eqb-true, eqb-false}
-use Rattle.model.specs.Lists.{upFrom, positions, has, firstOf}
+use Rattle.model.specs.Lists.{upFrom, positions, firstOf}
 use Rattle.model.specs.Line
-use Rattle.model.specs.Line.{job, starts, at, lineNumber, firstLine, maxJob}
+use Rattle.model.specs.Line.{job, starts, at, firstLine, maxJob}
 use Rattle.model.specs.WellFormed.{before, heldBy, lineFault, firstFault}
 use Rattle.model.specs.declared.Refusal.{Refusal}
-use Rattle.theory.proofs.Tests.{clash, test}
 use Rattle.theory.proofs.Claims.{length-upFrom, getD-upFrom}
-use Rattle.theory.proofs.WellFormed.{InOrder, BrokenAt, LineView, fine, broken, line-view}
+use Rattle.theory.proofs.WellFormed.{InOrder, LineView, fine, broken, line-view}
 use Rattle.plan.specs.Checked.{checked}
 use Rattle.plan.specs.Jobs.{numberOfFirst, numberOfFound, firstLines, starters}
-use Rattle.plan.specs.Walk.{Next, on, bad, stepOf, Walk, through, stopped, goOn, walkFrom, walkBy}
+use Rattle.plan.specs.Walk.{Next, stepOf, Walk, through, stopped, goOn, walkFrom, walkBy}
 use Rattle.plan.specs.declared.Checked.{Checked}
 use Rattle.plan.proofs.Tables.{firstNumber}
-use Rattle.plan.proofs.Sim.{jobBefore, Before, On, goes-on, refuses}
+use Rattle.plan.proofs.Sim.{jobBefore, Before, goes-on, refuses}
 
 -- ---- the walk against the first fault
 

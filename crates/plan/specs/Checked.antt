@@ -1,7 +1,7 @@
 -- A definition's option as the code's enum: a fault that a plan may have, a position that may be found. And one line's
 -- part in the search for a mate.
 use Prim.Native.Nat.{ℕ, zero, suc}
-use mathlib.Core.Bool.{Bool, true, false}
+use mathlib.Core.Bool.{true, false}
 use mathlib.Core.Option.{Option, none, some}
 use Rattle.model.specs.declared.Refusal.{Refusal}
 use Rattle.plan.specs.declared.Checked.{Checked}

@@ -1,7 +1,7 @@
 -- The tests after the last line as the code makes them, over the jobs: of the tables of first lines and of starters.
 -- That they find 5 and 6 of `model` is shown in proofs/. Then the outcome of a scan of the whole plan.
 use Prim.Native.Nat.{ℕ, zero, suc}
-use mathlib.Core.Bool.{Bool, true, false, cond, not, _&&_, _||_}
+use mathlib.Core.Bool.{true, false, cond, not, _&&_, _||_}
 use mathlib.Core.List.{List}
 use mathlib.Core.Option.{Option, none, some}
 use mathlib.Core.Path.{_≡_}

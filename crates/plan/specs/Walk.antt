@@ -2,7 +2,7 @@
 -- devices that this job holds (the latest last), and for each job the number of its first line and of the line that
 -- starts it. That it finds the fault of `model` is shown in proofs/.
 use Prim.Native.Nat.{ℕ, suc, _+_, _-_, _<_}
-use mathlib.Core.Bool.{Bool, true, false, cond, _&&_}
+use mathlib.Core.Bool.{false, cond, _&&_}
 use mathlib.Core.List.{List, [], _∷_, _++_}
 use mathlib.Core.Path.{_≡_}
 use lib.Dec.{eqb, leb, ltb}

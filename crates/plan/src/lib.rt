@@ -36,7 +36,7 @@ const LOWEST: [u32; 4] = [0, 0, 0, 2];
 const HIGHEST: [u32; 4] = [255, 31, 31, 64];
 
 // Is the number a line's? It asks tables for the operand's range, so that it has no branch on the kind.
-fn is_line(n: u32) -> bool
+pub fn is_line(n: u32) -> bool
     ensures { λ r. ⌜ r ≡ isLine devices n ⌝ }
 {
     let j = n / 1024;
@@ -52,6 +52,16 @@ fn is_line(n: u32) -> bool
         return false;
     }
     o <= HIGHEST[k]
+}
+
+// The first value, or the other. Where it stands for a branch, the processor has nothing to foretell.
+pub fn pick(first: bool, a: u32, b: u32) -> u32
+    ensures { λ r. ⌜ r ≡ cond first a b ⌝ }
+{
+    if first {
+        return a;
+    }
+    b
 }
 
 // What a line leads to: how many devices its job holds after it and the set of them, or a refusal.
@@ -136,6 +146,33 @@ fn rule(
     After::Bad(Refusal::BadStart((i + 1) as u32))
 }
 
+// What a line in sequence leads to, at position i: one of the job before it, or the next job's first, which holds
+// nothing yet. There is no branch on which of them it is.
+fn in_sequence(
+    i: usize,
+    n: u32,
+    prev: u32,
+    depth: usize,
+    held: u32,
+    stack: &mut [u32; 34],
+    first: &mut [u32; 65],
+    starter: &mut [u32; 65],
+) -> After
+    requires { ⌜ (i < 1024) × (isLine devices n ≡ true) × (prev ≤ job n) × (job n ≤ prev + 1)
+        × Holding depth held (now stack) × (length (now first) ≡ 65) × (length (now starter) ≡ 65) ⌝ }
+    ensures led { λ r. ⌜ nextBy r (now (stack .exit)) (now (first .exit)) (now (starter .exit))
+        ≡ stepOf devices n i prev (heldIn depth (now (stack .entry))) (now (first .entry)) (now (starter .entry)) ⌝ }
+    ensures keeps { λ r. ⌜ Holding (depthBy r) (setBy r) (now (stack .exit)) ⌝ }
+    ensures long { λ r. ⌜ (length (now (first .exit)) ≡ 65) × (length (now (starter .exit)) ≡ 65) ⌝ }
+{
+    let same = n / 1024 == prev;
+    let t = (n / 1024) as usize;
+    first[t] = pick(same, first[t], (i + 1) as u32);
+    let d = pick(same, depth as u32, 0);
+    let h = pick(same, held, 0);
+    rule(i, n, d as usize, h, stack, starter)
+}
+
 // What the line at position i leads to, after a line of job `prev`.
 fn line(
     i: usize,
@@ -165,12 +202,7 @@ fn line(
         if prev + 1 < j {
             return After::Bad(Refusal::JobOutOfSequence((i + 1) as u32));
         }
-        if j == prev {
-            return rule(i, n, depth, held, stack, starter);
-        }
-        let t = j as usize;
-        first[t] = (i + 1) as u32;
-        return rule(i, n, 0, 0, stack, starter);
+        return in_sequence(i, n, prev, depth, held, stack, first, starter);
     }
     After::Bad(Refusal::Malformed((i + 1) as u32))
 }

@@ -1,6 +1,6 @@
 -- What the sets of `rows` are for (01, "Refusal numbers", 9 and 10, and "The order handed out"): the lowest member of
 -- each is the lowest device that passes its test, and as many devices are held as the set has members.
-use Prim.Native.Nat.{ℕ, _^_, _<_}
+use Prim.Native.Nat.{ℕ}
 use mathlib.Core.List.{List}
 use mathlib.Core.Path.{_≡_}
 use lib.Dec.{leb}
@@ -11,7 +11,7 @@ use Rattle.model.specs.Sets.{member}
 use Rattle.model.specs.Rows.{lastingTakes, leadsBack}
 use Rattle.rows.specs.Where.{circlesOf}
 use Rattle.rows.specs.Lasting.{heldToEnd, heldTwice}
-use Rattle.rows.proofs.Where.{member-where, where-below, where-first, where-those}
+use Rattle.rows.proofs.Where.{where-first, where-those}
 
 -- 10
 pub circles-first : (rs : List ℕ)
@@ -26,24 +26,8 @@ module _ (D : ℕ) (p : List ℕ) where
   unfolding heldTwice
   twice-first = where-first D (λ d. leb 2 (length (lastingTakes p d)))
 
-  pub member-twice : (d : ℕ) → d < D → member (heldTwice D p) d ≡ leb 2 (length (lastingTakes p d))
-  unfolding heldTwice
-  member-twice d h = member-where (λ d. leb 2 (length (lastingTakes p d))) D d h
-
-  pub twice-below : heldTwice D p < 2 ^ D
-  unfolding heldTwice
-  twice-below = where-below (λ d. leb 2 (length (lastingTakes p d))) D
-
   -- the devices still held after the last step
   pub held-those : those (member (heldToEnd D p)) (upFrom 0 D)
       ≡ those (λ d. any (λ i. lasting p i d) (positions p)) (upFrom 0 D)
   unfolding heldToEnd
   held-those = where-those D (λ d. any (λ i. lasting p i d) (positions p))
-
-  pub member-held : (d : ℕ) → d < D → member (heldToEnd D p) d ≡ any (λ i. lasting p i d) (positions p)
-  unfolding heldToEnd
-  member-held d h = member-where (λ d. any (λ i. lasting p i d) (positions p)) D d h
-
-  pub held-below : heldToEnd D p < 2 ^ D
-  unfolding heldToEnd
-  held-below = where-below (λ d. any (λ i. lasting p i d) (positions p)) D

@@ -1,5 +1,5 @@
--- Sets of devices by a test, over the number of devices D: their members, and that nothing else has these members. The
--- circles are the devices that lead back to themselves (01, "Claims and rows").
+-- Sets of devices by a test, over the number of devices D: their members, that nothing else has these members, what a
+-- search of them finds, and how the code makes one, from its last device on.
 use Prim.Native.Nat.{ℕ, zero, suc, _+_, _-_, _^_, _<_, _≤_}
 use mathlib.Core.Bool.{Bool, true, false}
 use mathlib.Core.List.{List, [], _∷_, map}
@@ -7,16 +7,14 @@ use mathlib.Core.Logic.{_⊎_, inl, inr}
 use mathlib.Core.Option.{Option, some}
 use mathlib.Core.Path.{_≡_, refl, sym, _∙_, ap}
 use native.Mathlib.Omega.{arith}
-use lib.ListN.{length}
 use borrow.Author.Tests.{eqb-true, eq-eqb}
 use Rattle.model.specs.Lists.{upFrom, has, those, firstOf}
 use Rattle.model.specs.Sets.{empty, union, unionOf, member}
-use Rattle.model.specs.Rows.{leadsBack}
 use Rattle.theory.proofs.Tests.{clash, test}
 use Rattle.theory.proofs.Lists.{has-head, has-tail, has-upFrom, upFrom-has, those-same}
 use Rattle.theory.proofs.Sets.{member-empty, member-only, in-unionOf, unionOf-in, empty-below, only-below, union-below}
 use Rattle.theory.proofs.Sets.{same-members}
-use Rattle.rows.specs.Where.{onlyIf, devicesWhere, circlesOf}
+use Rattle.rows.specs.Where.{onlyIf, devicesWhere}
 
 -- a device is in the set of one where the test passes and it is that one
 in-one : (b : Bool) (d e : ℕ) → member (onlyIf b d) e ≡ true → (b ≡ true) × (d ≡ e)
@@ -71,15 +69,6 @@ module _ (f : ℕ → Bool) where
 -- tests that agree on the devices have one set
 pub where-same : (D : ℕ) (f g : ℕ → Bool) → ((d : ℕ) → d < D → f d ≡ g d) → devicesWhere D f ≡ devicesWhere D g
 where-same D f g h = is-where g D (devicesWhere D f) (where-below f D) (λ d k. member-where f D d k ∙ h d k)
-
--- The circles: their members are the devices that lead back, and none is past the board.
-pub member-circles : (rs : List ℕ) (d : ℕ) → d < length rs → member (circlesOf rs) d ≡ leadsBack rs d
-unfolding circlesOf
-member-circles rs d h = member-where (leadsBack rs) (length rs) d h
-
-pub circles-below : (rs : List ℕ) → circlesOf rs < 2 ^ length rs
-unfolding circlesOf
-circles-below rs = where-below (leadsBack rs) (length rs)
 
 -- A search of the set finds what a search of the test finds, and the same are counted.
 

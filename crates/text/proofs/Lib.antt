@@ -4,7 +4,7 @@ pub mod Tight
 pub mod Making
 pub mod Copying
 pub mod Steps
-pub mod Ranges
+pub mod Verbs
 pub mod Scanned
 pub mod Gathering
 pub mod Outcomes

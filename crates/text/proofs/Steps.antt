@@ -1,6 +1,6 @@
 -- 01, "The plan as text": one step of the words of specs/Scan, which case the byte at hand picks. The loops and
 -- branches of the reader's functions cite one law each.
-use Prim.Native.Nat.{ℕ, suc, _+_, _-_, _*_, _%_, _≤_, _<_}
+use Prim.Native.Nat.{ℕ, _+_, _-_, _*_, _/_, _%_, _≤_, _<_}
 use mathlib.Core.Bool.{Bool, true, false, cond}
 use mathlib.Core.List.{List, [], _∷_}
 use mathlib.Core.Logic.{_⊎_, inl, inr}
@@ -11,7 +11,7 @@ use lib.Dec.{eqb, ltb}
 use lib.ListN.{length, getD, drop, drop-of-length-le}
 use lib.Seq.{drop-cons}
 use borrow.Author.Tests.{ne-eqb, eq-eqb, le-leb, lt-leb, lt-ltb, le-ltb, ltb-true, eqb-true, eqb-false}
-use Rattle.model.specs.Line.{pack, isStep}
+use Rattle.model.specs.Line.{pack, job, kind, operand, isStep, isLine}
 use Rattle.model.specs.Text.{tab, newline, isDigit, verb}
 use Rattle.theory.proofs.Tests.{clash, le-or-lt}
 use Rattle.text.specs.Scan.{endedAt, digitsAt, DigitOf, joinedBy, fieldAt, wordAt, verbAt, lineAt}
@@ -307,7 +307,7 @@ module _ (end i : ℕ) (s : List ℕ) where
 
 -- ---- a word
 
-pub word-short : (w s : List ℕ) → length s ≤ length w → wordAt w s ≡ false
+word-short : (w s : List ℕ) → length s ≤ length w → wordAt w s ≡ false
 unfolding wordAt
 word-short [] [] h = refl
 word-short [] (b ∷ s) h = absurd (omega arith)
@@ -325,27 +325,6 @@ word-fits w s e = go (le-or-lt (length s) (length w))
     go : (length s ≤ length w) ⊎ (length w < length s) → length w < length s
     go (inl h) = clash (wordAt w s) e (word-short w s h)
     go (inr h) = h
-
-pub word-from : (w s : List ℕ) (a : ℕ) → wordAt w (drop a s) ≡ wordAt (drop 0 w) (drop (a + 0) s)
-word-from w s a = let q : a + 0 ≡ a = omega arith in rw q
-
-module _ (w s : List ℕ) (a i : ℕ) (h : a + i < length s) where
-  -- the whole word was passed, and the byte after it decides
-  pub word-end : length w ≤ i → wordAt (drop i w) (drop (a + i) s) ≡ eqb (getD s (a + i) 0) tab
-  unfolding wordAt
-  word-end g = rw (drop-of-length-le w g, drop-cons s (a + i) 0 h)
-
-  module _ (g : i < length w) where
-    pub word-other : (getD s (a + i) 0 ≡ getD w i 0 → ⊥) → wordAt (drop i w) (drop (a + i) s) ≡ false
-    unfolding wordAt
-    word-other e = rw (drop-cons w i 0 g, drop-cons s (a + i) 0 h, ne-eqb (getD s (a + i) 0) (getD w i 0) e)
-
-    pub word-on : getD s (a + i) 0 ≡ getD w i 0
-        → wordAt (drop i w) (drop (a + i) s) ≡ wordAt (drop (i + 1) w) (drop (a + (i + 1)) s)
-    unfolding wordAt
-    word-on e =
-        let q : a + (i + 1) ≡ suc (a + i) = omega arith in
-        rw (q, add-one i, drop-cons w i 0 g, drop-cons s (a + i) 0 h, eq-eqb (getD s (a + i) 0) (getD w i 0) e)
 
 -- ---- a verb
 
@@ -374,6 +353,16 @@ module _ (i : ℕ) (s : List ℕ) where
         verb-none e = rw (n0, n1, n2, e)
 
 -- ---- a line
+
+-- the ranges of its parts, tested on the packed number
+pub packed-step : (D j k o : ℕ) → k < 4 → o ≤ 255 → isLine D (j * 1024 + k * 256 + o) ≡ isStep D j k o
+unfolding isLine job kind operand
+packed-step D j k o a b =
+    let n : ℕ = j * 1024 + k * 256 + o in
+    let x : n / 1024 ≡ j = omega arith in
+    let y : n / 256 % 4 ≡ k = omega arith in
+    let z : n % 256 ≡ o = omega arith in
+    rw (x, y, z)
 
 module _ (D : ℕ) (text : List ℕ) (i : ℕ) where
   pub line-no-job : fieldAt tab i (drop i text) ≡ Field.Wrong → Spelt.Malformed ≡ lineAt D text i

@@ -45,6 +45,11 @@ fieldAt end i [] = Field.Wrong
 fieldAt end i (b ∷ s) =
     cond (eqb b 48) (endedAt end 0 (suc i) s) (cond (isDigit b) (digitsAt end 0 i (b ∷ s)) Field.Wrong)
 
+-- bytes as one number, the first lowest
+unfoldable pub inOne : List ℕ → ℕ
+inOne [] = 0
+inOne (b ∷ s) = b + inOne s * 256
+
 -- a text begins with a word and the tab that ends it
 unfoldable pub wordAt : List ℕ → List ℕ → Bool
 wordAt [] [] = false

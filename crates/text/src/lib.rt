@@ -7,19 +7,17 @@ use model::Refusal;
 use model::WriteAnswer;
 use plan::Checked;
 ghost use Prim.Native.Nat.{_+_, _/_, _≤_, _<_};
-ghost use mathlib.Core.Bool.{cond};
 ghost use mathlib.Core.List.{[], _∷_};
 ghost use mathlib.Core.Option.{none};
 ghost use mathlib.Core.Path.{_≡_};
-ghost use lib.ListN.{length, drop};
+ghost use lib.ListN.{length, take, drop};
 ghost use Rattle.model.specs.Board.{devices};
-ghost use Rattle.model.specs.Line.{isStep};
 ghost use Rattle.model.specs.Lists.{over};
 ghost use Rattle.model.specs.Text.{decimal, verb, lineText, textOf, nextLine};
 ghost use Rattle.model.specs.WellFormed.{fault};
 ghost use Rattle.text.specs.Promises.{ReadsAs, WritesAs};
-ghost use Rattle.text.specs.Scan.{endedAt, digitsAt, DigitOf, joinedBy, fieldAt};
-ghost use Rattle.text.specs.Scan.{wordAt, verbAt, lineAt, handedAt};
+ghost use Rattle.text.specs.Scan.{endedAt, digitsAt, DigitOf, joinedBy, fieldAt, inOne};
+ghost use Rattle.text.specs.Scan.{verbAt, lineAt, handedAt};
 ghost use Rattle.text.specs.Gathered.{GathersAs};
 ghost use Rattle.text.specs.Made.{Puts, Lays, verbTable};
 
@@ -110,23 +108,13 @@ fn digit(b: u8) -> u32
     (b as u32 + 208) % 256
 }
 
-// The first value, or the other.
-fn pick(first: bool, a: u32, b: u32) -> u32
-    ensures { λ r. ⌜ r ≡ cond first a b ⌝ }
-{
-    if first {
-        return a;
-    }
-    b
-}
-
 // The value v with one digit more; over 255 if the byte is none.
 fn joined(v: u32, b: u8) -> u32
     requires { ⌜ v ≤ 999 ⌝ }
     ensures { λ r. ⌜ r ≡ joinedBy v b ⌝ }
 {
     let d = digit(b);
-    pick(d < 10, v * 10 + d, 256)
+    plan::pick(d < 10, v * 10 + d, 256)
 }
 
 // The number whose first digit, before the place, is v, with up to two more. The values with one and with two more are
@@ -145,8 +133,8 @@ fn digits(text: &[u8], at: usize, end: u8, v: u32) -> Field
     let c = text[at + 1];
     let two = joined(v, b);
     let three = joined(two, c);
-    let value = pick(b == end, v, pick(c == end, two, three));
-    let more = pick(b == end, 0, pick(c == end, 1, 2));
+    let value = plan::pick(b == end, v, plan::pick(c == end, two, three));
+    let more = plan::pick(b == end, 0, plan::pick(c == end, 1, 2));
     if 255 < value {
         return Field::Wrong;
     }
@@ -179,66 +167,68 @@ fn field_at(text: &[u8], from: usize, end: u8) -> Field
     digits(text, from + 1, end, v)
 }
 
-// Is the field at the place, which a tab ends, this word?
-fn is_word(text: &[u8], at: usize, word: &[u8]) -> bool
-    ensures { λ r. ⌜ r ≡ wordAt (now (word .entry)) (drop at (now (text .entry))) ⌝ }
+// Four bytes as one number, the first lowest.
+fn four(text: &[u8], at: usize) -> u64
+    requires { ⌜ at + 4 ≤ length (now text) ⌝ }
+    ensures { λ r. ⌜ (r ≡ inOne (take 4 (drop at (now (text .entry))))) × (r < 4294967296) ⌝ }
 {
-    if text.len() <= at {
-        return false;
-    }
-    if text.len() - at <= word.len() {
-        return false;
-    }
-    let mut i = 0;
-    while i < word.len() {
-        if text[at + i] != word[i] {
-            return false;
-        }
-        i += 1;
-    }
-    text[at + i] == 9
+    let low = text[at] as u64 + text[at + 1] as u64 * 256;
+    let high = text[at + 2] as u64 + text[at + 3] as u64 * 256;
+    low + high * 65536
 }
 
-// The verb at the place, matched byte for byte.
+// The last bytes of a text, from a place on, as one number.
+fn last_bytes(text: &[u8], at: usize) -> u64
+    requires { ⌜ (at ≤ length (now text)) × (length (now text) < at + 8) ⌝ }
+    ensures { λ r. ⌜ r ≡ inOne (drop at (now (text .entry))) ⌝ }
+{
+    let mut y: u64 = 0;
+    let mut i = text.len();
+    while at < i {
+        i -= 1;
+        let b = text[i] as u64;
+        y = y * 256 + b;
+    }
+    y
+}
+
+// Eight bytes as one number, the first lowest; past the end of the text there is nought.
+fn eight(text: &[u8], at: usize) -> u64
+    requires { ⌜ at ≤ length (now text) ⌝ }
+    ensures { λ r. ⌜ r ≡ inOne (take 8 (drop at (now (text .entry)))) ⌝ }
+{
+    if text.len() - at < 8 {
+        return last_bytes(text, at);
+    }
+    four(text, at) + four(text, at + 4) * 4294967296
+}
+
+// The verbs, each with its tab, as the highest bytes of a number of eight; and how many bits of it lie below them.
+const VERBS: [u64; 4] = [
+    679872019919011840,
+    677065385291284480,
+    677077514060824576,
+    681295206530875392,
+];
+
+const BELOW: [u32; 4] = [40, 24, 24, 16];
+
+// The verb at the place. Its first byte tells which it can be, and the eight bytes there whether it is that one: there
+// is no branch on the kind, which cannot be foretold.
 fn verb_at(text: &[u8], at: usize) -> Verb
     ensures { λ r. ⌜ r ≡ verbAt at (drop at (now (text .entry))) ⌝ }
 {
-    if is_word(text, at, b"do") {
-        return Verb::Kind(0, at + 3);
+    if text.len() <= at {
+        return Verb::Wrong;
     }
-    if is_word(text, at, b"take") {
-        return Verb::Kind(1, at + 5);
-    }
-    if is_word(text, at, b"give") {
-        return Verb::Kind(2, at + 5);
-    }
-    if is_word(text, at, b"start") {
-        return Verb::Kind(3, at + 6);
+    let b = text[at] as u32;
+    let k = b / 16 % 2 + b % 2 * 2;
+    let spelt = eight(text, at) << BELOW[k as usize];
+    if spelt == VERBS[k as usize] {
+        let past = 3 + (b != 100) as usize * 2 + (b == 115) as usize;
+        return Verb::Kind(k, at + past);
     }
     Verb::Wrong
-}
-
-// Are job, kind and operand those of a line?
-fn is_step(j: u32, k: u32, o: u32) -> bool
-    requires { ⌜ (k < 4) × (o ≤ 255) ⌝ }
-    ensures { λ r. ⌜ r ≡ isStep devices j k o ⌝ }
-{
-    if j < 1 {
-        return false;
-    }
-    if 64 < j {
-        return false;
-    }
-    if k == 0 {
-        return true;
-    }
-    if k == 3 {
-        if o < 2 {
-            return false;
-        }
-        return o <= 64;
-    }
-    o < 32
 }
 
 // The line at the place: a job and a verb, each with its tab, and an operand with its newline.
@@ -254,8 +244,9 @@ fn line_at(text: &[u8], from: usize) -> Spelt
     let Field::Number(o, e) = field_at(text, b, 10) else {
         return Spelt::Malformed;
     };
-    if is_step(j, k, o) {
-        return Spelt::Line(j * 1024 + k * 256 + o, e);
+    let n = j * 1024 + k * 256 + o;
+    if plan::is_line(n) {
+        return Spelt::Line(n, e);
     }
     Spelt::Malformed
 }

@@ -1,13 +1,14 @@
 -- The numbers and values that `model` lists for the answers lose nothing: each refusal is known by its number and
 -- place, and each answer by its values. Promises that are stated through them are therefore as tight as if they named
--- the cases.
-use Prim.Native.Nat.{ℕ}
+-- the cases. Last, what the first refusal of an entry's tests says of each of them.
+use Prim.Native.Nat.{ℕ, zero, suc}
+use mathlib.Core.Bool.{Bool, true, false, not}
 use mathlib.Core.List.{List, [], _∷_}
-use mathlib.Core.Option.{Option, none, some, Option·some-injective}
+use mathlib.Core.Option.{Option, none, some, Option·some-injective, Option·none-ne-some}
 use mathlib.Core.Path.{_≡_, refl, sym, _∙_, ap, ap₂}
 use lib.ListN.{getD}
 use Rattle.model.specs.Answers.{numberOf, placeOf, refusalValues, lineValues, readValues, writeValues, tableValues}
-use Rattle.model.specs.Answers.{verdictValues, moveValues}
+use Rattle.model.specs.Answers.{verdictValues, moveValues, refuseIf, refuseAt, firstRefusal}
 use Rattle.model.specs.declared.Refusal.{Refusal}
 use Rattle.model.specs.declared.Refusal.the-variants.{TextTooLong, Malformed, TooManyLines, JobOutOfSequence}
 use Rattle.model.specs.declared.Refusal.the-variants.{BadStart, NeverStarted, GiveWithoutTake, TakeOfHeld}
@@ -136,3 +137,34 @@ one-verdict-answer = one-answer verdictValues (answerOf VerdictAnswer.Held Verdi
 
 pub one-move-answer : (a b : MoveAnswer) → moveValues a ≡ moveValues b → a ≡ b
 one-move-answer = one-answer moveValues (answerOf MoveAnswer.Changed MoveAnswer.Refused) move-back
+
+-- ---- tests in a list
+
+pub data Each (P : Option Refusal → Type 0) : List (Option Refusal) → Type 0 where
+  all-tests : Each P []
+  also : {x : Option Refusal} {xs : List (Option Refusal)} → P x → Each P xs → Each P (x ∷ xs)
+
+-- what holds of each test holds of the first refusal
+pub first-each : (P : Option Refusal → Type 0) (xs : List (Option Refusal)) → P none → Each P xs → P (firstRefusal xs)
+unfolding firstRefusal
+first-each P [] n e = n
+first-each P (some r ∷ xs) n (also h e) = h
+first-each P (none ∷ xs) n (also h e) = first-each P xs n e
+
+-- where there is no first refusal, no test refuses
+pub none-refuses : (xs : List (Option Refusal)) → firstRefusal xs ≡ none → (k : ℕ) → getD xs k none ≡ none
+unfolding firstRefusal
+none-refuses [] e k = refl
+none-refuses (some r ∷ xs) e k = absurd (Option·none-ne-some r (sym e))
+none-refuses (none ∷ xs) e zero = refl
+none-refuses (none ∷ xs) e (suc k) = none-refuses xs e k
+
+pub not-refused : (b : Bool) (r : Refusal) → refuseIf (not b) r ≡ none → b ≡ true
+unfolding refuseIf
+not-refused true r e = refl
+not-refused false r e = absurd (Option·none-ne-some r (sym e))
+
+pub not-found : (r : ℕ → Refusal) (o : Option ℕ) → refuseAt r o ≡ none → o ≡ none
+unfolding refuseAt
+not-found r none e = refl
+not-found r (some k) e = absurd (Option·none-ne-some (r k) (sym e))

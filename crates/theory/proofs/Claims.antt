@@ -5,7 +5,7 @@ use mathlib.Core.Bool.{Bool, true, false, cond, _&&_}
 use mathlib.Core.List.{List, [], _∷_, map}
 use mathlib.Core.Logic.{_⊎_, inl, inr, _↔_}
 use mathlib.Core.Path.{_≡_, refl, sym, _∙_, ap}
-use native.Mathlib.Nat.{add-zero, add-suc, suc-add}
+use native.Mathlib.Nat.{add-zero}
 use native.Mathlib.Omega.{arith}
 use lib.Dec.{eqb}
 use lib.ListN.{length, getD, drop, length-map, List·getD-eq-default}
@@ -15,7 +15,7 @@ use Rattle.model.specs.Sets.{empty, only, union, member}
 use Rattle.model.specs.Line.{operand, isTake, at}
 use Rattle.model.specs.Mate.{takesAt, deviceAt, takes}
 use Rattle.model.specs.Claims.{successors, own, joined, tableOf, table, beyond}
-use Rattle.theory.proofs.Tests.{clash, and-split, and-both, le-or-lt}
+use Rattle.theory.proofs.Tests.{clash, le-or-lt}
 use Rattle.theory.proofs.Line.{inside}
 use Rattle.theory.proofs.Sets.{member-empty, member-only, in-union, in-left, in-right, in-unionOf, unionOf-in}
 

@@ -1,5 +1,5 @@
 -- The edited plan, with another device at a take and at its mate. It is as long as the plan and has the same job and
--- kind at each place, so that starts, successors, mates and open takes are the same and one own claim alone differs.
+-- kind at each place, so that starts, successors and open takes are the same and one own claim alone differs.
 -- Where the plan is well-formed, the edited one has no fault but 8: a move need look for no other.
 use Prim.Native.Nat.{ℕ, zero, suc, _+_, _<_, _≤_}
 use mathlib.Core.Bool.{Bool, true, false, not, _&&_}
@@ -10,21 +10,20 @@ use mathlib.Core.Path.{_≡_, refl, sym, _∙_, ap}
 use native.Mathlib.Omega.{arith}
 use lib.Dec.{eqb, leb}
 use lib.ListN.{length, drop, getElem?, length-drop, length-set}
-use lib.Seq.{getD-drop, getD-set-same, getD-set-other}
+use lib.Seq.{getD-drop, getD-set-same, getD-set-other, set-getD}
 use borrow.Author.Tests.{eqb-true, eq-eqb, eqb-false, lt-ltb, not-true}
 use Rattle.model.specs.Lists.{any}
-use Rattle.model.specs.Sets.{only}
 use Rattle.model.specs.Answers.{numberOf, refuseIf}
 use Rattle.model.specs.Line.{pack, job, kind, operand, isTake, isGive, isStart, starts, operandFits, isLine, at}
 use Rattle.model.specs.Line.{maxJob, hasLines, firstLine}
-use Rattle.model.specs.Mate.{takesAt, deviceAt, mateIn, mate}
+use Rattle.model.specs.Mate.{takesAt, deviceAt, mate}
 use Rattle.model.specs.WellFormed.{isLast, Rules, WellFormed, fault}
 use Rattle.model.specs.Claims.{successors, own}
 use Rattle.model.specs.Move.{withDevice, alsoMate, edited, ofNumber}
 use Rattle.model.specs.declared.Refusal.{Refusal}
 use Rattle.theory.proofs.Tests.{clash, no-some, test, and-split, and-both}
-use Rattle.theory.proofs.Line.{job-pack, kind-pack, operand-pack, kind-small, start-of, take-no-give}
-use Rattle.theory.proofs.Line.{take-no-start, give-no-start}
+use Rattle.theory.proofs.Line.{job-pack, kind-pack, operand-pack, pack-parts, kind-small, start-of}
+use Rattle.theory.proofs.Line.{take-no-give, take-no-start, give-no-start}
 use Rattle.theory.proofs.WellFormed.{take-line}
 use Rattle.theory.proofs.WellFormed.{FollowsOn, heldThere, Sound, FaultView, sound, startsEmpty, unstarted}
 use Rattle.theory.proofs.WellFormed.{BrokenAt, tooMany, malformed, outOfSequence, badStart, badGive, takeOfHeld}
@@ -88,24 +87,6 @@ same-first j [] (m ∷ ms) a = absurd (omega (arith, a .long))
 same-first j (l ∷ ls) [] a = absurd (omega (arith, a .long))
 same-first j (l ∷ ls) (m ∷ ms) a = cc (a .jobs 0, same-first j ls ms (alike-tail l m ls ms a))
 
-same-mateIn : (j d i : ℕ) (p q : List ℕ) → Alike p q → mateIn j d i q ≡ mateIn j d i p
-unfolding mateIn
-same-mateIn j d i [] [] a = refl
-same-mateIn j d i [] (m ∷ ms) a = absurd (omega (arith, a .long))
-same-mateIn j d i (l ∷ ls) [] a = absurd (omega (arith, a .long))
-same-mateIn j d i (l ∷ ls) (m ∷ ms) a = go d (λ e. same-mateIn j e (suc i) ls ms (alike-tail l m ls ms a))
-  where
-    take′ : isTake m ≡ isTake l
-    take′ = same-take (l ∷ ls) (m ∷ ms) a 0
-
-    give′ : isGive m ≡ isGive l
-    give′ = same-give (l ∷ ls) (m ∷ ms) a 0
-
-    go : (d : ℕ) → ((e : ℕ) → mateIn j e (suc i) ms ≡ mateIn j e (suc i) ls)
-        → mateIn j d i (m ∷ ms) ≡ mateIn j d i (l ∷ ls)
-    go zero ih = cc (a .jobs 0, take′, give′, ih 1, ih 0)
-    go (suc d) ih = cc (a .jobs 0, take′, give′, ih (suc (suc d)), ih (suc d), ih d)
-
 module _ (p q : List ℕ) (a : Alike p q) where
   pub same-successors : (k : ℕ) → successors (at q k) (drop (suc k) q) ≡ successors (at p k) (drop (suc k) p)
   unfolding successors
@@ -118,12 +99,6 @@ module _ (p q : List ℕ) (a : Alike p q) where
           → successors (at q k) (drop (suc k) q) ≡ successors (at p k) (drop (suc k) p)
       go (inl s) = rw (a .jobs k, same-start p q a k, a .named k s, first (job (at p k)), first (operand (at p k)))
       go (inr s) = rw (a .jobs k, same-start p q a k, s, first (job (at p k)))
-
-  pub same-mate : (k : ℕ) → mate q k ≡ mate p k
-  unfolding mate
-  same-mate k =
-      rw (a .jobs k) (same-mateIn (job (at p k)) 0 (suc k) (drop (suc k) p) (drop (suc k) q)
-      (alike-drop (suc k) p q a))
 
   pub same-open : (j k : ℕ) → openTakes q j k ≡ openTakes p j k
   unfolding openTakes
@@ -211,6 +186,19 @@ edit p i e t s = go (mate p i) refl
         inQ : m < length q
         inQ = omega (arith, r .inPlan, a .long)
 
+given-same : (p : List ℕ) (i : ℕ) → withDevice p (deviceAt p i) i ≡ p
+unfolding withDevice deviceAt
+given-same p i = rw (pack-parts (at p i)) (set-getD p i 0)
+
+-- a take that is given the device that it has leaves the plan as it is
+pub edited-same : (p : List ℕ) → Rules p → (i : ℕ) → isTake (at p i) ≡ true → edited p i (deviceAt p i) ≡ p
+unfolding edited alsoMate
+edited-same p rules i t = rw (given-same p i) (go (mate p i) refl)
+  where
+    go : (o : Option ℕ) → mate p i ≡ o → alsoMate p (deviceAt p i) o ≡ p
+    go none h = refl
+    go (some m) h = rw (← mate-names-device p rules i m t h) (given-same p m)
+
 -- a place is the take's, its mate's, or another
 data Spot (p : List ℕ) (i k : ℕ) : Type 0 where
   theTake : k ≡ i → Spot p i k
@@ -276,10 +264,6 @@ line-with-device D l m h s j k o =
 -- ---- what an edit keeps
 
 module _ (p q : List ℕ) (i e : ℕ) (t : isTake (at p i) ≡ true) (d : EditOf p i e q) where
-  take-owns : own q i ≡ only e
-  unfolding own takesAt deviceAt
-  take-owns = rw (same-take p q (d .alike) i, t, d .atTake)
-
   others-own : (k : ℕ) → k ≢ i → own q k ≡ own p k
   unfolding own takesAt deviceAt
   others-own k n = go (spot p i k)
@@ -395,9 +379,6 @@ module _ (D : ℕ) (p q : List ℕ) (i e : ℕ) (w : WellFormed D p) (t : isTake
       clash (unstarted q j) z (same-unstarted j ∙ nothing-broken D p w .begun j x y)
 
 -- ---- of the edited plan itself
-
-pub own-at-take : (p : List ℕ) (i e : ℕ) → isTake (at p i) ≡ true → e < 256 → own (edited p i e) i ≡ only e
-own-at-take p i e t s = take-owns p (edited p i e) i e t (edit p i e t s)
 
 pub own-elsewhere : (p : List ℕ) (i e k : ℕ) → isTake (at p i) ≡ true → e < 256 → k ≢ i
     → own (edited p i e) k ≡ own p k

@@ -1,12 +1,12 @@
 -- The order handed out is legal, in a well-formed plan with no device that has two lasting takes and none that leads
 -- back to itself. Turn by turn: the lines of a turn may follow, what holds between turns holds again, and each turn
 -- does a line, so the turns that the definition allows are enough.
-use Prim.Native.Nat.{ℕ, zero, suc, _+_, _-_, _<_, _≤_}
-use mathlib.Core.Bool.{Bool, true, false, cond, not, _&&_}
+use Prim.Native.Nat.{ℕ, zero, suc, _-_, _<_, _≤_}
+use mathlib.Core.Bool.{true, false, cond, not, _&&_}
 use mathlib.Core.List.{List, [], _∷_, _++_, append-nil, append-assoc}
 use mathlib.Core.Logic.{_⊎_, inl, inr, _≢_}
 use mathlib.Core.Option.{Option, none, some, Option·getD}
-use mathlib.Core.Path.{_≡_, refl, sym, _∙_, ap, subst}
+use mathlib.Core.Path.{_≡_, refl, sym, subst}
 use native.Mathlib.Omega.{arith}
 use lib.Dec.{eqb}
 use lib.ListN.{length}
@@ -17,12 +17,12 @@ use Rattle.model.specs.Mate.{takesAt, deviceAt, takes, mate, isNone, lastingAt}
 use Rattle.model.specs.WellFormed.{WellFormed}
 use Rattle.model.specs.Legal.{precedes, Follow, Legal}
 use Rattle.model.specs.Rows.{rows, Leads}
-use Rattle.model.specs.Handed.{undone, standing, goingOn, alone, lastingNext, lastOf, run, runFrom, turn, handedAfter}
+use Rattle.model.specs.Handed.{undone, goingOn, alone, lastingNext, lastOf, run, runFrom, turn, handedAfter}
 use Rattle.model.specs.Handed.{handed}
-use Rattle.theory.proofs.Tests.{clash, test, and-split, and-second}
+use Rattle.theory.specs.Verdict.{LastsTwice}
+use Rattle.theory.proofs.Tests.{clash, test, and-second}
 use Rattle.theory.proofs.Lists.{has-none, has-left, has-right, has-append, any-none}
 use Rattle.theory.proofs.Lists.{left, left-lt, left-none, left-zero, left-all, among}
-use Rattle.theory.proofs.OnlyIf.{LastsTwice}
 use Rattle.theory.proofs.Turns.{Between, Going, going, taking, turn-follows, turn-between, after-new}
 use Rattle.theory.proofs.Progress.{has-undone, undone-has, has-standing, Picked, stuck, goes, picked, device-is}
 use Rattle.theory.proofs.Progress.{never-stuck}

@@ -1,8 +1,9 @@
 -- The theorems about the definitions of `model`, in the order in which they build on each other; the one that a user
 -- of a file wants stands last in it. A legal order exists exactly if the verdict is an order: `Verdict`. The round
 -- trips: `Text`. The line reader: `Reader`; by an offset alone: `Offsets`. What is printed fits the screens' buffer:
--- `Printed`.
+-- `Printed`. Contracts that are equations leave one outcome: `Tight`.
 pub mod Tests
+pub mod Tight
 pub mod Lists
 pub mod Sets
 pub mod Answers

@@ -1,17 +1,17 @@
 -- What the words of `model/Lists` mean: members of a list, of the positions, of those that pass; what a search finds,
 -- and that where it finds nothing nothing passes. One law for each word serves order, verdict, faults and moves.
 use Prim.Native.Nat.{ℕ, zero, suc, _+_, _<_, _≤_}
-use mathlib.Core.Bool.{Bool, true, false, cond, not, _||_}
+use mathlib.Core.Bool.{Bool, true, false, cond, _||_}
 use mathlib.Core.List.{List, [], _∷_, _++_, map}
 use mathlib.Core.Logic.{_⊎_, inl, inr, _≢_}
 use mathlib.Core.Option.{Option, none, some, Option·some-injective}
-use mathlib.Core.Path.{_≡_, refl, sym, _∙_, ap, subst}
+use mathlib.Core.Path.{_≡_, refl, sym, ap, subst}
 use native.Mathlib.Omega.{arith}
 use lib.Dec.{eqb, ltb}
 use lib.ListN.{length}
-use borrow.Author.Tests.{eqb-true, eq-eqb, eqb-false, ltb-true, ltb-false, not-true, not-false}
+use borrow.Author.Tests.{eqb-true, eq-eqb, eqb-false, ltb-true, ltb-false}
 use Rattle.model.specs.Lists.{upFrom, positions, any, has, those, firstOf, lower, leastBy}
-use Rattle.theory.proofs.Tests.{clash, no-some, test, or-split, or-left, or-right, or-neither}
+use Rattle.theory.proofs.Tests.{clash, no-some, test, or-split, or-left, or-right}
 
 -- ---- members
 

@@ -4,8 +4,8 @@
 use Prim.Native.Nat.{ℕ, zero, suc, _+_, _-_, _<_, _≤_}
 use mathlib.Core.Bool.{Bool, true, false, _&&_}
 use mathlib.Core.List.{List, [], _∷_, map, tail}
-use mathlib.Core.Logic.{_⊎_, inl, inr, _≢_}
-use mathlib.Core.Option.{Option, none, some, Option·some-injective}
+use mathlib.Core.Logic.{_⊎_, inl, inr}
+use mathlib.Core.Option.{none, some, Option·some-injective}
 use mathlib.Core.Path.{_≡_, refl, sym, _∙_, ap}
 use native.Mathlib.Omega.{arith}
 use lib.Dec.{eqb}
@@ -14,7 +14,7 @@ use lib.Seq.{getD-drop, drop-drop, drop-cons}
 use borrow.Author.Tests.{eqb-true, eq-eqb, eqb-false, ne-eqb}
 use Rattle.model.specs.Lists.{has}
 use Rattle.model.specs.Line.{job, isTake, isGive, operand, at}
-use Rattle.model.specs.Mate.{takesAt, deviceAt, takes, mateIn, mate, isNone, lastingAt, lasting}
+use Rattle.model.specs.Mate.{takesAt, deviceAt, takes, mateIn, mate, isNone, lastingAt}
 use Rattle.model.specs.WellFormed.{before, heldBy, isLast, Rules}
 use Rattle.theory.proofs.Tests.{clash, no-some, test, and-split, and-right, le-or-lt}
 use Rattle.theory.proofs.Lists.{has-head, has-tail}

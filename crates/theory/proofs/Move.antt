@@ -1,36 +1,42 @@
 -- A move from a plan without a fault and its own table gives the edited plan and the table that would be worked out
 -- afresh, with the count of the places that changed; nothing off the way changes, and 14 refuses no such move. So over
 -- any list of moves, refused ones among them, plan and table stay right; else no table kept by moves could be trusted.
+-- Of any plan and table: 9 and 10 refuse no move, and one to the device that the take has changes nothing.
 use Prim.Native.Nat.{ℕ, zero, suc, _+_, _<_, _≤_}
 use mathlib.Core.Bool.{Bool, true, false, cond, not}
 use mathlib.Core.List.{List, [], _∷_, _++_}
-use mathlib.Core.Logic.{_⊎_, inl, inr}
+use mathlib.Core.Logic.{_⊎_, inl, inr, _≢_}
 use mathlib.Core.Option.{Option, none, some, Option·none-ne-some}
-use mathlib.Core.Path.{_≡_, refl, sym, _∙_, ap}
+use mathlib.Core.Path.{_≡_, refl, sym, _∙_, ap, subst}
 use native.Mathlib.Omega.{arith}
-use lib.Dec.{eqb, leb}
+use lib.Dec.{eqb, leb, ltb}
 use lib.ListN.{length, getD, take, drop, set, length-take, length-set, take-append-drop, List·getD-append}
 use lib.Seq.{length-take-le, getD-take, getD-drop, getD-set-same, getD-set-other, drop-set-lt, take-at, drop-at}
-use lib.Seq.{ext-getD}
-use borrow.Author.Tests.{eq-eqb, eqb-false, leb-true, leb-false, le-ltb}
+use lib.Seq.{ext-getD, set-getD}
+use borrow.Author.Tests.{eqb-true, eq-eqb, eqb-false, leb-true, leb-false, le-ltb, not-false}
 use Rattle.model.specs.Lists.{upFrom, positions, has, those, firstOf}
 use Rattle.model.specs.Sets.{union, unionOf}
 use Rattle.model.specs.Answers.{numberOf, refuseIf, refuseAt, firstRefusal, tooShort}
-use Rattle.model.specs.Line.{isTake, at, lineNumber}
-use Rattle.model.specs.WellFormed.{WellFormed, fault}
+use Rattle.model.specs.Line.{isTake, isGive, at, lineNumber}
+use Rattle.model.specs.WellFormed.{Rules, WellFormed, fault}
+use Rattle.model.specs.Mate.{deviceAt}
 use Rattle.model.specs.Claims.{successors, own, joined, table, beyond}
 use Rattle.model.specs.Move.{edited, way, rejoined, stale, rewritten, changed, askedAt, isTakeOf, ofNumber}
 use Rattle.model.specs.Move.{moveRefusal}
-use Rattle.model.specs.Entries.{MoveOutcome, moveBy, moving, judging}
+use Rattle.model.specs.Entries.{MoveOutcome, moveBy, moving}
 use Rattle.model.specs.declared.Refusal.{Refusal}
-use Rattle.model.specs.declared.Refusal.the-variants.{NotATake, NoSuchDevice, StaleTable}
+use Rattle.model.specs.declared.Refusal.the-variants.{ListTooShort, NotATake, NoSuchDevice, StaleTable}
 use Rattle.model.specs.declared.MoveAnswer.{MoveAnswer}
-use Rattle.theory.proofs.Tests.{clash, test, or-neither}
+use Rattle.theory.specs.Move.{Refused, notATake, noSuchDevice, takeOfHeld, differing, Accepted, Step}
+use Rattle.theory.specs.Move.{refused, accepted, Ask, Lent, moved, movedBy, Kept}
+use Rattle.theory.proofs.Tests.{clash, no-some, test, or-left, or-neither}
 use Rattle.theory.proofs.Lists.{has-none, has-head, has-tail, has-cases, Answer, first-answer}
+use Rattle.theory.proofs.Answers.{all-tests, also, first-each, none-refuses, not-refused, not-found}
+use Rattle.theory.proofs.Line.{device-line}
 use Rattle.theory.proofs.Claims.{claim, claim-is, length-table}
-use Rattle.theory.proofs.WellFormed.{take-line, no-fault-exactly}
+use Rattle.theory.proofs.WellFormed.{take-line, FaultView, broken, fault-view, broken-number, no-fault-exactly}
 use Rattle.theory.proofs.Successors.{successor-after}
-use Rattle.theory.proofs.Edited.{edit, same-successors, own-elsewhere, fault-is-eight, eight-is-all}
+use Rattle.theory.proofs.Edited.{edit, edited-same, same-successors, own-elsewhere, fault-is-eight, eight-is-all}
 use Rattle.theory.proofs.Way.{Falls, ends, falls, falls-below, way-falls, line-on-way, off-way-stays-off}
 
 -- ---- a table is determined by the joining
@@ -217,13 +223,6 @@ module _ (D : ℕ) (p t : List ℕ) (i e : ℕ) (w : WellFormed D p) (mine : tak
 
 -- ---- the tests of a move
 
--- why a move from a plan without a fault and its own table is refused: 12, 13 or 8
-pub data Refused (D : ℕ) (p : List ℕ) (line device : ℕ) : Refusal → Type 0 where
-  notATake : isTakeOf p line ≡ false → Refused D p line device (NotATake line)
-  noSuchDevice : isTakeOf p line ≡ true → D ≤ device → Refused D p line device (NoSuchDevice device)
-  takeOfHeld : (r : Refusal) → isTakeOf p line ≡ true → device < D → numberOf r ≡ 8
-      → fault D (edited p (askedAt line) device) ≡ some r → Refused D p line device r
-
 pub data TestView (D : ℕ) (p : List ℕ) (line device : ℕ) : Option Refusal → Type 0 where
   passes : isTakeOf p line ≡ true → device < D → fault D (edited p (askedAt line) device) ≡ none
       → TestView D p line device none
@@ -277,13 +276,76 @@ module _ (D : ℕ) (p t : List ℕ) (line device : ℕ) (w : WellFormed D p) (sm
           rw (none-stale p t mine i (take-line p i v), eight-is-all D p i device w v lt small)
           (last a lt (fault D (edited p i device)) refl)
 
--- ---- how many places changed
+-- ---- the tests of any move
 
--- at how many places two lists differ, as far as both go
-unfoldable pub differing : List ℕ → List ℕ → ℕ
-differing [] ys = 0
-differing (x ∷ xs) [] = 0
-differing (x ∷ xs) (y ∷ ys) = cond (eqb x y) (differing xs ys) (suc (differing xs ys))
+abbrev tests : ℕ → List ℕ → List ℕ → ℕ → ℕ → List (Option Refusal)
+tests D p t line device =
+    fault D p
+    ∷ tooShort (length t) (length p)
+    ∷ refuseIf (not (isTakeOf p line)) (NotATake line)
+    ∷ refuseIf (leb D device) (NoSuchDevice device)
+    ∷ refuseAt (λ k. StaleTable (lineNumber k)) (firstOf (stale p t) (way p (askedAt line)))
+    ∷ ofNumber 8 (fault D (edited p (askedAt line) device))
+    ∷ []
+
+-- a refusal, if there is one, is neither 9 nor 10
+abbrev NoVerdict : Option Refusal → Type 0
+NoVerdict none = Unit {0}
+NoVerdict (some r) = (numberOf r ≢ 9) × (numberOf r ≢ 10)
+
+if-no-verdict : (b : Bool) (r : Refusal) → NoVerdict (some r) → NoVerdict (refuseIf b r)
+unfolding refuseIf
+if-no-verdict true r v = v
+if-no-verdict false r v = tt
+
+stale-no-verdict : (o : Option ℕ) → NoVerdict (refuseAt (λ k. StaleTable (lineNumber k)) o)
+unfolding refuseAt
+stale-no-verdict none = tt
+stale-no-verdict (some k) = (λ e. omega arith, λ e. omega arith)
+
+fault-no-verdict : (D : ℕ) (p : List ℕ) → NoVerdict (fault D p)
+fault-no-verdict D p = go (fault D p) (fault-view D p)
+  where
+    go : (x : Option Refusal) → FaultView D p x → NoVerdict x
+    go none v = tt
+    go (some r) (broken s h) = let n = broken-number D p s h in (λ e. omega arith, λ e. omega arith)
+
+eight-no-verdict : (x : Option Refusal) → NoVerdict x → NoVerdict (ofNumber 8 x)
+unfolding ofNumber
+eight-no-verdict none v = tt
+eight-no-verdict (some r) v = if-no-verdict (eqb (numberOf r) 8) r v
+
+module _ (D : ℕ) (p t : List ℕ) (line device : ℕ) where
+  -- 9 and 10 are verdicts, and refuse no move
+  pub no-verdict-refuses : (r : Refusal) → moveRefusal D p t line device ≡ some r
+      → (numberOf r ≢ 9) × (numberOf r ≢ 10)
+  unfolding moveRefusal tooShort
+  no-verdict-refuses r h =
+      subst NoVerdict h
+      (first-each NoVerdict (tests D p t line device) tt
+      (also (fault-no-verdict D p)
+      (also
+      (if-no-verdict (ltb (length t) (length p)) (ListTooShort (length p)) (λ e. omega arith, λ e. omega arith))
+      (also (if-no-verdict (not (isTakeOf p line)) (NotATake line) (λ e. omega arith, λ e. omega arith))
+      (also (if-no-verdict (leb D device) (NoSuchDevice device) (λ e. omega arith, λ e. omega arith))
+      (also (stale-no-verdict (firstOf (stale p t) (way p (askedAt line))))
+      (also
+      (eight-no-verdict (fault D (edited p (askedAt line) device))
+      (fault-no-verdict D (edited p (askedAt line) device)))
+      all-tests)))))))
+
+  -- where none refuses: the plan has no fault, the line is a take, no line on the way is stale
+  tests-passed : moveRefusal D p t line device ≡ none
+      → (fault D p ≡ none) × (isTakeOf p line ≡ true) × (firstOf (stale p t) (way p (askedAt line)) ≡ none)
+  unfolding moveRefusal
+  tests-passed h =
+      let e = none-refuses (tests D p t line device) h in (
+        e 0,
+        not-refused (isTakeOf p line) (NotATake line) (e 2),
+        not-found (λ k. StaleTable (lineNumber k)) (firstOf (stale p t) (way p (askedAt line))) (e 4),
+      )
+
+-- ---- how many places changed
 
 differing-self : (xs : List ℕ) → differing xs xs ≡ 0
 unfolding differing
@@ -338,32 +400,6 @@ changed-is p t u old new rest x y e h =
 
 -- ---- a move
 
--- what an accepted move does: the plan is the edited one and has no fault; the sets are its table, worked out afresh,
--- and the rest of the list; off the way they are what they were; the count is that of the places where the lists
--- differ
-pub record Accepted (D : ℕ) (p t : List ℕ) (line device : ℕ) (o : MoveOutcome) : Type 0 where
-  pub plan : o .plan ≡ edited p (askedAt line) device
-  pub long : length (o .plan) ≡ length p
-  pub noFault : fault D (o .plan) ≡ none
-  pub afresh : o .sets ≡ table (o .plan) ++ drop (length p) t
-  pub room : length (o .sets) ≡ length t
-  pub verdict : judging D (o .plan) ≡ judging D (edited p (askedAt line) device)
-  pub offWay : (k : ℕ) → has k (way p (askedAt line)) ≡ false → getD (o .sets) k 0 ≡ getD t k 0
-  pub count : o .answer ≡ MoveAnswer.Changed (differing (o .sets) t)
-
--- what a refused move does: nothing, but for the answer
-pub record Unmoved (D : ℕ) (p t : List ℕ) (line device : ℕ) (o : MoveOutcome) : Type 0 where
-  pub refusal : Refusal
-  pub reason : Refused D p line device refusal
-  pub answer : o .answer ≡ MoveAnswer.Refused refusal
-  pub plan : o .plan ≡ p
-  pub sets : o .sets ≡ t
-
--- what any move does
-pub data Step (D : ℕ) (p t : List ℕ) (line device : ℕ) (o : MoveOutcome) : Type 0 where
-  refused : Unmoved D p t line device o → Step D p t line device o
-  accepted : Accepted D p t line device o → Step D p t line device o
-
 module _ (D : ℕ) (p t : List ℕ) (line device : ℕ) (w : WellFormed D p) (small : D ≤ 256)
     (mine : take (length p) t ≡ table p) where
   accepts : isTakeOf p line ≡ true → device < D → fault D (edited p (askedAt line) device) ≡ none
@@ -414,45 +450,83 @@ module _ (D : ℕ) (p t : List ℕ) (line device : ℕ) (w : WellFormed D p) (sm
       go (some r) (refuses x y) =
           refused (record { refusal = x; reason = y; answer = refl; plan = refl; sets = refl })
 
+-- ---- a move to the device that the take has
+
+-- sets are rewritten to what they are where none of them is stale
+rewritten-same : (p t is : List ℕ) → ((k : ℕ) → has k is ≡ true → stale p t k ≡ false) → rewritten p t is ≡ t
+unfolding rewritten stale
+rewritten-same p t [] h = refl
+rewritten-same p t (i ∷ is) h =
+    ap (λ (u : List ℕ). rewritten p u is) (ap (set t i) (sym fresh) ∙ set-getD t i 0)
+    ∙ rewritten-same p t is (λ k m. h k (has-tail k i is m))
+  where
+    fresh : getD t i 0 ≡ rejoined p t i
+    fresh = eqb-true (getD t i 0) (rejoined p t i) (not-false (eqb (getD t i 0) (rejoined p t i)) (h i (has-head i is)))
+
+none-changed : (p t : List ℕ) → changed p t t ≡ 0
+unfolding changed those
+none-changed p t = ap length (go (positions p))
+  where
+    go : (is : List ℕ) → those (λ i. not (eqb (getD t i 0) (getD t i 0))) is ≡ []
+    go [] = refl
+    go (i ∷ is) = rw (eq-eqb (getD t i 0) (getD t i 0) refl, those) (go is)
+
+module _ (D : ℕ) (p t : List ℕ) (line device : ℕ) (present : deviceAt p (askedAt line) ≡ device) where
+  same-plan : Rules p → isTakeOf p line ≡ true → edited p (askedAt line) device ≡ p
+  same-plan rules a = rw (← present) (edited-same p rules (askedAt line) (asked-take p line a))
+
+  -- where no test refuses, it changes nothing
+  pub same-device-stays : moveRefusal D p t line device ≡ none
+      → moving D p t line device ≡ record { answer = MoveAnswer.Changed 0; plan = p; sets = t }
+  unfolding moving moveBy
+  same-device-stays h =
+      let v = tests-passed D p t line device h in
+      let f = fresh (firstOf (stale p t) (way p i)) (v .2) (first-answer (stale p t) (way p i)) in
+      rw (
+        h,
+        same-plan (no-fault-exactly D p .0 (v .0) .rules) (v .1),
+        rewritten-same p t (way p i) f,
+        none-changed p t,
+      )
+    where
+      i : ℕ
+      i = askedAt line
+
+      fresh : (o : Option ℕ) → o ≡ none → Answer (stale p t) (way p i) o
+          → (k : ℕ) → has k (way p i) ≡ true → stale p t k ≡ false
+      fresh none e a = a
+      fresh (some k) e a = no-some (sym e)
+
+  -- and none does, from a plan without a fault and its own table, where the line is a take
+  pub same-device-passes : WellFormed D p → D ≤ 256 → take (length p) t ≡ table p → isTakeOf p line ≡ true
+      → moveRefusal D p t line device ≡ none
+  unfolding deviceAt
+  same-device-passes w small mine a = go (moveRefusal D p t line device) (test-view D p t line device w small mine)
+    where
+      taken : isTake (at p (askedAt line)) ≡ true
+      taken = asked-take p line a
+
+      onBoard : device < D
+      onBoard =
+          rw (← present)
+          (device-line D (at p (askedAt line)) (w .lines (askedAt line) (take-line p (askedAt line) taken))
+          (or-left (isTake (at p (askedAt line))) (isGive (at p (askedAt line))) taken))
+
+      go : (x : Option Refusal) → TestView D p line device x → x ≡ none
+      go none v = refl
+      go (some r) (refuses s (notATake b)) = clash (isTakeOf p line) a b
+      go (some r) (refuses s (noSuchDevice b h)) = absurd (omega (arith, onBoard))
+      go (some r) (refuses s (takeOfHeld q b c n h)) =
+          absurd (Option·none-ne-some q
+          (sym (no-fault-exactly D p .1 w) ∙ ap (fault D) (sym (same-plan (w .rules) a)) ∙ h))
+
 -- ---- a list of moves
-
--- what is asked for: a line, by its number, and a device
-pub record Ask : Type 0 where
-  pub line : ℕ
-  pub device : ℕ
-
--- plan and sets, as they are lent from move to move
-pub record Lent : Type 0 where
-  pub plan : List ℕ
-  pub sets : List ℕ
-
--- one move, from what is lent to what is lent next
-unfoldable pub moved : ℕ → Lent → Ask → Lent
-moved D s a =
-    let o : MoveOutcome = moving D (s .plan) (s .sets) (a .line) (a .device) in
-    record { plan = o .plan; sets = o .sets }
-
--- one move after the other
-unfoldable pub movedBy : ℕ → Lent → List Ask → Lent
-unfolding moved
-movedBy D s [] = s
-movedBy D s (a ∷ asks) = movedBy D (moved D s a) asks
 
 pub moved-last : (D : ℕ) (s : Lent) (asks : List Ask) (a : Ask)
     → movedBy D s (asks ++ (a ∷ [])) ≡ moved D (movedBy D s asks) a
 unfolding movedBy
 moved-last D s [] a = refl
 moved-last D s (b ∷ asks) a = moved-last D (moved D s b) asks a
-
--- What is lent now is right, going by what was lent first: the plan has no fault and as many lines, the sets are its
--- own table and then the rest of the first list, and what is asked next is refused and changes nothing, or is
--- accepted.
-pub record Kept (D : ℕ) (first s : Lent) : Type 0 where
-  pub noFault : fault D (s .plan) ≡ none
-  pub long : length (s .plan) ≡ length (first .plan)
-  pub afresh : s .sets ≡ table (s .plan) ++ drop (length (first .plan)) (first .sets)
-  pub next : (a : Ask)
-      → Step D (s .plan) (s .sets) (a .line) (a .device) (moving D (s .plan) (s .sets) (a .line) (a .device))
 
 module _ (D : ℕ) (small : D ≤ 256) where
   kept : (first s : Lent) → fault D (s .plan) ≡ none → length (s .plan) ≡ length (first .plan)

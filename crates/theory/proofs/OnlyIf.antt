@@ -1,36 +1,27 @@
 -- If some order is legal, no device has two lasting takes and no device leads back to itself. The argument: every
 -- take of a device stands at or before its lasting take, so along rows the places of lasting takes grow, and round a
 -- circle a place would come after itself.
-use Prim.Native.Nat.{ℕ, zero, suc, _+_, _<_, _≤_}
-use mathlib.Core.Bool.{Bool, true, false}
-use mathlib.Core.List.{List, [], _∷_, map}
-use mathlib.Core.Logic.{_⊎_, inl, inr, _≢_}
-use mathlib.Core.Path.{_≡_, refl, sym, _∙_, ap, subst}
+use Prim.Native.Nat.{ℕ, suc, _+_, _<_, _≤_}
+use mathlib.Core.Bool.{true}
+use mathlib.Core.List.{List}
+use mathlib.Core.Path.{_≡_, sym, _∙_, ap, subst}
 use native.Mathlib.Decide.{ℕ-discrete}
 use native.Mathlib.Omega.{arith}
-use lib.ListN.{length, getD, length-map, List·getD-eq-default}
-use Rattle.model.specs.Lists.{upFrom, positions, has}
-use Rattle.model.specs.Sets.{empty, member}
+use lib.ListN.{length, getD, length-map}
+use Rattle.model.specs.Lists.{upFrom, positions}
+use Rattle.model.specs.Sets.{member}
 use Rattle.model.specs.Mate.{takes, lasting}
 use Rattle.model.specs.Legal.{Legal}
 use Rattle.model.specs.Claims.{table, beyond}
 use Rattle.model.specs.Rows.{lastingTakes, rowOf, rows, Leads, once, more}
-use Rattle.theory.proofs.Tests.{clash, le-or-lt}
-use Rattle.theory.proofs.Lists.{has-position, position-has, has-those, those-has}
-use Rattle.theory.proofs.Sets.{member-empty, in-unionOf, unionOf-in}
+use Rattle.theory.specs.Verdict.{LastsTwice}
+use Rattle.theory.proofs.Lists.{position-has, has-those, those-has}
+use Rattle.theory.proofs.Sets.{in-unionOf, unionOf-in}
 use Rattle.theory.proofs.Claims.{Reach, here, step, claims-are-reached, in-beyond, takes-line, length-upFrom}
 use Rattle.theory.proofs.Claims.{getD-upFrom}
 use Rattle.theory.proofs.Successors.{successor-after}
 use Rattle.theory.proofs.Rows.{row-below}
 use Rattle.theory.proofs.Places.{place, stands-before, lasting-is-last, lasting-parts}
-
--- two lasting takes of a device
-pub record LastsTwice (p : List ℕ) (d : ℕ) : Type 0 where
-  pub i : ℕ
-  pub k : ℕ
-  pub apart : i ≢ k
-  pub i-lasts : lasting p i d ≡ true
-  pub k-lasts : lasting p k d ≡ true
 
 -- ---- members of a row
 

@@ -1,6 +1,6 @@
 -- In a legal order each line has one place. What has to come before a line stands before it, and every other take of
 -- a device stands before its lasting take.
-use Prim.Native.Nat.{ℕ, zero, suc, _+_, _<_, _≤_}
+use Prim.Native.Nat.{ℕ, suc, _<_, _≤_}
 use mathlib.Core.Bool.{Bool, true, false, not, _&&_}
 use mathlib.Core.List.{List, [], _∷_, _++_}
 use mathlib.Core.Logic.{_⊎_, inl, inr, _≢_}
@@ -9,11 +9,11 @@ use mathlib.Core.Path.{_≡_, refl, sym, _∙_, ap}
 use native.Mathlib.Omega.{arith}
 use lib.Dec.{eqb}
 use lib.ListN.{length}
-use borrow.Author.Tests.{eqb-true, eq-eqb, eqb-false, ne-eqb}
-use Rattle.model.specs.Lists.{any, has}
+use borrow.Author.Tests.{eqb-true, eqb-false}
+use Rattle.model.specs.Lists.{has}
 use Rattle.model.specs.Mate.{takes, mate, isNone, lasting}
 use Rattle.model.specs.Legal.{precedes, doneAt, givenBack, held, MayFollow, Follow, Legal}
-use Rattle.theory.proofs.Tests.{clash, test, and-split, and-both, le-or-lt}
+use Rattle.theory.proofs.Tests.{clash, and-split, and-both, le-or-lt}
 use Rattle.theory.proofs.Lists.{has-none, has-head, has-cases, has-left, has-right, has-append, any-at}
 use Rattle.theory.proofs.Claims.{takes-line}
 

@@ -24,16 +24,18 @@ use Rattle.model.specs.Entries.{textFault}
 use Rattle.model.specs.Printed.{orderWord, printedRefusal, printedOrder, printedBy, printed, screenRoom}
 use Rattle.model.specs.declared.Refusal.{Refusal}
 use Rattle.model.specs.declared.Refusal.the-variants.{TextTooLong}
+use Rattle.theory.specs.Verdict.{twice, back}
 use Rattle.theory.proofs.Tests.{or-split, or-left, or-right, le-or-lt}
 use Rattle.theory.proofs.Lists.{has-head, those-length, left, left-le, left-lt, left-zero, left-one}
 use Rattle.theory.proofs.Lists.{left-every, among}
+use Rattle.theory.proofs.Answers.{all-tests, also, first-each}
 use Rattle.theory.proofs.WellFormed.{BrokenAt, tooMany, malformed, outOfSequence, badStart, badGive, takeOfHeld}
 use Rattle.theory.proofs.WellFormed.{Broken, atLine, noLines, noStart, FaultView, broken, fault-view}
-use Rattle.theory.proofs.WellFormed.{no-fault-exactly}
+use Rattle.theory.proofs.WellFormed.{broken-number, no-fault-exactly}
 use Rattle.theory.proofs.Claims.{length-upFrom}
 use Rattle.theory.proofs.Successors.{first-is}
 use Rattle.theory.proofs.LineByLine.{more-old, more-new, has-other}
-use Rattle.theory.proofs.Verdict.{twice, back, OrderView, refused, order-view, accepted-is-legal}
+use Rattle.theory.proofs.Verdict.{OrderView, refused, order-view, accepted-is-legal}
 use Rattle.theory.proofs.Numbers.{digits-one, digits-two, digits-three, digits-four}
 use Rattle.theory.proofs.Text.{no-text-fault}
 
@@ -48,40 +50,37 @@ unfolding printedRefusal
 refusal-length r n p = rw three-fields (omega (arith, digits-two (numberOf r) n, digits-four (placeOf r) p))
 
 -- the faults of a plan are 2 to 8, at a line of at most 1,025
-pub broken-bounds : (D : ℕ) (p : List ℕ) (r : Refusal) → Broken D p r → (numberOf r ≤ 8) × (placeOf r ≤ suc maxLines)
+broken-place : (D : ℕ) (p : List ℕ) (r : Refusal) → Broken D p r → placeOf r ≤ suc maxLines
 unfolding lineNumber headD
-broken-bounds D p r (atLine k s b f h) = go s h
+broken-place D p r (atLine k s b f h) = go s h
   where
-    go : (s : Refusal) → BrokenAt D p k s → (numberOf s ≤ 8) × (placeOf s ≤ suc maxLines)
-    go s (tooMany h) = (omega arith, omega arith)
-    go s (malformed h a) = (omega arith, omega arith)
-    go s (outOfSequence h a b) = (omega arith, omega arith)
-    go s (badStart h a b c d) = (omega arith, omega arith)
-    go s (badGive h a b c d) = (omega arith, omega arith)
-    go s (takeOfHeld h a b c d) = (omega arith, omega arith)
-broken-bounds D p r (noLines i f b e low) = (omega arith, omega (arith, f i b .few))
-broken-bounds D p r (noStart j f g a b e low) = (omega arith, first (firstLine j p) (λ k h. first-is j p k h .0))
+    go : (s : Refusal) → BrokenAt D p k s → placeOf s ≤ suc maxLines
+    go s (tooMany h) = omega arith
+    go s (malformed h a) = omega arith
+    go s (outOfSequence h a b) = omega arith
+    go s (badStart h a b c d) = omega arith
+    go s (badGive h a b c d) = omega arith
+    go s (takeOfHeld h a b c d) = omega arith
+broken-place D p r (noLines i f b e low) = omega (arith, f i b .few)
+broken-place D p r (noStart j f g a b e low) = first (firstLine j p) (λ k h. first-is j p k h .0)
   where
     first : (ks : List ℕ) → ((k : ℕ) → has k ks ≡ true → k < length p) → lineNumber (headD ks 0) ≤ suc maxLines
     first [] h = omega arith
     first (k ∷ ks) h = omega (arith, f k (h k (has-head k ks)) .few)
+
+pub broken-bounds : (D : ℕ) (p : List ℕ) (r : Refusal) → Broken D p r → (numberOf r ≤ 8) × (placeOf r ≤ suc maxLines)
+broken-bounds D p r b = (broken-number D p r b, broken-place D p r b)
 
 -- a refusal, if there is one, is one of the first ten, at a place of at most 1,025
 abbrev pub Short : Option Refusal → Type 0
 Short none = Unit {0}
 Short (some r) = (numberOf r ≤ 10) × (placeOf r ≤ suc maxLines)
 
-first-short : (x y : Option Refusal) → Short x → Short y → Short (firstRefusal (x ∷ y ∷ []))
-unfolding firstRefusal
-first-short (some r) y h g = h
-first-short none (some r) h g = g
-first-short none none h g = tt
-
 pub fault-short : (D : ℕ) (text : List ℕ) → Short (textFault D text)
 unfolding textFault refuseIf
 fault-short D text =
-    first-short (refuseIf (ltb maxBytes (length text)) TextTooLong) (fault D p) (too-long (ltb maxBytes (length text)))
-    (of-plan (fault D p) (fault-view D p))
+    first-each Short (refuseIf (ltb maxBytes (length text)) TextTooLong ∷ fault D p ∷ []) tt
+    (also (too-long (ltb maxBytes (length text))) (also (of-plan (fault D p) (fault-view D p)) all-tests))
   where
     p : List ℕ
     p = spelt D text

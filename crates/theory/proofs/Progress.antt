@@ -3,11 +3,11 @@
 -- is reached from some standing line, so every standing device lies in the row of a standing device; and going back
 -- from row to row there would be more devices than there are.
 use Prim.Native.Nat.{ℕ, zero, suc, _+_, _<_, _≤_}
-use mathlib.Core.Bool.{Bool, true, false, not, _||_, _&&_}
+use mathlib.Core.Bool.{Bool, true, false, not, _&&_}
 use mathlib.Core.List.{List, [], _∷_}
 use mathlib.Core.Logic.{_⊎_, inl, inr, _≢_}
 use mathlib.Core.Option.{Option, none, some}
-use mathlib.Core.Path.{_≡_, refl, sym, _∙_, ap}
+use mathlib.Core.Path.{_≡_, refl, sym, _∙_}
 use native.Mathlib.Omega.{arith}
 use lib.Dec.{eqb}
 use lib.ListN.{length, getD}
@@ -21,14 +21,15 @@ use Rattle.model.specs.Legal.{precedes}
 use Rattle.model.specs.Claims.{table, beyond}
 use Rattle.model.specs.Rows.{rows, Leads, once, more}
 use Rattle.model.specs.Handed.{undone, standing, goingOn, alone, lastingNext}
-use Rattle.theory.proofs.Tests.{clash, test, or-left, and-split, and-both}
+use Rattle.theory.specs.Verdict.{LastsTwice}
+use Rattle.theory.proofs.Tests.{test, or-left, and-split, and-both}
 use Rattle.theory.proofs.Lists.{has-none, has-head, has-tail, has-cases, has-position, position-has, has-those}
 use Rattle.theory.proofs.Lists.{those-has}
-use Rattle.theory.proofs.Lists.{any-found, any-none, Answer, first-answer, Least, least-answer}
+use Rattle.theory.proofs.Lists.{any-found, Answer, first-answer, Least, least-answer}
 use Rattle.theory.proofs.Lists.{left, left-lt, left-none, among}
-use Rattle.theory.proofs.Claims.{Reach, here, step, takes-line, reached-claimed, beyond-in}
+use Rattle.theory.proofs.Claims.{Reach, here, step, reached-claimed, beyond-in}
 use Rattle.theory.proofs.Successors.{precedes-reaches}
-use Rattle.theory.proofs.OnlyIf.{LastsTwice, row-in}
+use Rattle.theory.proofs.OnlyIf.{row-in}
 use Rattle.theory.proofs.Places.{lasting-parts}
 use Rattle.theory.proofs.Line.{device-line}
 use Rattle.theory.proofs.WellFormed.{take-line}

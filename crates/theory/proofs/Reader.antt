@@ -146,10 +146,6 @@ module _ (D : ℕ) (text : List ℕ) (short : length text ≤ maxBytes) (n : ℕ
 abbrev pub FirstLines : ℕ → List ℕ → ℕ → Type 0
 FirstLines D text n = (i : ℕ) → i < n → isLine D (at (spelt D text) i) ≡ true
 
-lines-there : (D : ℕ) (text : List ℕ) (n : ℕ) → FirstLines D text n → n ≤ length (linesOf text)
-lines-there D text zero lines = omega arith
-lines-there D text (suc n) lines = line-there D text n (lines n (omega arith))
-
 pub cursor-past : (D : ℕ) (text : List ℕ) → length text ≤ maxBytes → (n : ℕ) → n ≤ maxLines → FirstLines D text n
     → cursorAt D text n ≡ past text n
 unfolding begin cursorAfter flatten
@@ -174,9 +170,6 @@ module _ (D : ℕ) (text : List ℕ) (short : length text ≤ maxBytes) (n : ℕ
     (lines : FirstLines D text n) where
   here : cursorAt D text n ≡ past text n
   here = cursor-past D text short n few lines
-
-  pub reader-rest : linesOf (drop (cursorAt D text n .offset) text) ≡ drop n (linesOf text)
-  reader-rest = rw here (rest-past text n (lines-there D text n lines))
 
   pub reader-line : n < maxLines → isLine D (at (spelt D text) n) ≡ true
       → nextLine D text (cursorAt D text n) ≡ LineAnswer.Line (at (spelt D text) n) (cursorAt D text (suc n))

@@ -1,11 +1,11 @@
 -- Leading back is decided by going at most as many steps as there are devices, for any rows: the test `leadsBack`
 -- passes exactly if the device leads to itself. A search for circles is proved against this. The sets of what is led
 -- to in more and more steps grow; each of them has a device more than the one before or is the last.
-use Prim.Native.Nat.{ℕ, zero, suc, _+_, _-_, _<_, _≤_}
+use Prim.Native.Nat.{ℕ, zero, suc, _+_, _<_, _≤_}
 use mathlib.Core.Bool.{Bool, true, false, cond, not, _&&_}
 use mathlib.Core.List.{List}
 use mathlib.Core.Logic.{_⊎_, inl, inr, _↔_}
-use mathlib.Core.Path.{_≡_, refl, sym, _∙_, ap}
+use mathlib.Core.Path.{_≡_, refl}
 use native.Mathlib.Omega.{arith}
 use lib.ListN.{length, getD, List·getD-eq-default}
 use borrow.Author.Tests.{not-true}
@@ -13,7 +13,7 @@ use Rattle.model.specs.Lists.{upFrom, any}
 use Rattle.model.specs.Sets.{empty, union, member}
 use Rattle.model.specs.Rows.{Leads, once, more, onward, ledTo, leadsBack}
 use Rattle.theory.proofs.Tests.{clash, test, and-split, and-both, le-or-lt}
-use Rattle.theory.proofs.Lists.{has-upFrom, upFrom-has, any-found, any-at, left, left-le, left-lt, left-none}
+use Rattle.theory.proofs.Lists.{has-upFrom, upFrom-has, any-found, any-at, left, left-lt, left-none}
 use Rattle.theory.proofs.Lists.{left-all}
 use Rattle.theory.proofs.Sets.{member-empty, in-union, in-left, in-right, in-unionOf, unionOf-in}
 

@@ -1,8 +1,8 @@
 -- Successors by positions. A line has to come before each of its successors; and, in a plan in which jobs follow on
 -- and starts name higher jobs, a line that has to come before another stands higher up and reaches it by successors.
 use Prim.Native.Nat.{ℕ, zero, suc, _+_, _-_, _<_, _≤_}
-use mathlib.Core.Bool.{Bool, true, false, cond, _||_, _&&_}
-use mathlib.Core.List.{List, [], _∷_, _++_, map}
+use mathlib.Core.Bool.{Bool, true, false, cond, _&&_}
+use mathlib.Core.List.{List, [], _∷_, map}
 use mathlib.Core.Logic.{_⊎_, inl, inr}
 use mathlib.Core.Path.{_≡_, refl, sym, _∙_, ap}
 use native.Mathlib.Omega.{arith}
@@ -15,7 +15,7 @@ use Rattle.model.specs.Line.{job, operand, isStart, starts, at, firstLine}
 use Rattle.model.specs.WellFormed.{Rules}
 use Rattle.model.specs.Legal.{precedes}
 use Rattle.model.specs.Claims.{successors}
-use Rattle.theory.proofs.Tests.{clash, test, or-split, or-left, or-right, and-split, and-both, le-or-lt}
+use Rattle.theory.proofs.Tests.{test, or-split, or-left, or-right, and-split, and-both, le-or-lt}
 use Rattle.theory.proofs.Lists.{has-none, has-head, has-cases, has-left, has-right, has-append, has-suc}
 use Rattle.theory.proofs.Lists.{suc-has}
 use Rattle.theory.proofs.Claims.{Reach, here, step}

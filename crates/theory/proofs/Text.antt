@@ -13,7 +13,7 @@ use lib.ListN.{length, length-append}
 use borrow.Author.Tests.{le-ltb, ltb-false}
 use Rattle.model.specs.Lists.{over}
 use Rattle.model.specs.Answers.{refuseIf, firstRefusal, tooShort}
-use Rattle.model.specs.Line.{isLine, at, maxLines, maxBytes}
+use Rattle.model.specs.Line.{isLine, at, maxBytes}
 use Rattle.model.specs.Text.{linesOf, packedLine, lineText, textOf, spelt}
 use Rattle.model.specs.WellFormed.{fault}
 use Rattle.model.specs.Entries.{textFault, readBy, reading, writeBy, writing}

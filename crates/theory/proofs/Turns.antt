@@ -12,16 +12,16 @@ use lib.Dec.{eqb}
 use lib.ListN.{length}
 use borrow.Author.Tests.{eqb-true, eqb-false}
 use Rattle.model.specs.Lists.{upFrom, has}
-use Rattle.model.specs.Line.{job, isTake, starts, at}
+use Rattle.model.specs.Line.{job, isTake, at}
 use Rattle.model.specs.Mate.{takesAt, deviceAt, takes, mate}
 use Rattle.model.specs.WellFormed.{Rules}
 use Rattle.model.specs.Legal.{precedes, doneAt, givenBack, held, MayFollow, Follow}
-use Rattle.model.specs.Handed.{lastOf, run}
-use Rattle.theory.proofs.Tests.{clash, no-some, test, and-split, and-left, and-right, le-or-lt}
+use Rattle.model.specs.Handed.{lastOf}
+use Rattle.theory.proofs.Tests.{clash, test, and-split, and-left, and-right, le-or-lt}
 use Rattle.theory.proofs.Lists.{has-none, has-head, has-cases, has-left, has-right, has-append, has-upFrom}
 use Rattle.theory.proofs.Lists.{upFrom-has, none-any}
 use Rattle.theory.proofs.Successors.{Why, sameJob, starter, why, earlier-precedes, start-precedes}
-use Rattle.theory.proofs.Mate.{Pair, pair, taken-again}
+use Rattle.theory.proofs.Mate.{pair, taken-again}
 
 pub taking : (p : List ℕ) (k d : ℕ) → takes p k d ≡ true → isTake (at p k) ≡ true
 unfolding takes

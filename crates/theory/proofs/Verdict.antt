@@ -1,39 +1,36 @@
 -- The existence theorem. A plan without a fault has a legal order exactly if the verdict refuses it neither by 9 nor
 -- by 10, and then the order handed out is legal; 9 and 10 come with the lowest such device. After the last step of a
 -- legal order the devices held are exactly those with a lasting take.
-use Prim.Native.Nat.{ℕ, zero, suc, _+_, _<_, _≤_}
+use Prim.Native.Nat.{ℕ, zero, suc, _<_, _≤_}
 use mathlib.Core.Bool.{Bool, true, false, not, _&&_}
-use mathlib.Core.List.{List, [], _∷_, map}
+use mathlib.Core.List.{List, [], _∷_}
 use mathlib.Core.Logic.{_⊎_, inl, inr, _≢_, _↔_}
 use mathlib.Core.Option.{Option, none, some, Option·none-ne-some, Option·some-injective}
 use mathlib.Core.Path.{_≡_, refl, sym, _∙_, ap, subst}
 use native.Mathlib.Omega.{arith}
-use lib.Dec.{eqb, leb}
+use lib.Dec.{leb}
 use lib.ListN.{length}
-use borrow.Author.Tests.{leb-true, le-leb, le-ltb, not-true}
-use Rattle.model.specs.Lists.{upFrom, positions, any, has, those, firstOf, over}
-use Rattle.model.specs.Answers.{refuseIf, refuseAt, firstRefusal, tooShort}
-use Rattle.model.specs.Line.{lineNumber}
+use borrow.Author.Tests.{leb-true, le-leb, not-true}
+use Rattle.model.specs.Lists.{upFrom, positions, any, has, those, firstOf}
+use Rattle.model.specs.Answers.{refuseAt, firstRefusal}
 use Rattle.model.specs.Mate.{takes, mate, isNone, lasting}
 use Rattle.model.specs.WellFormed.{WellFormed, fault}
 use Rattle.model.specs.Legal.{givenBack, held, Legal}
 use Rattle.model.specs.Rows.{lastingTakes, rows, Leads, leadsBack}
 use Rattle.model.specs.Handed.{handed}
 use Rattle.model.specs.Verdict.{twoLasting, circle, noOrder, heldAtEnd}
-use Rattle.model.specs.Entries.{VerdictOutcome, verdictBy, judging}
-use Rattle.model.specs.declared.VerdictAnswer.{VerdictAnswer}
 use Rattle.model.specs.declared.Refusal.{Refusal}
 use Rattle.model.specs.declared.Refusal.the-variants.{TwoLasting, LeadsBack}
+use Rattle.theory.specs.Verdict.{LastsTwice, NoOrder, twice, back}
 use Rattle.theory.proofs.Tests.{clash, test, and-split, and-both}
 use Rattle.theory.proofs.Lists.{has-none, has-head, has-tail, has-cases, has-upFrom, upFrom-has, position-has}
 use Rattle.theory.proofs.Lists.{has-those}
 use Rattle.theory.proofs.Lists.{those-has, those-same, any-found, any-at, Answer, first-answer, first-lowest}
-use Rattle.theory.proofs.Lists.{first-is-lowest}
 use Rattle.theory.proofs.Claims.{takes-line}
 use Rattle.theory.proofs.WellFormed.{no-fault-exactly}
 use Rattle.theory.proofs.Mate.{pair}
 use Rattle.theory.proofs.Places.{lasting-parts, still-held}
-use Rattle.theory.proofs.OnlyIf.{LastsTwice, length-rows, legal-excludes}
+use Rattle.theory.proofs.OnlyIf.{length-rows, legal-excludes}
 use Rattle.theory.proofs.Turns.{given-back}
 use Rattle.theory.proofs.Progress.{device-below}
 use Rattle.theory.proofs.Handed.{handed-is-legal}
@@ -103,12 +100,6 @@ lasts-twice-exactly p d =
         (listed (t .k) (t .k-lasts)))
 
 -- ---- the verdict's refusals
-
--- why there is no order, and the lowest device for which
-pub data NoOrder (D : ℕ) (p : List ℕ) : Refusal → Type 0 where
-  twice : (d : ℕ) → d < D → LastsTwice p d → ((e : ℕ) → e < d → LastsTwice p e → ⊥) → NoOrder D p (TwoLasting d)
-  back : (d : ℕ) → ((e : ℕ) → e < D → LastsTwice p e → ⊥) → d < D → Leads (rows D p) d d
-      → ((e : ℕ) → e < d → Leads (rows D p) e e → ⊥) → NoOrder D p (LeadsBack d)
 
 pub data OrderView (D : ℕ) (p : List ℕ) : Option Refusal → Type 0 where
   accepted : ((e : ℕ) → e < D → LastsTwice p e → ⊥) → ((e : ℕ) → e < D → Leads (rows D p) e e → ⊥) → OrderView D p none
@@ -242,34 +233,3 @@ module _ (D : ℕ) (p : List ℕ) (sound : fault D p ≡ none) where
       to : (o : List ℕ) × Legal p o → (x : Option Refusal) → noOrder D p ≡ x → noOrder D p ≡ none
       to l none e = e
       to l (some r) e = absurd (no-legal-order D p r (refused-exactly r e) (l .0) (l .1))
-
-  -- and so for the verdict's outcome, given room: an order exactly if a legal one exists
-  pub verdict-exactly : (lent : List ℕ) → length p ≤ length lent
-      → ((o : List ℕ) × Legal p o)
-      ↔ (judging D p lent ≡ record {
-        answer = VerdictAnswer.Held (heldAtEnd D p);
-        order =
-            over (map lineNumber (handed p)) lent;
-      })
-  unfolding judging firstRefusal tooShort refuseIf verdictBy
-  verdict-exactly lent room = (λ l. opened ∙ rw (legal-order-exactly .0 l), from)
-    where
-      opened : judging D p lent
-          ≡ verdictBy (firstRefusal (none ∷ none ∷ noOrder D p ∷ [])) (heldAtEnd D p) (map lineNumber (handed p)) lent
-      opened = rw (sound, le-ltb (length lent) (length p) room)
-
-      by : (x : Option Refusal) → noOrder D p ≡ x
-          → verdictBy (firstRefusal (none ∷ none ∷ x ∷ [])) (heldAtEnd D p) (map lineNumber (handed p)) lent
-          ≡ record { answer = VerdictAnswer.Held (heldAtEnd D p); order = over (map lineNumber (handed p)) lent }
-          → noOrder D p ≡ none
-      by none e h = e
-      by (some r) e h =
-          let z : VerdictAnswer.Refused r ≡ VerdictAnswer.Held (heldAtEnd D p) =
-          ap (λ (o : VerdictOutcome). o .answer) h in
-          let y : _≡_ {A = ℕ} 0 1 = cc in
-          absurd (omega arith)
-
-      from : judging D p lent
-          ≡ record { answer = VerdictAnswer.Held (heldAtEnd D p); order = over (map lineNumber (handed p)) lent }
-          → (o : List ℕ) × Legal p o
-      from h = legal-order-exactly .1 (by (noOrder D p) refl (sym opened ∙ h))

@@ -3,17 +3,17 @@
 -- order.
 use Prim.Native.Nat.{ℕ, zero, suc, _+_, _<_, _≤_}
 use mathlib.Core.Bool.{Bool, true, false, not, _&&_, _||_}
-use mathlib.Core.List.{List, [], _∷_, _++_, headD, map}
+use mathlib.Core.List.{List, [], _∷_, headD}
 use mathlib.Core.Logic.{_⊎_, inl, inr, _≢_, _↔_}
 use mathlib.Core.Option.{Option, none, some, Option·some-injective, Option·none-ne-some}
 use mathlib.Core.Path.{_≡_, refl, sym, _∙_, ap, subst}
 use native.Mathlib.Omega.{arith}
 use lib.Dec.{eqb, leb}
 use lib.ListN.{length, drop, drop-of-length-le}
-use lib.Seq.{drop-cons, drop-length}
+use lib.Seq.{drop-cons}
 use borrow.Author.Tests.{eqb-true, eq-eqb, eqb-false, ne-eqb, leb-true, leb-false, le-leb, lt-leb, not-true, not-false}
 use Rattle.model.specs.Lists.{upFrom, positions, any, has, firstOf}
-use Rattle.model.specs.Answers.{refuseIf, refuseAt, firstRefusal}
+use Rattle.model.specs.Answers.{numberOf, refuseIf, refuseAt, firstRefusal}
 use Rattle.model.specs.Line.{job, operand, isTake, isGive, isStart, starts, isLine, at, lineNumber, hasLines}
 use Rattle.model.specs.Line.{firstLine}
 use Rattle.model.specs.Line.{maxLines, maxJob}
@@ -22,8 +22,8 @@ use Rattle.model.specs.WellFormed.{emptyStart, neverStarted, fault}
 use Rattle.model.specs.declared.Refusal.{Refusal}
 use Rattle.model.specs.declared.Refusal.the-variants.{Malformed, TooManyLines, JobOutOfSequence, BadStart}
 use Rattle.model.specs.declared.Refusal.the-variants.{NeverStarted, GiveWithoutTake, TakeOfHeld}
-use Rattle.theory.proofs.Tests.{clash, test, or-split, or-left, or-right, or-neither, and-split, and-both}
-use Rattle.theory.proofs.Tests.{and-left, and-right, and-second, le-or-lt}
+use Rattle.theory.proofs.Tests.{clash, test, or-split, or-left, or-right, and-split, and-both}
+use Rattle.theory.proofs.Tests.{and-second, le-or-lt}
 use Rattle.theory.proofs.Line.{inside, start-parts, start-of, give-no-start, take-no-start, take-no-give}
 use Rattle.theory.proofs.Line.{line-parts}
 use Rattle.theory.proofs.Lists.{Answer, first-answer, first-lowest, upFrom-has, has-upFrom}
@@ -438,6 +438,20 @@ fault-exactly D p r = (λ e. to (fault D p) e (fault-view D p), λ b. from b (fa
     from : Broken D p r → (x : Option Refusal) → fault D p ≡ x → FaultView D p x → fault D p ≡ some r
     from b none e (sound s) = absurd (sound-unbroken D p r s b)
     from b (some q) e (broken t h) = e ∙ ap {B = Option Refusal} some (one-broken D p q r h b)
+
+-- the faults are none but 2 to 8
+pub broken-number : (D : ℕ) (p : List ℕ) (r : Refusal) → Broken D p r → numberOf r ≤ 8
+broken-number D p r (atLine k s b f h) = go s h
+  where
+    go : (s : Refusal) → BrokenAt D p k s → numberOf s ≤ 8
+    go s (tooMany h) = omega arith
+    go s (malformed h a) = omega arith
+    go s (outOfSequence h a b) = omega arith
+    go s (badStart h a b c d) = omega arith
+    go s (badGive h a b c d) = omega arith
+    go s (takeOfHeld h a b c d) = omega arith
+broken-number D p r (noLines i f b e low) = omega arith
+broken-number D p r (noStart j f g a b e low) = omega arith
 
 -- ---- no fault exactly if well-formed
 

@@ -1,7 +1,6 @@
 -- What the verdict is told of a plan, as the definitions say it: 9 and 10 by sets of devices, the lists that the order
 -- is made from, and how many devices stay held.
 use Prim.Native.Nat.{ℕ, suc, _<_, _≤_}
-use mathlib.Core.Bool.{cond}
 use mathlib.Core.List.{List, [], _∷_}
 use mathlib.Core.Option.{Option, none, some, Option·getD}
 use mathlib.Core.Path.{_≡_, refl, sym, _∙_, ap, subst}
@@ -14,7 +13,6 @@ use Rattle.model.specs.Answers.{refuseAt, firstRefusal}
 use Rattle.model.specs.Line.{lineNumber, firstLine, maxJob}
 use Rattle.model.specs.Rows.{leadsBack, rows, lastingTakes}
 use Rattle.model.specs.WellFormed.{fault}
-use Rattle.model.specs.Handed.{handed}
 use Rattle.model.specs.Verdict.{noOrder, twoLasting, circle, heldAtEnd}
 use Rattle.model.specs.Board.{devices}
 use Rattle.model.specs.declared.Refusal.{Refusal}
@@ -27,14 +25,14 @@ use Rattle.plan.specs.Checked.{checked}
 use Rattle.plan.specs.Jobs.{firstLines, numberOfFirst}
 use Rattle.plan.specs.declared.Checked.{Checked}
 use Rattle.plan.specs.Ends.{leftBy}
-use Rattle.rows.specs.Lasting.{lastingFlag, lastingFlags, heldToEnd, heldTwice}
+use Rattle.rows.specs.Lasting.{lastingFlag, lastingFlags, heldTwice}
 use Rattle.rows.specs.Where.{circlesOf}
 use Rattle.rows.specs.Holds.{HoldsAs, holdsBy, rowsOf}
 use Rattle.rows.specs.declared.HoldsAnswer.{HoldsAnswer}
 use Rattle.rows.proofs.Filled.{entry-of}
 use Rattle.rows.proofs.Wanted.{flag-at}
 use Rattle.rows.proofs.Searched.{circles-first, twice-first, held-those}
-use Rattle.verdict.specs.Waiting.{Marked, Told}
+use Rattle.verdict.specs.Waiting.{Told}
 use Rattle.verdict.specs.Findings.{Findings, lowestIn, barred}
 
 -- ---- the lowest device of a set, by the number that stands for it

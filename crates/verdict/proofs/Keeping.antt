@@ -1,7 +1,8 @@
--- What the code keeps from line to line. The place that goes next has the line that (a), otherwise (b), chooses; after
--- it is done, the places, the counts and the sets tell of one line more. So line by line the order handed out is that
--- of the definitions.
-use Prim.Native.Nat.{ℕ, zero, suc, _+_, _-_, _<_, _≤_}
+-- What the code keeps from line to line. A job that goes on is the lowest that can, so its next line is the one that
+-- (a) chooses; where none does, the foremost place has the line that (a), otherwise (b), chooses. After it is done, the
+-- places, the counts and the sets tell of one line more. So line by line the order handed out is that of the
+-- definitions.
+use Prim.Native.Nat.{ℕ, suc, _+_, _-_, _<_, _≤_}
 use mathlib.Core.Bool.{Bool, true, false, cond, not, _&&_}
 use mathlib.Core.List.{List, [], _∷_, _++_, map, append-nil, append-assoc}
 use mathlib.Core.Logic.{_⊎_, inl, inr, _≢_}
@@ -26,31 +27,58 @@ use Rattle.theory.proofs.Tests.{clash, test, and-split, and-both, le-or-lt}
 use Rattle.theory.proofs.Lists.{has-none, has-those, those-has, Answer, first-answer, Least, least-answer, left}
 use Rattle.theory.proofs.Lists.{left-zero, left-one, left-every, among}
 use Rattle.theory.proofs.Sets.{member-empty}
-use Rattle.theory.proofs.OnlyIf.{LastsTwice}
+use Rattle.theory.specs.Verdict.{LastsTwice}
 use Rattle.theory.proofs.Successors.{earlier-precedes, jobs-grow}
-use Rattle.theory.proofs.Progress.{undone-has, never-stuck}
+use Rattle.theory.proofs.Progress.{undone-has, Picked, stuck, goes, picked, never-stuck}
 use Rattle.theory.proofs.LineByLine.{chosen, linesAfter, lines-step, Stands, stands-has, has-stands, LowestIs, goes-on}
 use Rattle.theory.proofs.LineByLine.{more-new, has-other, handed-line-by-line}
 use Rattle.verdict.specs.declared.waiting.Waiting.{Waiting}
-use Rattle.verdict.specs.Waiting.{allPlaces, placeOf, waits, vacated, taking, placing, foremost, opening}
-use Rattle.verdict.specs.Waiting.{nextLine, startedLine, tallied, scarceBelow, counted, settled, idle}
+use Rattle.verdict.specs.declared.order.Choice.{Choice}
+use Rattle.verdict.specs.Waiting.{allPlaces, placeAt, waits, taking, placing, foremost, goesOn, lastingAfter}
+use Rattle.verdict.specs.Waiting.{startedLine, tallied, scarceBelow, counted, settled, choosing}
 use Rattle.verdict.proofs.Words.{Foremost, ofJob, ofDevice, ofNone, the-foremost}
 use Rattle.verdict.proofs.Counts.{alone-wanted, Counted, none-counted, one-counted}
 use Rattle.verdict.proofs.Places.{Shows, shows-same, come, goes-off, scarce-vacated, scarce-taking}
 use Rattle.verdict.proofs.Places.{shows-settled}
-use Rattle.verdict.proofs.Standing.{Closed, closed-on, job-fits, first-stands, stands-first, place-below, apart}
-use Rattle.verdict.proofs.Standing.{place-lasting, place-job, lasting-below, stayed-stands, next-stands}
-use Rattle.verdict.proofs.Standing.{started-stands, who-stands}
+use Rattle.verdict.proofs.Standing.{Closed, closed-on, Beside, job-fits, first-stands, stands-first, goes-at}
+use Rattle.verdict.proofs.Standing.{place-below, apart, place-lasting, place-job, lasting-below, stayed-stands}
+use Rattle.verdict.proofs.Standing.{next-stands, started-stands, lasting-stands, lower-still, beside-placed}
+use Rattle.verdict.proofs.Standing.{placed-beside}
 
 lasting-take : (p : List ℕ) (i : ℕ) → lastingAt p i ≡ true → takesAt p i ≡ true
 unfolding lastingAt
 lasting-take p i h = and-split (takesAt p i) (isNone (mate p i)) h .0
 
+-- no line waits
+unfoldable pub idle : ℕ → Waiting
+unfolding empty
+idle scarce = record { ready = empty; standing = empty; scarce = scarce }
+
+-- line i goes next: it stands next, (a), otherwise (b), chooses it, and no line above it can go on
+pub record Going (p done : List ℕ) (i : ℕ) : Type 0 where
+  pub stands : Stands p done i
+  pub choice : chosen p (undone p done) ≡ some i
+  pub low : LowestIs p done i
+
+-- a line goes next and all others that stand next wait at their places
+pub record Chooses (p done places : List ℕ) (scarce : ℕ) (c : Choice) : Type 0 where
+  pub going : Going p done (c .line)
+  pub beside : Shows p (λ i. Stands p done i × (i ≢ c .line)) places (c .others)
+  pub scarce-kept : c .others .scarce ≡ scarce
+
+-- the line at a place goes next
+record GoesNext (p done places : List ℕ) (s : ℕ) : Type 0 where
+  place : s < allPlaces
+  going : Going p done (getD places s 0)
+  its : placeAt p (getD places s 0) ≡ s
+
 module _ (p : List ℕ) (w : WellFormed devices p) (no-two : (d : ℕ) → LastsTwice p d → ⊥)
     (no-circle : (d : ℕ) → Leads (rows devices p) d d → ⊥) where
-  pub record Keeps (done places counts : List ℕ) (wa : Waiting) : Type 0 where
+  -- with line i going next if a job goes on
+  pub record Keeps (done places counts : List ℕ) (wa : Waiting) (on : Bool) (i : ℕ) : Type 0 where
     pub closed : Closed p done
-    pub shows : Shows p (Stands p done) places wa
+    pub going : on ≡ true → length done < length p → Going p done i
+    pub shows : Shows p (Beside p done on i) places wa
     pub counts-all : Counted p w done counts (wa .scarce)
     pub rest : left (among done) (length p) + length done ≡ length p
     pub order : done ++ linesAfter (length p - length done) p done ≡ handed p
@@ -65,17 +93,31 @@ module _ (p : List ℕ) (w : WellFormed devices p) (no-two : (d : ℕ) → Lasts
       go true = member-empty s
       go false = member-empty (s - maxJob)
 
-  pub keeps-first : Keeps [] (placing p (replicate allPlaces 0) (opening p)) (tallied p (length p))
-      (taking p (idle (scarceBelow (tallied p (length p)) devices)) (opening p))
+  -- line 1 alone stands next, so it is the one chosen
+  first-goes : 0 < length p → Going p [] 0
+  unfolding chosen has
+  first-goes h = record {
+    stands = first-stands p w h;
+    choice = go (orElse (goingOn p (undone p [])) (lastingNext p (undone p []))) (picked p (undone p []));
+    low = λ k s l. omega arith;
+  }
+    where
+      go : (o : Option ℕ) → Picked p (undone p []) o → o ≡ some 0
+      go none (stuck f) = absurd (never-stuck devices p w no-two no-circle [] f 0 (undone-has p [] 0 h refl))
+      go (some i) (goes j s c) = ap {B = Option ℕ} some (stands-first p w i (has-stands p [] i s))
+
+  pub keeps-first : Keeps [] (replicate allPlaces 0) (tallied p (length p))
+      (idle (scarceBelow (tallied p (length p)) devices)) true 0
   unfolding idle
   keeps-first = record {
     closed = λ k i l h b. has-none i h;
-    shows = shows-same p (λ i. ⊥ ⊎ (has i (opening p) ≡ true)) (Stands p [])
-        (placing p (replicate allPlaces 0) (opening p)) (taking p start (opening p))
-        (come p (Stands p []) (λ i s. place-below p w i (s .line)) (apart p w no-two []) (opening p) (λ i. ⊥)
-        (replicate allPlaces 0) start (λ i e. absurd e) (first-stands p w) nobody) (λ i s. inr (stands-first p w i s))
-        (λ i s. only i s);
-    counts-all = rw (scarce-taking p start (opening p)) (none-counted p w);
+    going = λ e h. first-goes h;
+    shows = record {
+      long = refl;
+      there = λ i s. absurd (s .1 refl (stands-first p w i (s .0)));
+      only = λ s l e. clash (waits start s) e (none-waits (scarceBelow (tallied p (length p)) devices) s);
+    };
+    counts-all = none-counted p w;
     rest = omega (arith, left-every (length p));
     order = (let z : length p - 0 ≡ length p = omega arith in rw z (sym (handed-line-by-line p (w .rules))));
   }
@@ -83,27 +125,11 @@ module _ (p : List ℕ) (w : WellFormed devices p) (no-two : (d : ℕ) → Lasts
       start : Waiting
       start = idle (scarceBelow (tallied p (length p)) devices)
 
-      nobody : Shows p (λ i. ⊥) (replicate allPlaces 0) start
-      nobody = record {
-        long = refl;
-        there = λ i e. absurd e;
-        only = λ s l e. clash (waits start s) e (none-waits (scarceBelow (tallied p (length p)) devices) s);
-      }
+  -- ---- the place that goes next, where no job goes on
 
-      only : (i : ℕ) → ⊥ ⊎ (has i (opening p) ≡ true) → Stands p [] i
-      only i (inl e) = absurd e
-      only i (inr h) = first-stands p w i h
-
-  -- ---- the place that goes next
-
-  -- has a line, which stands next and is the one chosen
-  pub record GoesNext (done places : List ℕ) (s : ℕ) : Type 0 where
-    pub place : s < allPlaces
-    pub stands : Stands p done (getD places s 0)
-    pub its : placeOf p (getD places s 0) ≡ s
-    pub choice : chosen p (undone p done) ≡ some (getD places s 0)
-
-  module _ (done places counts : List ℕ) (wa : Waiting) (k : Keeps done places counts wa) where
+  module _ (done places counts : List ℕ) (wa : Waiting) (shows : Shows p (Stands p done) places wa)
+      (counts-all : Counted p w done counts (wa .scarce))
+      (rest : left (among done) (length p) + length done ≡ length p) where
     abbrev u : List ℕ
     u = undone p done
 
@@ -111,34 +137,34 @@ module _ (p : List ℕ) (w : WellFormed devices p) (no-two : (d : ℕ) → Lasts
     record At (s : ℕ) : Type 0 where
       line : ℕ
       stands : Stands p done line
-      its : placeOf p line ≡ s
+      its : placeAt p line ≡ s
       listed : getD places s 0 ≡ line
 
     at-place : (s : ℕ) → s < allPlaces → waits wa s ≡ true → At s
     at-place s l e =
-        let r = k .shows .only s l e in record {
+        let r = shows .only s l e in record {
           line = r .0;
           stands = r .1;
           its = r .2;
-          listed = ap (λ (n : ℕ). getD places n 0) (sym (r .2)) ∙ k .shows .there (r .0) (r .1) .1;
+          listed = ap (λ (n : ℕ). getD places n 0) (sym (r .2)) ∙ shows .there (r .0) (r .1) .1;
         }
 
-    goes-next : (s : ℕ) → s < allPlaces → (a : At s) → chosen p u ≡ some (a .line) → GoesNext done places s
-    goes-next s l a c = record {
+    goes-next : (s : ℕ) → s < allPlaces → (a : At s) → chosen p u ≡ some (a .line) → LowestIs p done (a .line)
+        → GoesNext p done places s
+    goes-next s l a c low = record {
       place = l;
-      stands = rw (a .listed) (a .stands);
+      going = rw (a .listed) (record { stands = a .stands; choice = c; low = low });
       its = rw (a .listed) (a .its);
-      choice = rw (a .listed) c;
     }
 
-    job-place : (i : ℕ) → Stands p done i → lastingAt p i ≡ false → placeOf p i < maxJob
+    job-place : (i : ℕ) → Stands p done i → lastingAt p i ≡ false → placeAt p i < maxJob
     job-place i s e =
         omega (arith, place-job p w i e, job-fits p w i (s .line) .0, job-fits p w i (s .line) .1)
 
     -- (a): the lowest job that can go on
     by-job : (s : ℕ) → s < maxJob → ((n : ℕ) → n < s → waits wa n ≡ false) → (a : At s)
-        → goingOn p u ≡ some (a .line)
-    by-job s l low a = goes-on p done i (a .stands) (not-lasting (test (lastingAt p i))) lowest
+        → (goingOn p u ≡ some (a .line)) × LowestIs p done (a .line)
+    by-job s l low a = (goes-on p done i (a .stands) (not-lasting (test (lastingAt p i))) lowest, lowest)
       where
         i : ℕ
         i = a .line
@@ -148,11 +174,11 @@ module _ (p : List ℕ) (w : WellFormed devices p) (no-two : (d : ℕ) → Lasts
         not-lasting (inr e) = e
 
         lowest : LowestIs p done i
-        lowest n t e = go (le-or-lt i n) (le-or-lt s (placeOf p n))
+        lowest n t e = go (le-or-lt i n) (le-or-lt s (placeAt p n))
           where
-            go : (i ≤ n) ⊎ (n < i) → (s ≤ placeOf p n) ⊎ (placeOf p n < s) → i ≤ n
+            go : (i ≤ n) ⊎ (n < i) → (s ≤ placeAt p n) ⊎ (placeAt p n < s) → i ≤ n
             go (inl h) b = h
-            go (inr h) (inr b) = clash (waits wa (placeOf p n)) (k .shows .there n t .0) (low (placeOf p n) b)
+            go (inr h) (inr b) = clash (waits wa (placeAt p n)) (shows .there n t .0) (low (placeAt p n) b)
             go (inr h) (inl b) =
                 clash (precedes p n i)
                 (earlier-precedes p n i h
@@ -176,7 +202,7 @@ module _ (p : List ℕ) (w : WellFormed devices p) (no-two : (d : ℕ) → Lasts
           go : (lastingAt p i ≡ true) ⊎ (lastingAt p i ≡ false) → lastingAt p i ≡ true
           go (inl e) = e
           go (inr e) =
-              clash (waits wa (placeOf p i)) (k .shows .there i s .0) (jobless (placeOf p i) (job-place i s e))
+              clash (waits wa (placeAt p i)) (shows .there i s .0) (jobless (placeAt p i) (job-place i s e))
 
       none-goes-on : goingOn p u ≡ none
       unfolding goingOn
@@ -193,10 +219,10 @@ module _ (p : List ℕ) (w : WellFormed devices p) (no-two : (d : ℕ) → Lasts
       alone-scarce : (i : ℕ) → Stands p done i → alone p u i ≡ member (wa .scarce) (deviceAt p i)
       alone-scarce i s =
           alone-wanted p done i (s .line) (s .waiting) (lasting-take p i (all-last i s))
-          ∙ sym (k .counts-all .scarce-are (deviceAt p i) (lasting-below p w i (all-last i s)))
+          ∙ sym (counts-all .scarce-are (deviceAt p i) (lasting-below p w i (all-last i s)))
 
       waits-at : (i : ℕ) → Stands p done i → waits wa (maxJob + deviceAt p i) ≡ true
-      waits-at i s = rw (place-lasting p w i (all-last i s)) at (k .shows .there i s .0)
+      waits-at i s = rw (place-lasting p w i (all-last i s)) at (shows .there i s .0)
 
       -- (b): the lowest device of a lasting take that nobody else still wants
       by-device : (d : ℕ) → d < devices → member (wa .scarce) d ≡ true
@@ -244,25 +270,27 @@ module _ (p : List ℕ) (w : WellFormed devices p) (no-two : (d : ℕ) → Lasts
                   (low (deviceAt p n) b (waits-at n t))
 
     -- The place is that of the line chosen, while a line is undone.
-    pub foremost-next : length done < length p → GoesNext done places (foremost wa)
+    foremost-next : length done < length p → GoesNext p done places (foremost wa)
     unfolding chosen orElse
     foremost-next more = go (foremost wa) (the-foremost wa)
       where
-        go : (s : ℕ) → Foremost wa s → GoesNext done places s
+        go : (s : ℕ) → Foremost wa s → GoesNext p done places s
         go s (ofJob t l e low) =
             let h : s < allPlaces = omega (arith, l) in
             let a = at-place s h e in
-            goes-next s h a (ap (λ (o : Option ℕ). orElse o (lastingNext p u)) (by-job s l low a))
+            let b = by-job s l low a in
+            goes-next s h a (ap (λ (o : Option ℕ). orElse o (lastingNext p u)) (b .0)) (b .1)
         go s (ofDevice jobless d l e sc low) =
             let h : maxJob + d < allPlaces = omega (arith, l) in
             let a = at-place (maxJob + d) h e in
             goes-next (maxJob + d) h a
             (ap (λ (o : Option ℕ). orElse o (lastingNext p u)) (none-goes-on jobless) ∙ by-device jobless d l sc low a)
+            (λ n t q. clash (lastingAt p n) (all-last jobless n t) q)
         go s (ofNone jobless f) =
-            absurd (omega (arith, more, k .rest, nothing-left))
+            absurd (omega (arith, more, rest, nothing-left))
           where
-            stuck : (i : ℕ) → has i (standing p u) ≡ true → (lastingAt p i ≡ true) × (alone p u i ≡ false)
-            stuck i h =
+            none-goes : (i : ℕ) → has i (standing p u) ≡ true → (lastingAt p i ≡ true) × (alone p u i ≡ false)
+            none-goes i h =
                 let t = has-stands p done i h in (
                   all-last jobless i t,
                   alone-scarce jobless i t
@@ -272,42 +300,82 @@ module _ (p : List ℕ) (w : WellFormed devices p) (no-two : (d : ℕ) → Lasts
             all : (n : ℕ) → n < length p → (has n done ≡ true) ⊎ (has n done ≡ false) → has n done ≡ true
             all n h (inl e) = e
             all n h (inr e) =
-                absurd (never-stuck devices p w no-two no-circle done stuck n (undone-has p done n h e))
+                absurd (never-stuck devices p w no-two no-circle done none-goes n (undone-has p done n h e))
 
             nothing-left : left (among done) (length p) ≤ 0
             nothing-left = left-zero (among done) (length p) (λ n h. all n h (test (has n done)))
 
-    -- ---- a line is done
+  -- ---- the choice
 
-    pub keeps-on : (s : ℕ) → GoesNext done places s → length done < length p
-        → Keeps (done ++ (getD places s 0 ∷ []))
-        (placing p (placing p places (nextLine p (getD places s 0))) (startedLine p (getD places s 0)))
-        (counted p counts (getD places s 0))
-        (taking p (taking p (settled p counts (vacated wa s) (getD places s 0)) (nextLine p (getD places s 0)))
-        (startedLine p (getD places s 0)))
-    keeps-on s g more = record {
+  module _ (done places counts : List ℕ) (wa : Waiting) (i : ℕ) (k : Keeps done places counts wa false i)
+      (more : length done < length p) where
+    all-wait : Shows p (Stands p done) places wa
+    all-wait =
+        shows-same p (Beside p done false i) (Stands p done) places wa (k .shows)
+        (λ n t. (t, λ e. clash false e refl)) (λ n t. t .0)
+
+    foremost-goes : GoesNext p done places (foremost wa)
+    foremost-goes = foremost-next done places counts wa all-wait (k .counts-all) (k .rest) more
+
+  pub keeps-place : (done places counts : List ℕ) (wa : Waiting) (on : Bool) (i : ℕ)
+      → Keeps done places counts wa on i → length done < length p → on ≡ false → foremost wa < allPlaces
+  keeps-place done places counts wa true i k more e = clash true refl e
+  keeps-place done places counts wa false i k more e = foremost-goes done places counts wa i k more .place
+
+  pub keeps-choice : (done places counts : List ℕ) (wa : Waiting) (on : Bool) (i : ℕ)
+      → Keeps done places counts wa on i → length done < length p
+      → Chooses p done places (wa .scarce) (choosing places wa on i)
+  unfolding choosing
+  keeps-choice done places counts wa true i k more = record {
+    going = k .going refl more;
+    beside = shows-same p (Beside p done true i) (λ n. Stands p done n × (n ≢ i)) places wa (k .shows)
+        (λ n t. (t .0, λ e. t .1)) (λ n t. (t .0, t .1 refl));
+    scarce-kept = refl;
+  }
+  keeps-choice done places counts wa false i k more =
+      let g = foremost-goes done places counts wa i k more in record {
+        going = g .going;
+        beside = rw (g .its) at
+            (goes-off p (Stands p done) places wa (getD places (foremost wa) 0)
+            (λ n t e. apart p w no-two done n (getD places (foremost wa) 0) t (g .going .stands) e) (g .going .stands)
+            (all-wait done places counts wa i k more));
+        scarce-kept = scarce-vacated wa (foremost wa);
+      }
+
+  -- ---- a line is done
+
+  module _ (done places counts : List ℕ) (wa : Waiting) (on : Bool) (i : ℕ) (k : Keeps done places counts wa on i) where
+    pub keeps-on : (c : Choice) → Chooses p done places (wa .scarce) c → length done < length p
+        → Keeps (done ++ (c .line ∷ []))
+        (placing p (placing p places (lastingAfter p (c .line))) (startedLine p (c .line)))
+        (counted p counts (c .line))
+        (taking p (taking p (settled p counts (c .others) (c .line)) (lastingAfter p (c .line)))
+        (startedLine p (c .line)))
+        (goesOn p (c .line)) (suc (c .line))
+    unfolding chosen orElse
+    keeps-on c g more = record {
       closed = closed-on p w done (k .closed) x here;
+      going = λ e l. going-on e;
       shows = shown;
       counts-all = rw (
-        scarce-taking p (taking p settled-now (nextLine p x)) (startedLine p x),
-        scarce-taking p settled-now (nextLine p x),
-      ) (one-counted p w done counts (vacated wa s) x (rw (scarce-vacated wa s) (k .counts-all)) (here .line)
-          (here .waiting));
+        scarce-taking p (taking p settled-now (lastingAfter p x)) (startedLine p x),
+        scarce-taking p settled-now (lastingAfter p x),
+      ) (one-counted p w done counts (c .others) x (rw (g .scarce-kept) (k .counts-all)) (here .line) (here .waiting));
       rest = omega (arith, k .rest, longer, one-less);
       order = append-assoc done (x ∷ []) (linesAfter (length p - length next) p next) ∙ ordered;
     }
       where
         x : ℕ
-        x = getD places s 0
+        x = c .line
 
         here : Stands p done x
-        here = g .stands
+        here = g .going .stands
 
         next : List ℕ
         next = done ++ (x ∷ [])
 
         settled-now : Waiting
-        settled-now = settled p counts (vacated wa s) x
+        settled-now = settled p counts (c .others) x
 
         longer : length next ≡ suc (length done)
         longer = length-append done (x ∷ []) ∙ omega arith
@@ -320,44 +388,45 @@ module _ (p : List ℕ) (w : WellFormed devices p) (no-two : (d : ℕ) → Lasts
         ordered : done ++ (x ∷ linesAfter (length p - length next) p next) ≡ handed p
         ordered =
             let z : length p - length done ≡ suc (length p - length next) = omega (arith, longer, more) in
-            ap (λ (ys : List ℕ). done ++ ys) (sym (lines-step (length p - length next) p done x (g .choice)))
+            ap (λ (ys : List ℕ). done ++ ys) (sym (lines-step (length p - length next) p done x (g .going .choice)))
             ∙ (rw z at (k .order))
 
-        left-off : Shows p (λ i. Stands p done i × (i ≢ x)) places settled-now
-        left-off =
-            shows-settled p counts (λ i. Stands p done i × (i ≢ x)) places (vacated wa s) x
-            (rw (g .its) at
-            (goes-off p (Stands p done) places wa x (λ i t e. apart p w no-two done i x t here e) here (k .shows)))
+        going-on : goesOn p x ≡ true → Going p next (suc x)
+        going-on e =
+            let r = goes-at p w x e in
+            let s = next-stands p w done (k .closed) x here (suc x) (r .0) in
+            let low = lower-still p w done (k .closed) x here (g .going .low) in record {
+              stands = s;
+              choice = ap (λ (o : Option ℕ). orElse o (lastingNext p (undone p next)))
+                  (goes-on p next (suc x) s (r .1) low);
+              low = low;
+            }
 
-        below : (i : ℕ) → Stands p next i → placeOf p i < allPlaces
-        below i t = place-below p w i (t .line)
+        below : (n : ℕ) → Stands p next n → placeAt p n < allPlaces
+        below n t = place-below p w n (t .line)
 
-        stayed : (i : ℕ) → Stands p done i × (i ≢ x) → Stands p next i
+        stayed : (n : ℕ) → Stands p done n × (n ≢ x) → Stands p next n
         stayed = stayed-stands p w done (k .closed) x here
 
-        arrived : (i : ℕ) → (Stands p done i × (i ≢ x)) ⊎ (has i (nextLine p x) ≡ true) → Stands p next i
-        arrived i (inl t) = stayed i t
-        arrived i (inr h) = next-stands p w done (k .closed) x here i h
+        arrived : (n : ℕ) → (Stands p done n × (n ≢ x)) ⊎ (has n (lastingAfter p x) ≡ true) → Stands p next n
+        arrived n (inl t) = stayed n t
+        arrived n (inr h) = lasting-stands p w done (k .closed) x here n h
 
-        all : (i : ℕ)
-            → ((Stands p done i × (i ≢ x)) ⊎ (has i (nextLine p x) ≡ true)) ⊎ (has i (startedLine p x) ≡ true)
-            → Stands p next i
-        all i (inl t) = arrived i t
-        all i (inr h) = started-stands p w done (k .closed) x here i h
-
-        shown : Shows p (Stands p next) (placing p (placing p places (nextLine p x)) (startedLine p x))
-            (taking p (taking p settled-now (nextLine p x)) (startedLine p x))
+        shown : Shows p (Beside p next (goesOn p x) (suc x))
+            (placing p (placing p places (lastingAfter p x)) (startedLine p x))
+            (taking p (taking p settled-now (lastingAfter p x)) (startedLine p x))
         shown =
             shows-same p
-            (λ i. ((Stands p done i × (i ≢ x)) ⊎ (has i (nextLine p x) ≡ true)) ⊎ (has i (startedLine p x) ≡ true))
-            (Stands p next) (placing p (placing p places (nextLine p x)) (startedLine p x))
-            (taking p (taking p settled-now (nextLine p x)) (startedLine p x))
+            (λ n. ((Stands p done n × (n ≢ x)) ⊎ (has n (lastingAfter p x) ≡ true)) ⊎ (has n (startedLine p x) ≡ true))
+            (Beside p next (goesOn p x) (suc x)) (placing p (placing p places (lastingAfter p x)) (startedLine p x))
+            (taking p (taking p settled-now (lastingAfter p x)) (startedLine p x))
             (come p (Stands p next) below (apart p w no-two next) (startedLine p x)
-            (λ i. (Stands p done i × (i ≢ x)) ⊎ (has i (nextLine p x) ≡ true)) (placing p places (nextLine p x))
-            (taking p settled-now (nextLine p x)) arrived (started-stands p w done (k .closed) x here)
-            (come p (Stands p next) below (apart p w no-two next) (nextLine p x) (λ i. Stands p done i × (i ≢ x)) places
-            settled-now stayed (next-stands p w done (k .closed) x here) left-off))
-            (who-stands p w done (k .closed) x here) all
+            (λ n. (Stands p done n × (n ≢ x)) ⊎ (has n (lastingAfter p x) ≡ true)) (placing p places (lastingAfter p x))
+            (taking p settled-now (lastingAfter p x)) arrived (started-stands p w done (k .closed) x here)
+            (come p (Stands p next) below (apart p w no-two next) (lastingAfter p x) (λ n. Stands p done n × (n ≢ x))
+            places settled-now stayed (lasting-stands p w done (k .closed) x here)
+            (shows-settled p counts (λ n. Stands p done n × (n ≢ x)) places (c .others) x (g .beside))))
+            (beside-placed p w done (k .closed) x here) (placed-beside p w done (k .closed) x here)
 
     -- ---- all lines are done
 

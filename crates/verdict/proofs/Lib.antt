@@ -1,7 +1,7 @@
 -- Why the order that the code hands out is that of the definitions. Words as sets (Words); undone takes counted by
 -- device (Counts); which line waits at which place (Places); which lines stand next (Standing); all of it kept from
 -- line to line (Keeping). Then the code's own steps (Steps) and its loop (Loop). And the verdict: what it is told
--- (Findings), its outcomes (Outcome), and that each input has one (Tight).
+-- (Findings), its outcomes (Outcome), that each input has one (Tight), and what follows for the orders (Promises).
 pub mod Words
 pub mod Counts
 pub mod Places

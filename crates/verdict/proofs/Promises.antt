@@ -1,7 +1,7 @@
 -- What follows from what `verdict` promises, `JudgesAs` (01, "Legal orders" and "The order handed out"): what an
 -- accepted plan's list is left with is a legal order that has each line once; given room, a plan without a fault is
 -- accepted exactly if it has a legal order; 9 and 10 say that it has none; a refusal leaves the list as it was.
-use Prim.Native.Nat.{ℕ, _<_, _≤_}
+use Prim.Native.Nat.{ℕ, _≤_}
 use mathlib.Core.Bool.{Bool, true, false}
 use mathlib.Core.List.{List, [], _∷_, _++_, map}
 use mathlib.Core.Option.{Option, none, some, Option·none-ne-some}
@@ -10,7 +10,7 @@ use mathlib.Core.Logic.{_↔_}
 use native.Mathlib.Omega.{arith}
 use lib.Dec.{ltb}
 use lib.ListN.{length}
-use borrow.Author.Tests.{lt-ltb, le-ltb}
+use borrow.Author.Tests.{le-ltb}
 use Rattle.model.specs.Lists.{has, over}
 use Rattle.model.specs.Answers.{numberOf, refuseIf, firstRefusal, tooShort}
 use Rattle.model.specs.Line.{lineNumber}
@@ -23,12 +23,13 @@ use Rattle.model.specs.Board.{devices}
 use Rattle.model.specs.declared.Refusal.{Refusal}
 use Rattle.model.specs.declared.Refusal.the-variants.{ListTooShort}
 use Rattle.model.specs.declared.VerdictAnswer.{VerdictAnswer}
-use Rattle.theory.proofs.Tests.{test, clash}
+use Rattle.theory.proofs.Tests.{clash}
 use Rattle.theory.proofs.Lists.{has-head, has-right}
 use Rattle.theory.proofs.Places.{when}
 use Rattle.theory.proofs.WellFormed.{fault-exactly}
 use Rattle.theory.proofs.Printed.{broken-bounds}
-use Rattle.theory.proofs.Verdict.{NoOrder, accepted-is-legal, refused-exactly, legal-order-exactly, no-legal-order}
+use Rattle.theory.specs.Verdict.{NoOrder}
+use Rattle.theory.proofs.Verdict.{accepted-is-legal, refused-exactly, legal-order-exactly, no-legal-order}
 use Rattle.verdict.specs.Promises.{JudgesAs, Apart, OnceEach, Ordered}
 use Rattle.verdict.proofs.Outcome.{tests, outcome}
 use Rattle.verdict.proofs.Tight.{one-outcome}

@@ -1,32 +1,33 @@
 -- The lines that stand next, from line to line: line 1 at the start; once a line is done, those that stood but it, the
 -- next line of its job and the first line of the job that it starts. No two of them have one place, if no device has
--- two lasting takes.
+-- two lasting takes. If the job goes on, its next line is the lowest that can go on, and all the others are at their
+-- places.
 use Prim.Native.Nat.{ℕ, suc, _+_, _-_, _<_, _≤_}
-use mathlib.Core.Bool.{Bool, true, false, cond}
+use mathlib.Core.Bool.{Bool, true, false, cond, not}
 use mathlib.Core.List.{List, [], _∷_, _++_, map}
 use mathlib.Core.Logic.{_⊎_, inl, inr, _≢_}
 use mathlib.Core.Path.{_≡_, refl, sym, _∙_, ap}
 use native.Mathlib.Omega.{arith}
-use lib.Dec.{eqb, leb}
+use lib.Dec.{eqb}
 use lib.ListN.{length}
-use borrow.Author.Tests.{eqb-true, eqb-false, eq-eqb, ne-eqb, leb-true, le-leb}
-use Rattle.model.specs.Lists.{has}
+use borrow.Author.Tests.{eqb-true, eqb-false, eq-eqb, ne-eqb, not-true}
+use Rattle.model.specs.Lists.{has, those}
 use Rattle.model.specs.Line.{job, operand, isStart, starts, at, firstLine, maxJob}
 use Rattle.model.specs.Mate.{deviceAt, lastingAt}
 use Rattle.model.specs.WellFormed.{WellFormed}
 use Rattle.model.specs.Legal.{precedes}
 use Rattle.model.specs.Board.{devices}
 use Rattle.theory.proofs.Tests.{clash, test, le-or-lt}
-use Rattle.theory.proofs.Lists.{has-none, has-head, has-cases, has-suc}
+use Rattle.theory.proofs.Lists.{has-none, has-head, has-cases, has-suc, any-found, any-at, has-those, those-has}
 use Rattle.theory.proofs.Line.{inside, start-parts, start-of, line-parts}
 use Rattle.theory.proofs.WellFormed.{any-line}
 use Rattle.theory.proofs.Successors.{first-is, first-at, earlier-precedes, start-precedes, Why, sameJob, starter, why}
 use Rattle.theory.proofs.Successors.{jobs-grow, precedes-reaches}
-use Rattle.theory.proofs.OnlyIf.{LastsTwice}
+use Rattle.theory.specs.Verdict.{LastsTwice}
 use Rattle.theory.proofs.Places.{lasting-parts}
 use Rattle.theory.proofs.Progress.{lasting-own, device-below}
-use Rattle.theory.proofs.LineByLine.{Stands, stood, more-old, more-only, more-not, not-more}
-use Rattle.verdict.specs.Waiting.{allPlaces, placeOf, opening, nextLine, startedLine}
+use Rattle.theory.proofs.LineByLine.{Stands, LowestIs, stood, more-old, more-only, more-not, not-more}
+use Rattle.verdict.specs.Waiting.{allPlaces, placeAt, nextInJob, goesOn, lastingAfter, startedLine}
 
 -- ---- the first line of a job
 
@@ -62,6 +63,10 @@ first-above j ls f k h l e = go (first-at j ls k l e)
 abbrev pub Closed : List ℕ → List ℕ → Type 0
 Closed p done = (k i : ℕ) → k < length p → has i done ≡ true → precedes p k i ≡ true → has k done ≡ true
 
+-- the lines that stand next, but line i where its job goes on
+abbrev pub Beside : List ℕ → List ℕ → Bool → ℕ → ℕ → Type 0
+Beside p done on i k = Stands p done k × (on ≡ true → k ≢ i)
+
 module _ (p : List ℕ) (w : WellFormed devices p) where
   pub job-fits : (i : ℕ) → i < length p → (1 ≤ job (at p i)) × (job (at p i) ≤ maxJob)
   job-fits i h = let r = line-parts devices (at p i) (w .lines i h) in (r .0, r .1)
@@ -75,8 +80,8 @@ module _ (p : List ℕ) (w : WellFormed devices p) where
 
   -- ---- the lines that a line lets stand next
 
-  next-is : (x i : ℕ) → has i (nextLine p x) ≡ true → (i ≡ suc x) × (job (at p (suc x)) ≡ job (at p x))
-  unfolding nextLine
+  next-is : (x i : ℕ) → has i (nextInJob p x) ≡ true → (i ≡ suc x) × (job (at p (suc x)) ≡ job (at p x))
+  unfolding nextInJob
   next-is x i h = go (eqb (job (at p (suc x))) (job (at p x))) refl h
     where
       one : (i ≡ suc x) ⊎ (has i [] ≡ true) → i ≡ suc x
@@ -88,9 +93,17 @@ module _ (p : List ℕ) (w : WellFormed devices p) where
       go true e m = (one (has-cases i (suc x) [] m), eqb-true (job (at p (suc x))) (job (at p x)) e)
       go false e m = has-none i m
 
-  is-next : (x : ℕ) → job (at p (suc x)) ≡ job (at p x) → has (suc x) (nextLine p x) ≡ true
-  unfolding nextLine
+  is-next : (x : ℕ) → job (at p (suc x)) ≡ job (at p x) → has (suc x) (nextInJob p x) ≡ true
+  unfolding nextInJob
   is-next x e = rw (eq-eqb (job (at p (suc x))) (job (at p x)) e) (has-head (suc x) [])
+
+  -- the line at which a job goes on
+  pub goes-at : (x : ℕ) → goesOn p x ≡ true → (has (suc x) (nextInJob p x) ≡ true) × (lastingAt p (suc x) ≡ false)
+  unfolding goesOn
+  goes-at x e =
+      let r = any-found (λ n. not (lastingAt p n)) (nextInJob p x) e in
+      let z = next-is x (r .0) (r .1) .0 in
+      (rw z at (r .1), rw z at (not-true (lastingAt p (r .0)) (r .2)))
 
   -- line x starts the job of line i, which is its first line
   record Begun (x i : ℕ) : Type 0 where
@@ -118,39 +131,24 @@ module _ (p : List ℕ) (w : WellFormed devices p) where
 
   -- ---- at the start
 
-  opens : (i : ℕ) → has i (opening p) ≡ true → (i ≡ 0) × (0 < length p)
-  unfolding opening
-  opens i h = go (leb 1 (length p)) refl h
-    where
-      one : (i ≡ 0) ⊎ (has i [] ≡ true) → i ≡ 0
-      one (inl e) = e
-      one (inr m) = has-none i m
-
-      go : (b : Bool) → leb 1 (length p) ≡ b → has i (cond b (0 ∷ []) []) ≡ true → (i ≡ 0) × (0 < length p)
-      go true e m = (one (has-cases i 0 [] m), leb-true 1 (length p) e)
-      go false e m = has-none i m
-
-  pub first-stands : (i : ℕ) → has i (opening p) ≡ true → Stands p [] i
+  pub first-stands : 0 < length p → Stands p [] 0
   unfolding has
-  first-stands i h =
-      let r = opens i h in
-      rw (r .0) (record { line = r .1; waiting = refl; first = λ k l e. go k l (r .1) (test (precedes p k 0)) })
+  first-stands h = record { line = h; waiting = refl; first = λ k l e. go k l (test (precedes p k 0)) }
     where
-      go : (k : ℕ) → k < length p → 0 < length p → (precedes p k 0 ≡ true) ⊎ (precedes p k 0 ≡ false)
-          → precedes p k 0 ≡ false
-      go k l z (inl b) = absurd (omega (arith, precedes-reaches p (w .rules) k 0 l z b .0))
-      go k l z (inr b) = b
+      go : (k : ℕ) → k < length p → (precedes p k 0 ≡ true) ⊎ (precedes p k 0 ≡ false) → precedes p k 0 ≡ false
+      go k l (inl b) = absurd (omega (arith, precedes-reaches p (w .rules) k 0 l h b .0))
+      go k l (inr b) = b
 
-  pub stands-first : (i : ℕ) → Stands p [] i → has i (opening p) ≡ true
-  unfolding opening has
+  pub stands-first : (i : ℕ) → Stands p [] i → i ≡ 0
+  unfolding has
   stands-first i s = go (test (eqb i 0)) (test (eqb (job (at p i)) 1))
     where
       nonempty : 0 < length p
       nonempty = omega (arith, s .line)
 
       go : (eqb i 0 ≡ true) ⊎ (eqb i 0 ≡ false) → (eqb (job (at p i)) 1 ≡ true) ⊎ (eqb (job (at p i)) 1 ≡ false)
-          → has i (opening p) ≡ true
-      go (inl q) c = rw (eqb-true i 0 q, le-leb 1 (length p) nonempty) (has-head 0 [])
+          → i ≡ 0
+      go (inl q) c = eqb-true i 0 q
       go (inr q) (inl c) =
           let n = eqb-false i 0 q in
           clash (precedes p 0 i)
@@ -163,22 +161,22 @@ module _ (p : List ℕ) (w : WellFormed devices p) where
 
   -- ---- no two of them have one place
 
-  pub place-lasting : (i : ℕ) → lastingAt p i ≡ true → placeOf p i ≡ maxJob + deviceAt p i
-  unfolding placeOf
+  pub place-lasting : (i : ℕ) → lastingAt p i ≡ true → placeAt p i ≡ maxJob + deviceAt p i
+  unfolding placeAt
   place-lasting i e = rw e
 
-  pub place-job : (i : ℕ) → lastingAt p i ≡ false → placeOf p i ≡ job (at p i) - 1
-  unfolding placeOf
+  pub place-job : (i : ℕ) → lastingAt p i ≡ false → placeAt p i ≡ job (at p i) - 1
+  unfolding placeAt
   place-job i e = rw e
 
   pub lasting-below : (i : ℕ) → lastingAt p i ≡ true → deviceAt p i < devices
   lasting-below i e =
       device-below devices p w i (deviceAt p i) (lasting-parts p i (deviceAt p i) (lasting-own p i e) .0)
 
-  pub place-below : (i : ℕ) → i < length p → placeOf p i < allPlaces
+  pub place-below : (i : ℕ) → i < length p → placeAt p i < allPlaces
   place-below i h = go (test (lastingAt p i))
     where
-      go : (lastingAt p i ≡ true) ⊎ (lastingAt p i ≡ false) → placeOf p i < allPlaces
+      go : (lastingAt p i ≡ true) ⊎ (lastingAt p i ≡ false) → placeAt p i < allPlaces
       go (inl e) = omega (arith, place-lasting i e, lasting-below i e)
       go (inr e) = omega (arith, place-job i e, job-fits i h .1)
 
@@ -195,7 +193,7 @@ module _ (p : List ℕ) (w : WellFormed devices p) where
           clash (precedes p k i) (earlier-precedes p k i c (sym e)) (s .first k (t .line) (t .waiting))
 
   module _ (no-two : (d : ℕ) → LastsTwice p d → ⊥) where
-    pub apart : (done : List ℕ) (i k : ℕ) → Stands p done i → Stands p done k → placeOf p i ≡ placeOf p k → i ≡ k
+    pub apart : (done : List ℕ) (i k : ℕ) → Stands p done i → Stands p done k → placeAt p i ≡ placeAt p k → i ≡ k
     apart done i k s t e = go (test (lastingAt p i)) (test (lastingAt p k))
       where
         fits : (1 ≤ job (at p i)) × (job (at p i) ≤ maxJob)
@@ -259,7 +257,7 @@ module _ (p : List ℕ) (w : WellFormed devices p) where
       first = λ k l e. s .0 .first k l (more-not k x done e .0);
     }
 
-    pub next-stands : (i : ℕ) → has i (nextLine p x) ≡ true → Stands p (done ++ (x ∷ [])) i
+    pub next-stands : (i : ℕ) → has i (nextInJob p x) ≡ true → Stands p (done ++ (x ∷ [])) i
     next-stands i h = let r = next-is x i h in rw (r .0) (stands (r .1))
       where
         stands : job (at p (suc x)) ≡ job (at p x) → Stands p (done ++ (x ∷ [])) (suc x)
@@ -309,12 +307,12 @@ module _ (p : List ℕ) (w : WellFormed devices p) where
             none k l u (inl c) = no k l (u .1) (why p k i c)
 
     -- The lines that stand now are these.
-    pub who-stands : (i : ℕ) → Stands p (done ++ (x ∷ [])) i
-        → (Stayed i ⊎ (has i (nextLine p x) ≡ true)) ⊎ (has i (startedLine p x) ≡ true)
+    who-stands : (i : ℕ) → Stands p (done ++ (x ∷ [])) i
+        → (Stayed i ⊎ (has i (nextInJob p x) ≡ true)) ⊎ (has i (startedLine p x) ≡ true)
     who-stands i s = go (test (precedes p x i))
       where
         following : x < i → job (at p x) ≡ job (at p i) → (eqb i (suc x) ≡ true) ⊎ (eqb i (suc x) ≡ false)
-            → has i (nextLine p x) ≡ true
+            → has i (nextInJob p x) ≡ true
         following lt e (inl q) =
             let z = eqb-true i (suc x) q in rw z (is-next x (rw z at (sym e)))
         following lt e (inr q) =
@@ -349,11 +347,69 @@ module _ (p : List ℕ) (w : WellFormed devices p) where
                 (later-undone f (start-precedes p x f (rw same a))
                 (λ y. omega (arith, w .rules .startHigher x (job (at p i)) a, same, ap (λ (n : ℕ). job (at p n)) y))))
 
-        reason : Why p x i → (Stayed i ⊎ (has i (nextLine p x) ≡ true)) ⊎ (has i (startedLine p x) ≡ true)
+        reason : Why p x i → (Stayed i ⊎ (has i (nextInJob p x) ≡ true)) ⊎ (has i (startedLine p x) ≡ true)
         reason (sameJob lt e) = inl (inr (following lt e (test (eqb i (suc x)))))
         reason (starter a) = inr (begins a (first-at (job (at p i)) p i (s .line) refl))
 
         go : (precedes p x i ≡ true) ⊎ (precedes p x i ≡ false)
-            → (Stayed i ⊎ (has i (nextLine p x) ≡ true)) ⊎ (has i (startedLine p x) ≡ true)
+            → (Stayed i ⊎ (has i (nextInJob p x) ≡ true)) ⊎ (has i (startedLine p x) ≡ true)
         go (inl b) = reason (why p x i b)
         go (inr b) = inl (inl (stood p done x i s b, more-not i x done (s .waiting) .1))
+
+    -- ---- a job that goes on
+
+    -- stays the lowest that can go on
+    pub lower-still : LowestIs p done x → LowestIs p (done ++ (x ∷ [])) (suc x)
+    lower-still low i s e = go (test (precedes p x i))
+      where
+        go : (precedes p x i ≡ true) ⊎ (precedes p x i ≡ false) → suc x ≤ i
+        go (inl b) = omega (arith, precedes-reaches p (w .rules) x i (here .line) (s .line) b .0)
+        go (inr b) =
+            let n = more-not i x done (s .waiting) .1 in omega (arith, n, low i (stood p done x i s b) e)
+
+    -- The lines that stand now, but the one at which the job goes on, are those that stayed or came to their places.
+    pub beside-placed : (i : ℕ) → Beside p (done ++ (x ∷ [])) (goesOn p x) (suc x) i
+        → (Stayed i ⊎ (has i (lastingAfter p x) ≡ true)) ⊎ (has i (startedLine p x) ≡ true)
+    unfolding goesOn lastingAfter
+    beside-placed i b = go (who-stands i (b .0))
+      where
+        next : has i (nextInJob p x) ≡ true → (lastingAt p i ≡ true) ⊎ (lastingAt p i ≡ false)
+            → has i (those (lastingAt p) (nextInJob p x)) ≡ true
+        next h (inl e) = those-has (lastingAt p) (nextInJob p x) i h e
+        next h (inr e) =
+            absurd (b .1 (any-at (λ n. not (lastingAt p n)) (nextInJob p x) i h (rw e)) (next-is x i h .0))
+
+        go : (Stayed i ⊎ (has i (nextInJob p x) ≡ true)) ⊎ (has i (startedLine p x) ≡ true)
+            → (Stayed i ⊎ (has i (those (lastingAt p) (nextInJob p x)) ≡ true)) ⊎ (has i (startedLine p x) ≡ true)
+        go (inl (inl s)) = inl (inl s)
+        go (inl (inr h)) = inl (inr (next h (test (lastingAt p i))))
+        go (inr h) = inr h
+
+    pub lasting-stands : (i : ℕ) → has i (lastingAfter p x) ≡ true → Stands p (done ++ (x ∷ [])) i
+    unfolding lastingAfter
+    lasting-stands i h = next-stands i (has-those (lastingAt p) (nextInJob p x) i h .0)
+
+    pub placed-beside : (i : ℕ)
+        → (Stayed i ⊎ (has i (lastingAfter p x) ≡ true)) ⊎ (has i (startedLine p x) ≡ true)
+        → Beside p (done ++ (x ∷ [])) (goesOn p x) (suc x) i
+    unfolding lastingAfter
+    placed-beside i (inl (inl s)) = (
+      stayed-stands i s,
+      λ e q. clash (precedes p x (suc x)) (later e) ((rw q at (s .0)) .first x (here .line) (here .waiting)),
+    )
+      where
+        later : goesOn p x ≡ true → precedes p x (suc x) ≡ true
+        later e = earlier-precedes p x (suc x) (omega arith) (sym (next-is x (suc x) (goes-at x e .0) .1))
+    placed-beside i (inl (inr h)) = (
+      lasting-stands i h,
+      λ e q. clash (lastingAt p i) (has-those (lastingAt p) (nextInJob p x) i h .1) (rw q (goes-at x e .1)),
+    )
+    placed-beside i (inr h) = (
+      started-stands i h,
+      λ e q. omega (
+        arith,
+        w .rules .startHigher x (job (at p i)) (begun x i h .start),
+        next-is x (suc x) (goes-at x e .0) .1,
+        ap (λ (n : ℕ). job (at p n)) q,
+      ),
+    )

@@ -1,7 +1,7 @@
 -- What the code of the order computes, step by step, is what the definitions say; one law for each way through a
 -- function.
 use Prim.Native.Nat.{ℕ, suc, _+_, _-_, _*_, _/_, _%_, _^_, _<_, _≤_}
-use mathlib.Core.Bool.{Bool, true, false, cond, _&&_}
+use mathlib.Core.Bool.{Bool, true, false, cond, not, _||_, _&&_}
 use mathlib.Core.List.{List, [], _∷_}
 use mathlib.Core.Logic.{_⊎_, inl, inr}
 use mathlib.Core.Path.{_≡_, refl, sym, _∙_, ap}
@@ -13,7 +13,7 @@ use lib.Dec.{eqb, leb}
 use lib.Seq.{set-getD}
 use lib.ListN.{length, getD, set, length-set, List·getD-eq-default}
 use borrow.Author.Tests.{eqb-true, eq-eqb, ne-eqb, le-leb, lt-leb}
-use Rattle.model.specs.Lists.{any, has}
+use Rattle.model.specs.Lists.{any, has, those}
 use Rattle.model.specs.Sets.{only, union}
 use Rattle.model.specs.Line.{job, kind, operand, isTake, isStart, at, hasLines, firstLine, maxJob}
 use Rattle.model.specs.Mate.{takesAt, lastingAt, deviceAt}
@@ -29,9 +29,11 @@ use Rattle.theory.proofs.Tests.{le-or-lt}
 use Rattle.theory.proofs.Progress.{device-below}
 use Rattle.verdict.proofs.Counts.{through, takes-own, tallied-takes}
 use Rattle.verdict.specs.declared.waiting.Waiting.{Waiting}
-use Rattle.verdict.specs.Waiting.{Marked, Told, allPlaces, placeOf, taken, taking, placing, nextLine, startedLine}
-use Rattle.verdict.specs.Waiting.{counted, settled, added, tallied, withScarce, scarceBelow, opening, passed}
-use Rattle.verdict.specs.Waiting.{replaced, CanFall}
+use Rattle.verdict.specs.declared.order.Choice.{Choice}
+use Rattle.verdict.specs.Waiting.{Marked, Told, allPlaces, placeAt, taken, taking, placing, nextInJob, goesOn}
+use Rattle.verdict.specs.Waiting.{lastingAfter, startedLine, counted, settled, added, tallied, withScarce}
+use Rattle.verdict.specs.Waiting.{scarceBelow, passed, replaced, CanRise, CanFall}
+use Rattle.verdict.specs.Waiting.{foremost, vacated, choosing}
 use Rattle.verdict.proofs.Standing.{place-below, job-fits, first-one}
 
 module _ (p lasting : List ℕ) (m : Marked p lasting) where
@@ -42,15 +44,15 @@ module _ (p lasting : List ℕ) (m : Marked p lasting) where
   few = formed .few
 
   module _ (i : ℕ) (h : i < length p) where
-    pub place-fits : placeOf p i < allPlaces
+    pub place-fits : placeAt p i < allPlaces
     place-fits = place-below p formed i h
 
     pub job-of : (1 ≤ at p i / 1024) × (at p i / 1024 ≤ maxJob)
     unfolding job
     job-of = job-fits p formed i h
 
-    pub place-marked : getD lasting i 0 ≡ 1 → 64 + at p i % 256 ≡ placeOf p i
-    unfolding placeOf
+    pub place-marked : getD lasting i 0 ≡ 1 → 64 + at p i % 256 ≡ placeAt p i
+    unfolding placeAt
     place-marked e = go (lastingAt p i) refl (m .marks i h)
       where
         go : (b : Bool) → lastingAt p i ≡ b → getD lasting i 0 ≡ cond b 1 0
@@ -58,8 +60,8 @@ module _ (p lasting : List ℕ) (m : Marked p lasting) where
         go true q r = rw q
         go false q r = absurd (omega (arith, e, r))
 
-    pub place-unmarked : (getD lasting i 0 ≡ 1 → ⊥) → at p i / 1024 - 1 ≡ placeOf p i
-    unfolding placeOf
+    pub place-unmarked : (getD lasting i 0 ≡ 1 → ⊥) → at p i / 1024 - 1 ≡ placeAt p i
+    unfolding placeAt
     place-unmarked n = go (lastingAt p i) refl (m .marks i h)
       where
         go : (b : Bool) → lastingAt p i ≡ b → getD lasting i 0 ≡ cond b 1 0
@@ -69,21 +71,54 @@ module _ (p lasting : List ℕ) (m : Marked p lasting) where
 
   -- ---- the next line of the job
 
-  pub next-past : (i : ℕ) → i < length p → length p ≤ i + 1 → nextLine p i ≡ []
-  unfolding nextLine job
+  pub next-past : (i : ℕ) → i < length p → length p ≤ i + 1 → nextInJob p i ≡ []
+  unfolding nextInJob job
   next-past i h g =
       let past : at p (suc i) ≡ 0 = List·getD-eq-default p 0 (omega arith) in
       rw (past, ne-eqb 0 (at p i / 1024) (λ q. omega (arith, job-of i h .0, q)))
 
-pub next-same : (p : List ℕ) (i : ℕ) → at p (i + 1) / 1024 ≡ at p i / 1024 → nextLine p i ≡ (i + 1) ∷ []
-unfolding nextLine job
+pub next-same : (p : List ℕ) (i : ℕ) → at p (i + 1) / 1024 ≡ at p i / 1024 → nextInJob p i ≡ (i + 1) ∷ []
+unfolding nextInJob job
 next-same p i e = let z : i + 1 ≡ suc i = add-one i in
     rw (z, eq-eqb (at p (suc i) / 1024) (at p i / 1024) (rw z at e))
 
-pub next-other : (p : List ℕ) (i : ℕ) → (at p (i + 1) / 1024 ≡ at p i / 1024 → ⊥) → nextLine p i ≡ []
-unfolding nextLine job
+pub next-other : (p : List ℕ) (i : ℕ) → (at p (i + 1) / 1024 ≡ at p i / 1024 → ⊥) → nextInJob p i ≡ []
+unfolding nextInJob job
 next-other p i n =
     rw (ne-eqb (at p (suc i) / 1024) (at p i / 1024) (λ q. n (ap (λ (k : ℕ). at p k / 1024) (add-one i) ∙ q)))
+
+-- where there is none, the job does not go on, and no lasting take comes
+pub none-after : (p : List ℕ) (i : ℕ) → nextInJob p i ≡ [] → (false ≡ goesOn p i) × (lastingAfter p i ≡ [])
+unfolding goesOn lastingAfter any those
+none-after p i e = rw e (refl, refl)
+
+-- where there is one, its mark decides
+module _ (p lasting : List ℕ) (m : Marked p lasting) (i : ℕ) (h : i + 1 < length p)
+    (e : nextInJob p i ≡ (i + 1) ∷ []) where
+  pub goes-unmarked : eqb (getD lasting (i + 1) 0) 0 ≡ goesOn p i
+  unfolding goesOn any
+  goes-unmarked = rw (e, m .marks (i + 1) h) (go (lastingAt p (i + 1)))
+    where
+      go : (b : Bool) → eqb (cond b 1 0) 0 ≡ (not b || false)
+      go true = refl
+      go false = refl
+
+  pub after-marked : getD lasting (i + 1) 0 ≡ 1 → lastingAfter p i ≡ (i + 1) ∷ []
+  unfolding lastingAfter those
+  after-marked q = rw e (go (lastingAt p (i + 1)) (m .marks (i + 1) h))
+    where
+      go : (b : Bool) → getD lasting (i + 1) 0 ≡ cond b 1 0 → elim b [ true ↦ (i + 1) ∷ [] | false ↦ [] ] ≡ (i + 1) ∷ []
+      go true r = refl
+      go false r = absurd (omega (arith, q, r))
+
+  pub after-unmarked : (getD lasting (i + 1) 0 ≡ 1 → ⊥) → lastingAfter p i ≡ []
+  unfolding lastingAfter those
+  after-unmarked n = rw e (go (lastingAt p (i + 1)) (m .marks (i + 1) h))
+    where
+      go : (b : Bool) → getD lasting (i + 1) 0 ≡ cond b 1 0
+          → _≡_ {A = List ℕ} (elim b [ true ↦ (i + 1) ∷ [] | false ↦ [] ]) []
+      go true r = absurd (n r)
+      go false r = refl
 
 -- ---- the first line of the job that is started
 
@@ -139,8 +174,8 @@ started-some p first lasting t i h e = go (first-at j p (k .0) (k .1) (eqb-true 
 
 -- ---- one line comes, or none
 
-pub came : (p places q : List ℕ) (w r : Waiting) (ts : List ℕ) (t : ℕ) → ts ≡ t ∷ [] → r ≡ taken w (placeOf p t)
-    → q ≡ set places (placeOf p t) t → (r ≡ taking p w ts) × (q ≡ placing p places ts)
+pub came : (p places q : List ℕ) (w r : Waiting) (ts : List ℕ) (t : ℕ) → ts ≡ t ∷ [] → r ≡ taken w (placeAt p t)
+    → q ≡ set places (placeAt p t) t → (r ≡ taking p w ts) × (q ≡ placing p places ts)
 unfolding taking placing
 came p places q w r ts t e a b = rw e (a, b)
 
@@ -148,16 +183,6 @@ pub none-came : (p places : List ℕ) (w : Waiting) (ts : List ℕ) → ts ≡ [
     → (w ≡ taking p w ts) × (places ≡ placing p places ts)
 unfolding taking placing
 none-came p places w ts e = rw e (refl, refl)
-
--- ---- a take is done
-
-pub take-of : (p : List ℕ) (i : ℕ) → at p i / 256 % 4 ≡ 1 → takesAt p i ≡ true
-unfolding takesAt isTake kind
-take-of p i e = eq-eqb (at p i / 256 % 4) 1 e
-
-pub no-take : (p : List ℕ) (i : ℕ) → (at p i / 256 % 4 ≡ 1 → ⊥) → takesAt p i ≡ false
-unfolding takesAt isTake kind
-no-take p i n = ne-eqb (at p i / 256 % 4) 1 n
 
 -- ---- a line is done: one count falls where it is a take, and its device may come to be scarce
 
@@ -246,16 +271,42 @@ module _ (p counts : List ℕ) (w : Waiting) (i : ℕ) (can : CanFall p counts i
       go true e = settles-take e
       go false e = settles-other e
 
+-- ---- the line that goes next
+
+pub chooses-on : (places : List ℕ) (w : Waiting) (on : Bool) (i : ℕ) → on ≡ true
+    → _≡_ {A = Choice} (record { line = i; others = w }) (choosing places w on i)
+unfolding choosing
+chooses-on places w on i e = rw e
+
+pub chooses-foremost : (places : List ℕ) (w v : Waiting) (on : Bool) (i s : ℕ) → on ≡ false → s ≡ foremost w
+    → v ≡ vacated w s
+    → _≡_ {A = Choice} (record { line = getD places s 0; others = v }) (choosing places w on i)
+unfolding choosing
+chooses-foremost places w v on i s e q r = rw (e, r, q)
+
 -- ---- the counts at the start
 
-pub adds : (p counts : List ℕ) (i : ℕ) → at p i / 256 % 4 ≡ 1
-    → set counts (at p i % 256) (getD counts (at p i % 256) 0 + 1) ≡ added p counts i
-unfolding added deviceAt operand
-adds p counts i e = rw (take-of p i e)
+pub rise-fits : (p counts : List ℕ) (i : ℕ) → CanRise p counts i
+    → getD counts (at p i % 32) 0 + boolByte (eqb (at p i / 256 % 4) 1) ≤ 1025
+rise-fits p counts i can = go (eqb (at p i / 256 % 4) 1)
+  where
+    go : (t : Bool) → getD counts (at p i % 32) 0 + boolByte t ≤ 1025
+    go true = omega (arith, can .1)
+    go false = omega (arith, can .1)
 
-pub adds-none : (p counts : List ℕ) (i : ℕ) → (at p i / 256 % 4 ≡ 1 → ⊥) → counts ≡ added p counts i
-unfolding added
-adds-none p counts i n = rw (no-take p i n)
+pub adds : (p counts : List ℕ) (i : ℕ) → CanRise p counts i
+    → set counts (at p i % 32) (getD counts (at p i % 32) 0 + boolByte (eqb (at p i / 256 % 4) 1)) ≡ added p counts i
+unfolding added takesAt isTake kind deviceAt operand
+adds p counts i can = go (eqb (at p i / 256 % 4) 1) (can .0)
+  where
+    go : (t : Bool) → (t ≡ true → at p i % 256 < devices)
+        → set counts (at p i % 32) (getD counts (at p i % 32) 0 + boolByte t)
+        ≡ cond t (set counts (at p i % 256) (getD counts (at p i % 256) 0 + 1)) counts
+    go true f =
+        let d : at p i % 256 ≡ at p i % 32 = omega (arith, f refl) in rw d
+    go false f =
+        let z : getD counts (at p i % 32) 0 + 0 ≡ getD counts (at p i % 32) 0 = omega arith in
+        rw z (set-getD counts (at p i % 32) 0)
 
 pub tallied-on : (p counts next : List ℕ) (i : ℕ) → counts ≡ tallied p i → next ≡ added p counts i
     → next ≡ tallied p (i + 1)
@@ -264,16 +315,14 @@ tallied-on p counts next i e q = rw (add-one i) (q ∙ ap (λ (c : List ℕ). ad
 
 -- no count passes the number of lines
 pub tallied-fits : (p counts : List ℕ) → fault devices p ≡ none → (i : ℕ) → i < length p → counts ≡ tallied p i
-    → takesAt p i ≡ true
-    → (deviceAt p i < devices) × (getD counts (deviceAt p i) 0 ≤ 1024)
-tallied-fits p counts sound i h e t =
-    let w = no-fault-exactly devices p .0 sound in
-    let d = device-below devices p w i (deviceAt p i) (takes-own p i t) in (
-      d,
+    → CanRise p counts i
+tallied-fits p counts sound i h e =
+    let w = no-fault-exactly devices p .0 sound in (
+      λ t. device-below devices p w i (deviceAt p i) (takes-own p i t),
       rw e (omega (
         arith,
-        tallied-takes p w i (deviceAt p i) d,
-        left-all (through p [] (deviceAt p i)) i,
+        tallied-takes p w i (at p i % 32) (omega arith),
+        left-all (through p [] (at p i % 32)) i,
         w .few,
       )),
     )
@@ -291,26 +340,16 @@ pub scarce-on : (counts : List ℕ) (s r d : ℕ) → s ≡ scarceBelow counts d
 unfolding scarceBelow
 scarce-on counts s r d e q = rw (add-one d) (q ∙ ap (λ (x : ℕ). withScarce x (getD counts d 0) d) e)
 
--- ---- the first line
-
-pub opens : (p : List ℕ) → 0 < length p → opening p ≡ 0 ∷ []
-unfolding opening
-opens p h = rw (le-leb 1 (length p) h)
-
-pub opens-none : (p : List ℕ) → length p ≤ 0 → opening p ≡ []
-unfolding opening
-opens-none p h = rw (lt-leb 1 (length p) (omega arith))
-
 length-placing : (p places ts : List ℕ) → length (placing p places ts) ≡ length places
 unfolding placing
 length-placing p places [] = refl
 length-placing p places (t ∷ ts) =
-    length-placing p (set places (placeOf p t) t) ts ∙ length-set places (placeOf p t) t
+    length-placing p (set places (placeAt p t) t) ts ∙ length-set places (placeAt p t) t
 
 -- ---- one line is done: settled, followed, and what it starts begun
 
 pub passes : (p places q r counts counts′ : List ℕ) (w a b c : Waiting) (i : ℕ) → a ≡ settled p counts w i
-    → counts′ ≡ counted p counts i → b ≡ taking p a (nextLine p i) → q ≡ placing p places (nextLine p i)
+    → counts′ ≡ counted p counts i → b ≡ taking p a (lastingAfter p i) → q ≡ placing p places (lastingAfter p i)
     → c ≡ taking p b (startedLine p i) → r ≡ placing p q (startedLine p i)
     → (c ≡ passed p counts w i) × ((r ≡ replaced p places i) × (counts′ ≡ counted p counts i))
 unfolding passed replaced

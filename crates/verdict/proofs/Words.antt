@@ -1,6 +1,6 @@
 -- Words as sets, over the width: the members of both of two sets, of a set without one of its members, and the lowest
 -- member; then the places taken, which are two sets side by side.
-use Prim.Native.Nat.{ℕ, zero, suc, _+_, _-_, _*_, _/_, _%_, _^_, _<_, _≤_, min}
+use Prim.Native.Nat.{ℕ, zero, suc, _+_, _-_, _/_, _%_, _^_, _<_, _≤_, min}
 use mathlib.Core.Bool.{Bool, true, false, cond, not, _||_, _&&_}
 use mathlib.Core.List.{List}
 use mathlib.Core.Logic.{_⊎_, inl, inr}
@@ -19,7 +19,7 @@ use Rattle.theory.proofs.Tests.{clash, test, or-right, and-split, and-second, l
 use Rattle.theory.proofs.Lists.{has-upFrom, upFrom-has, Answer, first-answer, first-lowest}
 use Rattle.theory.proofs.Sets.{member-union, member-empty, member-only}
 use Rattle.verdict.specs.declared.waiting.Waiting.{Waiting}
-use Rattle.verdict.specs.Waiting.{both, without, lowestOf, waits, changed, taken, vacated, foremost, withScarce}
+use Rattle.verdict.specs.Waiting.{both, without, lowestOf, waits, withSet, taken, vacated, foremost, withScarce}
 use Rattle.verdict.specs.Waiting.{scarceBelow}
 
 -- ---- both, and without
@@ -110,8 +110,8 @@ by-device w s h = rw (le-ltb s maxJob h)
 waits-changed : (f : ℕ → ℕ → ℕ) (g : Bool → Bool → Bool) (w : Waiting) (s : ℕ)
     → ((t d : ℕ) → member t d ≡ waits w s → (e : ℕ) → member (f t d) e ≡ g (member t e) (eqb d e))
     → ((a : Bool) → a ≡ g a false) → (e : ℕ)
-    → waits (changed f w s) e ≡ g (waits w e) (eqb s e)
-unfolding changed
+    → waits (withSet f w s) e ≡ g (waits w e) (eqb s e)
+unfolding withSet
 waits-changed f g w s law keeps e = go (le-or-lt maxJob s) (le-or-lt maxJob e)
   where
     inJobs : Waiting
@@ -243,24 +243,24 @@ scarce-below counts (suc n) d h =
 
 pub taken-job : (w : Waiting) (s r : ℕ) → s < maxJob → r ≡ only s
     → _≡_ {A = Waiting} (record { ready = bitOr (w .ready) r; standing = w .standing; scarce = w .scarce }) (taken w s)
-unfolding taken changed union
+unfolding taken withSet union
 taken-job w s r h e = rw (lt-ltb s maxJob h, e)
 
 pub taken-device : (w : Waiting) (s r : ℕ) → maxJob ≤ s → r ≡ only (s - maxJob)
     → _≡_ {A = Waiting} (record { ready = w .ready; standing = bitOr (w .standing) r; scarce = w .scarce }) (taken w s)
-unfolding taken changed union
+unfolding taken withSet union
 taken-device w s r h e = rw (le-ltb s maxJob h, e)
 
 pub vacated-job : (w : Waiting) (s r : ℕ) → s < maxJob → r ≡ only s
     → _≡_ {A = Waiting} (record { ready = bitXor (w .ready) r; standing = w .standing; scarce = w .scarce })
     (vacated w s)
-unfolding vacated changed without
+unfolding vacated withSet without
 vacated-job w s r h e = rw (lt-ltb s maxJob h, e)
 
 pub vacated-device : (w : Waiting) (s r : ℕ) → maxJob ≤ s → r ≡ only (s - maxJob)
     → _≡_ {A = Waiting} (record { ready = w .ready; standing = bitXor (w .standing) r; scarce = w .scarce })
     (vacated w s)
-unfolding vacated changed without
+unfolding vacated withSet without
 vacated-device w s r h e = rw (le-ltb s maxJob h, e)
 
 pub foremost-job : (w : Waiting) (j : ℕ) → j ≡ lowestOf maxJob (w .ready) → j < maxJob → j ≡ foremost w

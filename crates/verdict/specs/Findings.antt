@@ -6,7 +6,6 @@ use mathlib.Core.Path.{_≡_}
 use Rattle.model.specs.Lists.{upFrom, firstOf}
 use Rattle.model.specs.Sets.{member}
 use Rattle.model.specs.Answers.{refuseAt, firstRefusal}
-use Rattle.model.specs.Rows.{leadsBack}
 use Rattle.model.specs.WellFormed.{fault}
 use Rattle.model.specs.Board.{devices}
 use Rattle.model.specs.declared.Refusal.{Refusal}

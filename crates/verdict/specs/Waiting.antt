@@ -1,22 +1,24 @@
--- The order handed out as the code keeps it (01, "The order handed out"). Each line that stands next waits at a place:
--- a lasting take at the place of its device, any other line at that of its job. The places taken are two sets, of jobs
--- and of devices, so the lowest is read off a word; a list says which line waits at each place. Takes still to do are
--- counted by device, and a third set has the devices that at most one of them takes.
-use Prim.Native.Nat.{ℕ, zero, suc, _+_, _-_, _<_, _≤_}
-use mathlib.Core.Bool.{Bool, true, cond, _&&_}
+-- The order handed out as the code keeps it (01, "The order handed out"). A job that goes on is followed line by line.
+-- Each other line that stands next waits at a place: a lasting take at the place of its device, any other line at that
+-- of its job. The places taken are two sets, of jobs and of devices, so the lowest is read off a word; a list says
+-- which line waits at each place. Takes still to do are counted by device, and a third set has the devices that at most
+-- one of them takes.
+use Prim.Native.Nat.{ℕ, zero, suc, _+_, _-_, _%_, _<_, _≤_}
+use mathlib.Core.Bool.{Bool, true, cond, not, _&&_}
 use mathlib.Core.List.{List, [], _∷_}
 use mathlib.Core.Option.{Option·getD, none}
 use mathlib.Core.Path.{_≡_}
 use lib.Bits.{bitAnd, bitXor}
 use lib.Dec.{eqb, leb, ltb}
 use lib.ListN.{length, getD, set, replicate}
-use Rattle.model.specs.Lists.{upFrom, firstOf}
+use Rattle.model.specs.Lists.{upFrom, any, those, firstOf}
 use Rattle.model.specs.Sets.{empty, only, union, member}
 use Rattle.model.specs.Line.{job, operand, isStart, at, firstLine, maxLines, maxJob}
 use Rattle.model.specs.Mate.{takesAt, deviceAt, lastingAt}
 use Rattle.model.specs.WellFormed.{fault}
 use Rattle.model.specs.Board.{devices}
 use Rattle.verdict.specs.declared.waiting.Waiting.{Waiting}
+use Rattle.verdict.specs.declared.order.Choice.{Choice}
 
 -- ---- what the code is told of a plan: its first lines by job, from 1, and its lasting takes
 
@@ -49,9 +51,9 @@ lowestOf D s = Option·getD (firstOf (member s) (upFrom 0 D)) D
 abbrev pub allPlaces : ℕ
 allPlaces = maxJob + devices
 
-unfoldable pub placeOf : List ℕ → ℕ → ℕ
+unfoldable pub placeAt : List ℕ → ℕ → ℕ
 unfolding lastingAt deviceAt job
-placeOf p i = cond (lastingAt p i) (maxJob + deviceAt p i) (job (at p i) - 1)
+placeAt p i = cond (lastingAt p i) (maxJob + deviceAt p i) (job (at p i) - 1)
 
 -- a line waits at place s
 unfoldable pub waits : Waiting → ℕ → Bool
@@ -59,61 +61,72 @@ unfolding member
 waits w s = cond (ltb s maxJob) (member (w .ready) s) (member (w .standing) (s - maxJob))
 
 -- a change of the set that has place s
-unfoldable pub changed : (ℕ → ℕ → ℕ) → Waiting → ℕ → Waiting
-changed f w s =
+unfoldable pub withSet : (ℕ → ℕ → ℕ) → Waiting → ℕ → Waiting
+withSet f w s =
     cond (ltb s maxJob)
     (record { ready = f (w .ready) s; standing = w .standing; scarce = w .scarce })
     (record { ready = w .ready; standing = f (w .standing) (s - maxJob); scarce = w .scarce })
 
 -- place s is taken; a place that is taken is left
 unfoldable pub taken : Waiting → ℕ → Waiting
-unfolding changed union only
-taken w s = changed (λ t d. union t (only d)) w s
+unfolding withSet union only
+taken w s = withSet (λ t d. union t (only d)) w s
 
 unfoldable pub vacated : Waiting → ℕ → Waiting
-unfolding changed without
-vacated w s = changed without w s
+unfolding withSet without
+vacated w s = withSet without w s
 
--- some lines come to stand next: the sets, and the list
+-- some lines come to their places: the sets, and the list
 unfoldable pub taking : List ℕ → Waiting → List ℕ → Waiting
-unfolding taken placeOf
+unfolding taken placeAt
 taking p w [] = w
-taking p w (i ∷ is) = taking p (taken w (placeOf p i)) is
+taking p w (i ∷ is) = taking p (taken w (placeAt p i)) is
 
 unfoldable pub placing : List ℕ → List ℕ → List ℕ → List ℕ
-unfolding placeOf
+unfolding placeAt
 placing p places [] = places
-placing p places (i ∷ is) = placing p (set places (placeOf p i) i) is
+placing p places (i ∷ is) = placing p (set places (placeAt p i) i) is
 
--- the place of the line that goes next: of the lowest job that can go on, otherwise of the lowest device of a lasting
--- take whose device no other line still takes
+-- the foremost place: of the lowest job that can go on, otherwise of the lowest device of a lasting take whose device
+-- no other line still takes
 unfoldable pub foremost : Waiting → ℕ
 unfolding lowestOf both
 foremost w =
     cond (ltb (lowestOf maxJob (w .ready)) maxJob) (lowestOf maxJob (w .ready))
     (maxJob + lowestOf devices (both (w .standing) (w .scarce)))
 
+-- the line that goes next, and the lines that wait beside it: line i where its job goes on, otherwise the foremost
+unfoldable pub choosing : List ℕ → Waiting → Bool → ℕ → Choice
+unfolding foremost vacated
+choosing places w on i =
+    cond on (record { line = i; others = w })
+    (record { line = getD places (foremost w) 0; others = vacated w (foremost w) })
+
 -- ---- the lines that a line lets stand next, of which there is at most one of each kind
 
--- the first line of a plan
-unfoldable pub opening : List ℕ → List ℕ
-opening p = cond (leb 1 (length p)) (0 ∷ []) []
-
--- the next line of the job of line i; the first line of the job that it starts
-unfoldable pub nextLine : List ℕ → ℕ → List ℕ
+-- the next line of the job of line i
+unfoldable pub nextInJob : List ℕ → ℕ → List ℕ
 unfolding job
-nextLine p i = cond (eqb (job (at p (suc i))) (job (at p i))) (suc i ∷ []) []
+nextInJob p i = cond (eqb (job (at p (suc i))) (job (at p i))) (suc i ∷ []) []
 
+-- the job goes on there, without a place, if that is no lasting take
+unfoldable pub goesOn : List ℕ → ℕ → Bool
+unfolding any nextInJob lastingAt
+goesOn p i = any (λ n. not (lastingAt p n)) (nextInJob p i)
+
+-- a lasting take comes to its place
+unfoldable pub lastingAfter : List ℕ → ℕ → List ℕ
+unfolding those nextInJob lastingAt
+lastingAfter p i = those (lastingAt p) (nextInJob p i)
+
+-- the first line of the job that line i starts
 unfoldable pub startedLine : List ℕ → ℕ → List ℕ
 unfolding isStart firstLine operand
 startedLine p i = cond (isStart (at p i)) (firstLine (operand (at p i)) p) []
 
 -- the list with these lines at their places
-abbrev pub firstPlaced : List ℕ → List ℕ → List ℕ
-firstPlaced p places = placing p places (opening p)
-
 abbrev pub nextPlaced : List ℕ → List ℕ → ℕ → List ℕ
-nextPlaced p places i = placing p places (nextLine p i)
+nextPlaced p places i = placing p places (lastingAfter p i)
 
 abbrev pub startedPlaced : List ℕ → List ℕ → ℕ → List ℕ
 startedPlaced p places i = placing p places (startedLine p i)
@@ -142,10 +155,11 @@ unfolding empty withScarce
 scarceBelow counts zero = empty
 scarceBelow counts (suc n) = withScarce (scarceBelow counts n) (getD counts n 0) n
 
--- where line i is a take, its device's count can rise, or fall, by one
+-- a take's device is one of the board, and whatever the verb, the count at the operand, below the devices, can rise
 abbrev pub CanRise : List ℕ → List ℕ → ℕ → Type 0
-CanRise p counts i = takesAt p i ≡ true → (deviceAt p i < devices) × (getD counts (deviceAt p i) 0 ≤ maxLines)
+CanRise p counts i = (takesAt p i ≡ true → deviceAt p i < devices) × (getD counts (at p i % devices) 0 ≤ maxLines)
 
+-- where line i is a take, its device's count can fall by one
 abbrev pub CanFall : List ℕ → List ℕ → ℕ → Type 0
 CanFall p counts i = takesAt p i ≡ true → (deviceAt p i < devices) × (1 ≤ getD counts (deviceAt p i) 0)
 
@@ -161,17 +175,12 @@ settled p counts w i =
     (record { ready = w .ready; standing = w .standing; scarce = union (w .scarce) (only (deviceAt p i)) })
     w
 
--- the sets after line i, which has left its place, is done
+-- the sets after line i, which waits at no place, is done
 unfoldable pub passed : List ℕ → List ℕ → Waiting → ℕ → Waiting
-unfolding taking settled nextLine startedLine
-passed p counts w i = taking p (taking p (settled p counts w i) (nextLine p i)) (startedLine p i)
+unfolding taking settled lastingAfter startedLine
+passed p counts w i = taking p (taking p (settled p counts w i) (lastingAfter p i)) (startedLine p i)
 
 -- and the list of the lines that wait
 unfoldable pub replaced : List ℕ → List ℕ → ℕ → List ℕ
-unfolding placing nextLine startedLine
-replaced p places i = placing p (placing p places (nextLine p i)) (startedLine p i)
-
--- no line waits yet
-unfoldable pub idle : ℕ → Waiting
-unfolding empty
-idle scarce = record { ready = empty; standing = empty; scarce = scarce }
+unfolding placing lastingAfter startedLine
+replaced p places i = placing p (placing p places (lastingAfter p i)) (startedLine p i)

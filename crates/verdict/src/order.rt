@@ -1,7 +1,9 @@
-// The order handed out (01), in constant work a line: each line that stands next waits at a place, which it leaves when
-// it is done; then the lines that it lets stand next come to theirs.
+// The order handed out (01), in constant work a line. A job goes on, without a look at the others, as long as its next
+// line is no lasting take: it stays the lowest that can go on, since a job starts only higher ones. Every other line
+// that stands next waits at a place, which it leaves to be done.
 use crate::waiting;
 use crate::waiting::Waiting;
+ghost use mathlib.Core.Bool.{false};
 ghost use mathlib.Core.Path.{_≡_};
 ghost use mathlib.Core.List.{map};
 ghost use mathlib.Core.Option.{none};
@@ -13,15 +15,21 @@ ghost use Rattle.model.specs.WellFormed.{fault};
 ghost use Rattle.model.specs.Handed.{handed};
 ghost use Rattle.model.specs.Verdict.{noOrder};
 ghost use Rattle.model.specs.Board.{devices};
-ghost use Rattle.verdict.specs.Waiting.{Marked, Told, allPlaces, placeOf, taken, taking, nextLine, startedLine};
-ghost use Rattle.verdict.specs.Waiting.{opening, firstPlaced, nextPlaced, startedPlaced, idle, passed, replaced};
-ghost use Rattle.verdict.specs.Waiting.{added, tallied, withScarce, scarceBelow, counted, settled};
+ghost use Rattle.verdict.specs.Waiting.{Marked, Told, allPlaces, placeAt, foremost, taken, taking, goesOn};
+ghost use Rattle.verdict.specs.Waiting.{lastingAfter, startedLine, nextPlaced, startedPlaced, passed, replaced};
+ghost use Rattle.verdict.specs.Waiting.{added, tallied, withScarce, scarceBelow, counted, settled, choosing};
 ghost use Rattle.verdict.specs.Waiting.{CanRise, CanFall};
+
+// The line that goes next, and the lines that wait beside it.
+struct Choice {
+    line: usize,
+    others: Waiting,
+}
 
 // The place of line `i`: a lasting take's is that of its device, past those of the jobs.
 fn place(plan: &[u32], lasting: &[u8; 1024], i: usize) -> usize
     requires { ⌜ Marked (now plan) (now lasting) × (i < length (now plan)) ⌝ }
-    ensures { λ r. ⌜ r ≡ placeOf (now (plan .entry)) i ⌝ }
+    ensures { λ r. ⌜ r ≡ placeAt (now (plan .entry)) i ⌝ }
 {
     let l = plan[i];
     if lasting[i] == 1 {
@@ -30,7 +38,7 @@ fn place(plan: &[u32], lasting: &[u8; 1024], i: usize) -> usize
     (l / 1024) as usize - 1
 }
 
-// Line `i` comes to stand next.
+// Line `i` comes to its place.
 fn arrive(
     plan: &[u32],
     lasting: &[u8; 1024],
@@ -40,15 +48,29 @@ fn arrive(
 ) -> Waiting
     requires { ⌜ Marked (now plan) (now lasting) × (i < length (now plan)) ⌝ }
     requires { ⌜ length (now places) ≡ allPlaces ⌝ }
-    ensures { λ r. ⌜ r ≡ taken w (placeOf (now (plan .entry)) i) ⌝ }
-    ensures { λ r. ⌜ now (places .exit) ≡ set (now (places .entry)) (placeOf (now (plan .entry)) i) i ⌝ }
+    ensures { λ r. ⌜ r ≡ taken w (placeAt (now (plan .entry)) i) ⌝ }
+    ensures { λ r. ⌜ now (places .exit) ≡ set (now (places .entry)) (placeAt (now (plan .entry)) i) i ⌝ }
 {
     let s = place(plan, lasting, i);
     places[s] = i;
     waiting::take_place(w, s)
 }
 
-// The next line of the job of line `i` comes to stand next, if there is one.
+// Does the job of line `i` go on after it, at a line that is no lasting take?
+fn goes_on(plan: &[u32], lasting: &[u8; 1024], i: usize) -> bool
+    requires { ⌜ Marked (now plan) (now lasting) × (i < length (now plan)) ⌝ }
+    ensures { λ r. ⌜ r ≡ goesOn (now (plan .entry)) i ⌝ }
+{
+    let n = i + 1;
+    if n < plan.len() {
+        if plan[n] / 1024 == plan[i] / 1024 {
+            return lasting[n] == 0;
+        }
+    }
+    false
+}
+
+// The next line of the job of line `i` comes to its place, if it is a lasting take.
 fn follow(
     plan: &[u32],
     lasting: &[u8; 1024],
@@ -58,19 +80,21 @@ fn follow(
 ) -> Waiting
     requires { ⌜ Marked (now plan) (now lasting) × (i < length (now plan)) ⌝ }
     requires { ⌜ length (now places) ≡ allPlaces ⌝ }
-    ensures { λ r. ⌜ r ≡ taking (now (plan .entry)) w (nextLine (now (plan .entry)) i) ⌝ }
+    ensures { λ r. ⌜ r ≡ taking (now (plan .entry)) w (lastingAfter (now (plan .entry)) i) ⌝ }
     ensures { λ r. ⌜ now (places .exit) ≡ nextPlaced (now (plan .entry)) (now (places .entry)) i ⌝ }
 {
     let n = i + 1;
     if n < plan.len() {
         if plan[n] / 1024 == plan[i] / 1024 {
-            return arrive(plan, lasting, places, w, n);
+            if lasting[n] == 1 {
+                return arrive(plan, lasting, places, w, n);
+            }
         }
     }
     w
 }
 
-// The first line of the job that line `i` starts comes to stand next, if it starts one.
+// The first line of the job that line `i` starts comes to its place, if it starts one.
 fn begin(
     plan: &[u32],
     first: &[u32; 65],
@@ -114,7 +138,7 @@ fn settle(plan: &[u32], counts: &mut [u32; 32], w: Waiting, i: usize) -> Waiting
     }
 }
 
-// Line `i`, which has left its place, is done.
+// Line `i`, which waits at no place, is done.
 fn pass(
     plan: &[u32],
     first: &[u32; 65],
@@ -136,35 +160,32 @@ fn pass(
     begin(plan, first, lasting, places, followed, i)
 }
 
-// The sets before the first line, which alone stands next.
-fn outset(plan: &[u32], lasting: &[u8; 1024], places: &mut [usize; 96], scarce: u32) -> Waiting
-    requires { ⌜ Marked (now plan) (now lasting) ⌝ }
-    requires { ⌜ length (now places) ≡ allPlaces ⌝ }
-    ensures { λ r. ⌜ r ≡ taking (now (plan .entry)) (idle scarce) (opening (now (plan .entry))) ⌝ }
-    ensures { λ r. ⌜ now (places .exit) ≡ firstPlaced (now (plan .entry)) (now (places .entry)) ⌝ }
+// The line that goes next: line `i` if its job goes on, otherwise the foremost of those that wait.
+fn choose(places: &[usize; 96], w: Waiting, on: bool, i: usize) -> Choice
+    requires { ⌜ (on ≡ false → foremost w < allPlaces) ⌝ }
+    ensures { λ r. ⌜ r ≡ choosing (now (places .entry)) w on i ⌝ }
 {
-    let idle = Waiting {
-        ready: 0,
-        standing: 0,
-        scarce,
-    };
-    if 0 < plan.len() {
-        return arrive(plan, lasting, places, idle, 0);
+    if on {
+        return Choice { line: i, others: w };
     }
-    idle
+    let s = waiting::foremost(w);
+    let line = places[s];
+    Choice {
+        line,
+        others: waiting::leave_place(w, s),
+    }
 }
 
-// Line `i` is counted, if it is a take.
+// Line `i` is counted, if it is a take; there is no branch on the verb here either.
 fn count(plan: &[u32], counts: &mut [u32; 32], i: usize)
     requires { ⌜ i < length (now plan) ⌝ }
     requires { ⌜ CanRise (now plan) (now counts) i ⌝ }
     ensures { λ r. ⌜ now (counts .exit) ≡ added (now (plan .entry)) (now (counts .entry)) i ⌝ }
 {
     let l = plan[i];
-    if l / 256 % 4 == 1 {
-        let d = (l % 256) as usize;
-        counts[d] += 1;
-    }
+    let takes = l / 256 % 4 == 1;
+    let d = (l % 32) as usize;
+    counts[d] += takes as u32;
 }
 
 // How many lines take each device.
@@ -213,21 +234,22 @@ pub fn hand_out(plan: &[u32], first: &[u32; 65], lasting: &[u8; 1024], order: &m
 {
     let mut places = [0usize; 96];
     let mut counts = tally(plan);
-    let mut w = outset(plan, lasting, &mut places, scarce(&counts));
+    let mut w = Waiting {
+        ready: 0,
+        standing: 0,
+        scarce: scarce(&counts),
+    };
+    // Line `i` goes next if `on`: at first line 0, and then the next line of a job that goes on.
+    let mut on = true;
+    let mut i: usize = 0;
     let mut k = 0;
     while k < plan.len() {
-        let s = waiting::foremost(w);
-        let i = places[s];
+        let c = choose(&places, w, on, i);
+        i = c.line;
         order[k] = (i + 1) as u16;
-        w = pass(
-            plan,
-            first,
-            lasting,
-            &mut places,
-            &mut counts,
-            waiting::leave_place(w, s),
-            i,
-        );
+        w = pass(plan, first, lasting, &mut places, &mut counts, c.others, i);
+        on = goes_on(plan, lasting, i);
+        i += 1;
         k += 1;
     }
 }

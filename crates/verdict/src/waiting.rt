@@ -1,4 +1,4 @@
-// The lines that stand next, each at its place: two words, so that the place that goes next is read off them.
+// The lines that wait, each at its place: two words, so that the place that goes next is read off them.
 ghost use mathlib.Core.Path.{_≡_};
 ghost use Prim.Native.Nat.{_<_};
 ghost use Rattle.model.specs.Line.{maxJob};
@@ -6,8 +6,8 @@ ghost use Rattle.model.specs.Board.{devices};
 ghost use Rattle.model.specs.Sets.{only};
 ghost use Rattle.verdict.specs.Waiting.{allPlaces, lowestOf, taken, vacated, foremost};
 
-// The lines that stand next: the jobs that can go on, the devices at whose lasting takes jobs stand, and the devices
-// that at most one line still to do takes.
+// The lines that wait: the jobs that can go on, the devices at whose lasting takes jobs stand, and the devices that at
+// most one line still to do takes.
 pub struct Waiting {
     pub ready: u64,
     pub standing: u32,
@@ -75,7 +75,7 @@ pub fn leave_place(w: Waiting, s: usize) -> Waiting
     }
 }
 
-// The place of the line that goes next.
+// The place of the line that goes next, of those that wait.
 pub fn foremost(w: Waiting) -> usize
     ensures { λ r. ⌜ r ≡ foremost w ⌝ }
 {

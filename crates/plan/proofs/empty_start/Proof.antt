@@ -3,14 +3,10 @@ use mathlib.Core.Path.{_≡_, refl, sym, ap, _∙_}
 use Prim.Native.Nat.{ℕ, _+_, _-_, _≤_}
 use native.Mathlib.Omega.{arith}
 use borrow.Author.Needs.{needs}
-use lib.ListN.{getD}
 use Rattle.plan.specs.Ends.{emptyFrom}
 use Rattle.plan.proofs.LastTests.{empty-on, empty-end}
 use Rattle.plan.proofs.empty_start.Statement.{statement}
 use Rattle.plan.proofs.empty_start.Tie as tie
-use Rattle.plan.proofs.empty_start.Reads as reads
-use Rattle.plan.proofs.empty_start.Lts as lts
-use Rattle.plan.proofs.lower.Reads as lower-reads
 
 abbrev Inv-loop : tie.InvT-loop
 Inv-loop first starter low₀ j₀ low j = (j ≤ 65)

@@ -1,16 +1,8 @@
 -- `plan::ends` meets its contract: the tests pick the case of `endsBy`.
-use mathlib.Core.Path.{_≡_, sym, ap, ap₂, _∙_}
-use Prim.Native.Nat.{ℕ}
-use borrow.Author.Tests.{ne-eqb}
-use Rattle.plan.specs.Ends.{emptyFrom, neverFrom, endsBy, endsOf}
 use Rattle.plan.proofs.LastTests.{empty-ends, never-ends, all-ends}
 use borrow.Author.Needs.{needs}
 use Rattle.plan.proofs.ends.Statement.{statement}
 use Rattle.plan.proofs.ends.Tie as tie
-use Rattle.plan.proofs.ends.Reads as reads
-use Rattle.plan.proofs.ends.Lts as lts
-use Rattle.plan.proofs.empty_start.Reads as empty-start-reads
-use Rattle.plan.proofs.never_started.Reads as never-started-reads
 
 -- src/lib.rt:253:9
 empty-start-requires : tie.Need-empty-start-requires

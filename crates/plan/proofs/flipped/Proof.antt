@@ -1,5 +1,5 @@
 -- `plan::flipped` meets its contract: a shift by less than the width loses nothing, and nought turns nothing.
-use mathlib.Core.Path.{_≡_, refl, ap, _∙_}
+use mathlib.Core.Path.{_≡_, ap, _∙_}
 use mathlib.Core.Bool.{Bool, true, false, cond}
 use Prim.Native.Nat.{ℕ, _*_, _^_, _%_, _<_}
 use native.Mathlib.Omega.{arith}

@@ -14,11 +14,6 @@ use Rattle.plan.proofs.Lines.{device-operand}
 use Rattle.plan.proofs.Stacks.{none-held, few, breaks, again, unmatched, given-deep, goes-on}
 use Rattle.plan.proofs.held_after.Statement.{statement}
 use Rattle.plan.proofs.held_after.Tie as tie
-use Rattle.plan.proofs.held_after.Reads as reads
-use Rattle.plan.proofs.held_after.Lts as lts
-use Rattle.plan.proofs.deeper.Reads as deeper-reads
-use Rattle.plan.proofs.flipped.Reads as flipped-reads
-use Rattle.plan.proofs.holds.Reads as holds-reads
 
 -- the test with what `holds` answered in the set's place
 tested : (k o depth held : ℕ) (stack : List ℕ) (r t : Bool) → r ≡ member held (o % 32)

@@ -3,9 +3,6 @@ use Rattle.plan.proofs.Whole.{none-yet, answered, checked-is}
 use borrow.Author.Needs.{needs}
 use Rattle.plan.proofs.lines_fault.Statement.{statement}
 use Rattle.plan.proofs.lines_fault.Tie as tie
-use Rattle.plan.proofs.lines_fault.Reads as reads
-use Rattle.plan.proofs.lines_fault.Lts as lts
-use Rattle.plan.proofs.walk.Reads as walk-reads
 
 -- src/lib.rt:185:5
 walk-requires : tie.Need-walk-requires

@@ -1,10 +1,7 @@
 -- `plan::lower` meets its contract: at each return the tests that led there pick the case of `lowerOf`.
-use native.Mathlib.Omega.{arith}
 use Rattle.plan.proofs.LastTests.{has-lines, not-started, first-found, lower-found, not-lower}
 use Rattle.plan.proofs.lower.Statement.{statement}
 use Rattle.plan.proofs.lower.Tie as tie
-use Rattle.plan.proofs.lower.Reads as reads
-use Rattle.plan.proofs.lower.Lts as lts
 
 -- src/lib.rt:194:9
 returns : tie.Need-returns

@@ -6,14 +6,11 @@ use borrow.Author.Needs.{needs}
 use lib.ListN.{length, drop}
 use Rattle.model.specs.Line.{job, at}
 use Rattle.model.specs.Mate.{mate, mateIn}
-use Rattle.plan.specs.Checked.{found, turnOf}
+use Rattle.plan.specs.Checked.{found}
 use Rattle.plan.proofs.Mates.{mate-past, search-end, search-foreign, search-found, search-on, turn-near}
 use Rattle.plan.proofs.Mates.{mate-start}
 use Rattle.plan.proofs.mate.Statement.{statement}
 use Rattle.plan.proofs.mate.Tie as tie
-use Rattle.plan.proofs.mate.Reads as reads
-use Rattle.plan.proofs.mate.Lts as lts
-use Rattle.plan.proofs.turned.Reads as turned-reads
 
 abbrev Inv-loop : tie.InvT-loop
 Inv-loop plan i j depth₀ k₀ depth k =

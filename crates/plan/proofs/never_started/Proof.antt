@@ -1,15 +1,12 @@
 -- `plan::never_started` meets its contract: the whole answer is that of the jobs not yet passed.
 use mathlib.Core.Path.{_≡_, refl, sym, _∙_}
-use Prim.Native.Nat.{_+_, _-_, _≤_}
+use Prim.Native.Nat.{_-_, _≤_}
 use native.Mathlib.Omega.{arith}
 use borrow.Author.Needs.{needs}
 use Rattle.plan.specs.Ends.{neverFrom}
 use Rattle.plan.proofs.LastTests.{never-here, never-on, never-end}
 use Rattle.plan.proofs.never_started.Statement.{statement}
 use Rattle.plan.proofs.never_started.Tie as tie
-use Rattle.plan.proofs.never_started.Reads as reads
-use Rattle.plan.proofs.never_started.Lts as lts
-use Rattle.plan.proofs.unstarted.Reads as unstarted-reads
 
 abbrev Inv-loop : tie.InvT-loop
 Inv-loop first starter j₀ j = (j ≤ 65) × (neverFrom first starter 2 63 ≡ neverFrom first starter j (65 - j))

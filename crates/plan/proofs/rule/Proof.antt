@@ -9,9 +9,6 @@ use Rattle.plan.proofs.Lines.{start-operand}
 use Rattle.plan.proofs.Stacks.{none-held}
 use Rattle.plan.proofs.rule.Statement.{statement}
 use Rattle.plan.proofs.rule.Tie as tie
-use Rattle.plan.proofs.rule.Reads as reads
-use Rattle.plan.proofs.rule.Lts as lts
-use Rattle.plan.proofs.held_after.Reads as held-after-reads
 
 held-after-requires : tie.Need-held-after-requires
 unfolding kind

@@ -5,10 +5,6 @@ use Rattle.plan.proofs.Scans.{at-a-line, after-the-lines, sound}
 use borrow.Author.Needs.{needs}
 use Rattle.plan.proofs.scan.Statement.{statement}
 use Rattle.plan.proofs.scan.Tie as tie
-use Rattle.plan.proofs.scan.Reads as reads
-use Rattle.plan.proofs.scan.Lts as lts
-use Rattle.plan.proofs.ends.Reads as ends-reads
-use Rattle.plan.proofs.walk.Reads as walk-reads
 
 -- src/lib.rt:270:34
 walk-requires : tie.Need-walk-requires

@@ -4,8 +4,6 @@ use Rattle.plan.proofs.Mates.{take-turn, end-turn, give-turn, level-tur
 use borrow.Author.Needs.{needs}
 use Rattle.plan.proofs.turned.Statement.{statement}
 use Rattle.plan.proofs.turned.Tie as tie
-use Rattle.plan.proofs.turned.Reads as reads
-use Rattle.plan.proofs.turned.Lts as lts
 
 -- src/lib.rt:303:27
 add-t6 : tie.Need-add-t6

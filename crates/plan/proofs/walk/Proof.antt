@@ -2,7 +2,6 @@
 use mathlib.Core.Path.{_≡_, refl, sym, ap, _∙_}
 use mathlib.Core.List.{List, []}
 use Prim.Native.Nat.{ℕ, _≤_, _-_}
-use native.Mathlib.Omega.{arith}
 use borrow.Author.Needs.{needs}
 use lib.ListN.{length, drop, getD}
 use Rattle.model.specs.Line.{job}
@@ -14,9 +13,6 @@ use Rattle.plan.proofs.Steps.{walk-end, walk-on, walk-bad, on-line}
 use Rattle.plan.proofs.Stacks.{none-held}
 use Rattle.plan.proofs.walk.Statement.{statement}
 use Rattle.plan.proofs.walk.Tie as tie
-use Rattle.plan.proofs.walk.Reads as reads
-use Rattle.plan.proofs.walk.Lts as lts
-use Rattle.plan.proofs.line.Reads as line-reads
 
 record State (n i depth held prev : ℕ) (stack first starter : List ℕ) : Type 0 where
   at-most : i ≤ n

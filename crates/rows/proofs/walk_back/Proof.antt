@@ -1,5 +1,4 @@
 -- `rows::walk_back` meets its contract: what is found so far is that of the lines from line i on.
-use Prim.Native.Nat.{_-_}
 use borrow.Author.Needs.{needs}
 use Rattle.model.specs.Line.{job}
 use Rattle.rows.proofs.Walked.{Walked, none-walked, in-plan, in-board, is-line, few-wanted, on-board, one-walked}

@@ -1,5 +1,4 @@
 -- `rows::wanted_before` meets its contract, case by case.
-use Prim.Native.Nat.{_-_}
 use native.Mathlib.Numerals.{add-one}
 use Rattle.rows.specs.Lasting.{wantedBefore}
 use Rattle.rows.proofs.Verbs.{takes-1, takes-not, gives-2, gives-not}

@@ -1,5 +1,5 @@
 -- `screen::fits` meets its contract: all fit exactly if the rest fits into what is left.
-use Prim.Native.Nat.{_-_, _≤_, _+_}
+use Prim.Native.Nat.{_-_, _≤_}
 use mathlib.Core.Path.{_≡_, sym, _∙_}
 use native.Mathlib.Omega.{arith}
 use lib.Dec.{leb}

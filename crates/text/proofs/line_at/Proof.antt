@@ -6,12 +6,13 @@ use native.Mathlib.Omega.{arith}
 use lib.ListN.{drop}
 use borrow.Author.Needs.{needs}
 use Rattle.model.specs.Board.{devices}
+use Rattle.model.specs.Line.{isStep}
 use Rattle.model.specs.Text.{tab, newline}
-use Rattle.theory.proofs.Line.{step-parts}
 use Rattle.text.specs.Scan.{fieldAt, verbAt}
 use Rattle.text.specs.declared.Field.{Field}
 use Rattle.text.specs.declared.Verb.{Verb}
-use Rattle.text.proofs.Steps.{line-no-job, line-no-verb, line-no-operand, line-no-step, line-step}
+use Rattle.text.proofs.Steps.{packed-step, line-no-job, line-no-verb, line-no-operand, line-no-step}
+use Rattle.text.proofs.Steps.{line-step}
 use Rattle.text.proofs.Scanned.{field-sound, verb-sound}
 use Rattle.text.proofs.line_at.Statement.{statement}
 use Rattle.text.proofs.line_at.Tie as tie
@@ -63,14 +64,23 @@ operand-read : (c : tie.After-known-told3)
 operand-read c = sym (c .before .before .before .field-at2 .ensures) ∙ c .before .o .given .1
 
 -- the ranges in which they were read
-small : (c : tie.After-known-told3) → (kind-of (verb-before c) < 4) × (operand-of c ≤ 255)
+small : (c : tie.After-known-told3) → (job-of (job-before (verb-before c)) ≤ 255) × (kind-of (verb-before c) < 4)
+    × (operand-of c ≤ 255)
 small c =
     let v = verb-before c in
     let j = job-before v in (
+      field-sound tab (from-of j) (drop (from-of j) (text-of j)) (job-of j) (past-job j) (job-read j) .small,
       verb-sound (past-job j) (drop (past-job j) (text-of j)) (kind-of v) (past-verb v) (verb-read v) .small,
       field-sound newline (past-verb v) (drop (past-verb v) (text-of j)) (operand-of c) (past-operand c)
           (operand-read c) .small,
     )
+
+-- the packed number is a line's exactly if they are
+step-of : (c : tie.After-is-line)
+    → isStep devices (job-of (job-before (verb-before (c .before)))) (kind-of (verb-before (c .before)))
+    (operand-of (c .before))
+    ≡ c .is-line .result
+step-of c = sym (c .is-line .ensures ∙ packed-step devices _ _ _ (small (c .before) .1) (small (c .before) .2))
 
 field-at-requires : tie.Need-field-at-requires
 field-at-requires c κs = search needs
@@ -117,33 +127,20 @@ returns-3 c =
     line-no-operand devices (text-of j) (from-of j) (job-of j) (past-job j) (job-read j) (kind-of v) (past-verb v)
     (verb-read v) (sym (c .before .before .field-at2 .ensures) ∙ c .enum-told3 .given .1)
 
-is-step-requires : tie.Need-is-step-requires
-is-step-requires c κs = small c
+mul-n : tie.Need-mul-n
+mul-n c = omega (arith, small c)
 
--- the packed number fits
-step-small : (c : tie.Then1) → (job-of (job-before (verb-before (c .before .before))) ≤ 64)
-    × (kind-of (verb-before (c .before .before)) < 4)
-    × (operand-of (c .before .before) ≤ 255)
-step-small c =
-    let o = c .before .before in
-    let v = verb-before o in
-    let j = job-before v in (
-      step-parts devices (job-of j) (kind-of v) (operand-of o) (sym (c .before .is-step .ensures) ∙ c .if1 .taken) .1,
-      small o .0,
-      small o .1,
-    )
+mul-n-2 : tie.Need-mul-n-2
+mul-n-2 c = omega (arith, small c)
 
-mul-t13 : tie.Need-mul-t13
-mul-t13 c = omega (arith, step-small c)
+add-n : tie.Need-add-n
+add-n c = omega (arith, small c)
 
-mul-t14 : tie.Need-mul-t14
-mul-t14 c = omega (arith, step-small c)
+add-n-2 : tie.Need-add-n-2
+add-n-2 c = omega (arith, small c)
 
-add-t15 : tie.Need-add-t15
-add-t15 c = omega (arith, step-small c)
-
-add-t16 : tie.Need-add-t16
-add-t16 c = omega (arith, step-small c)
+is-line-requires : tie.Need-is-line-requires
+is-line-requires c κs = search needs
 
 returns-4 : tie.Need-returns-4
 returns-4 c =
@@ -151,7 +148,7 @@ returns-4 c =
     let v = verb-before o in
     let j = job-before v in
     line-step devices (text-of j) (from-of j) (job-of j) (past-job j) (job-read j) (kind-of v) (past-verb v)
-    (verb-read v) (operand-of o) (past-operand o) (operand-read o) (sym (c .before .is-step .ensures) ∙ c .if1 .taken)
+    (verb-read v) (operand-of o) (past-operand o) (operand-read o) (step-of (c .before) ∙ c .if1 .taken)
 
 returns-5 : tie.Need-returns-5
 returns-5 c =
@@ -159,7 +156,7 @@ returns-5 c =
     let v = verb-before o in
     let j = job-before v in
     line-no-step devices (text-of j) (from-of j) (job-of j) (past-job j) (job-read j) (kind-of v) (past-verb v)
-    (verb-read v) (operand-of o) (past-operand o) (operand-read o) (sym (c .before .is-step .ensures) ∙ c .if1 .left)
+    (verb-read v) (operand-of o) (past-operand o) (operand-read o) (step-of (c .before) ∙ c .if1 .left)
 
 pub line-at-spec : {M : Type 1} → statement M
 line-at-spec =
@@ -177,10 +174,10 @@ line-at-spec =
     enum-known-o
     enum-told-3
     returns-3
-    is-step-requires
-    mul-t13
-    mul-t14
-    add-t15
-    add-t16
+    mul-n
+    mul-n-2
+    add-n
+    add-n-2
+    is-line-requires
     returns-4
     returns-5)

@@ -1,143 +1,139 @@
--- `text::verb_at` meets its contract: the first verb that stands at the place decides.
-use mathlib.Core.Bool.{true}
-use mathlib.Core.Path.{_≡_, sym, _∙_}
+-- `text::verb_at` meets its contract: what it asks of the eight bytes is whether the verb stands there.
+use mathlib.Core.Bool.{not}
+use mathlib.Core.Path.{sym, _∙_, ap}
+use Prim.Native.Nat.{ℕ, _*_, _^_, _%_, _<_}
 use native.Mathlib.Omega.{arith}
-use lib.ListN.{drop, length-drop}
+use lib.Dec.{eqb}
+use lib.ListN.{getD}
 use borrow.Author.Needs.{needs}
-use Rattle.model.specs.Text.{verb}
-use Rattle.text.proofs.Steps.{word-fits, verb-do, verb-take, verb-give, verb-start, verb-none}
-use Rattle.text.specs.Scan.{wordAt}
+use Rattle.text.proofs.Verbs.{kindBy, below, below-small, bit-small, AskedAt, verb-found, verb-room}
+use Rattle.text.proofs.Verbs.{verb-wrong, verb-past-end}
 use Rattle.text.proofs.verb_at.Statement.{statement}
 use Rattle.text.proofs.verb_at.Tie as tie
 
-slice-aggregate-is-word : tie.Need-slice-aggregate-is-word
-slice-aggregate-is-word c = search needs
-
-is-word-requires : tie.Need-is-word-requires
-is-word-requires c κs = search needs
-
-add-t10 : tie.Need-add-t10
-unfolding verb
-add-t10 c =
-    let a = c .before .before .before .before .args in
-    let s = drop (a .at) (a .text .now) in
-    let e : wordAt (verb 0) s ≡ true = sym (c .before .is-word .ensures) ∙ c .if1 .taken in
-    omega (arith, word-fits (verb 0) s e, length-drop (a .at) (a .text .now))
-
 returns : tie.Need-returns
-unfolding verb
 returns c =
+    let a = c .before .before .args in verb-past-end (a .at) (a .text .now) (c .if1 .taken)
+
+shared-slice-read-b : tie.Need-shared-slice-read-b
+shared-slice-read-b c = search needs
+
+cast-b : tie.Need-cast-b
+cast-b c =
+    omega (arith, c .shared-slice-known2 .given (c .before .before .before .args .at))
+
+mul-k : tie.Need-mul-k
+mul-k c = search needs
+
+add-k : tie.Need-add-k
+add-k c = search needs
+
+eight-requires : tie.Need-eight-requires
+eight-requires c κs = search needs
+
+cast-spelt : tie.Need-cast-spelt
+cast-spelt c = search needs
+
+mul-spelt : tie.Need-mul-spelt
+mul-spelt c = search needs
+
+array-read-spelt : tie.Need-array-read-spelt
+array-read-spelt c = search needs
+
+cast-spelt-2 : tie.Need-cast-spelt-2
+cast-spelt-2 c =
     let a = c .before .before .before .before .args in
-    verb-do (a .at) (drop (a .at) (a .text .now))
-    (sym (c .before .is-word .ensures) ∙ c .if1 .taken)
+    omega (arith, below-small (kindBy (getD (a .text .now) (a .at) 0)))
 
-slice-aggregate-is-word-2 : tie.Need-slice-aggregate-is-word-2
-slice-aggregate-is-word-2 c = search needs
+shl-spelt : tie.Need-shl-spelt
+shl-spelt c =
+    let a = c .before .before .before .before .args in below-small (kindBy (getD (a .text .now) (a .at) 0))
 
-is-word-requires-2 : tie.Need-is-word-requires-2
-is-word-requires-2 c κs = search needs
+cast-if2 : tie.Need-cast-if2
+cast-if2 c = search needs
 
-add-t14 : tie.Need-add-t14
-unfolding verb
-add-t14 c =
-    let a = c .before .before .before .before .before .before .before .args in
-    let s = drop (a .at) (a .text .now) in
-    let e : wordAt (verb 1) s ≡ true = sym (c .before .is-word2 .ensures) ∙ c .if2 .taken in
-    omega (arith, word-fits (verb 1) s e, length-drop (a .at) (a .text .now))
+mul-if2 : tie.Need-mul-if2
+mul-if2 c = search needs
+
+array-read-if2 : tie.Need-array-read-if2
+array-read-if2 c = search needs
+
+cast-past : tie.Need-cast-past
+cast-past c = search needs
+
+mul-past : tie.Need-mul-past
+mul-past c =
+    let a = c .before .before .before .before .before .args in
+    let b = getD (a .text .now) (a .at) 0 in
+    omega (arith, bit-small (not (eqb b 100)))
+
+add-past : tie.Need-add-past
+add-past c =
+    let a = c .before .before .before .before .before .args in
+    let b = getD (a .text .now) (a .at) 0 in
+    omega (arith, bit-small (not (eqb b 100)))
+
+cast-past-2 : tie.Need-cast-past-2
+cast-past-2 c = search needs
+
+add-past-2 : tie.Need-add-past-2
+add-past-2 c =
+    let a = c .before .before .before .before .before .args in
+    let b = getD (a .text .now) (a .at) 0 in
+    omega (arith, bit-small (not (eqb b 100)), bit-small (eqb b 115))
+
+-- its elements are bytes
+bytes : (c : tie.After-shared-slice-known2) (i : ℕ) → getD (c .before .before .before .args .text .now) i 0 < 256
+bytes c i = omega (arith, c .shared-slice-known2 .given i)
+
+-- what was asked, at this text
+asked : (c : tie.Then2) → AskedAt (c .before .before .before .before .before .args .at)
+    (c .before .before .before .before .before .args .text .now)
+asked c =
+    let a = c .before .before .before .before .before .args in
+    ap (λ (y : ℕ). y * 2 ^ below (kindBy (getD (a .text .now) (a .at) 0)) % 2 ^ 64) (sym (c .before .eight .ensures))
+    ∙ c .if2 .taken
+
+add-t25 : tie.Need-add-t25
+add-t25 c =
+    let a = c .before .before .before .before .before .args in
+    omega (arith, verb-room (a .at) (a .text .now) (bytes (c .before .before)) (asked c))
 
 returns-2 : tie.Need-returns-2
-unfolding verb
 returns-2 c =
-    let t1 = c .before .before .before in
-    let a = t1 .before .before .before .before .args in
-    verb-take (a .at) (drop (a .at) (a .text .now))
-    (sym (t1 .before .is-word .ensures) ∙ t1 .if1 .left)
-    (sym (c .before .is-word2 .ensures) ∙ c .if2 .taken)
-
-slice-aggregate-is-word-3 : tie.Need-slice-aggregate-is-word-3
-slice-aggregate-is-word-3 c = search needs
-
-is-word-requires-3 : tie.Need-is-word-requires-3
-is-word-requires-3 c κs = search needs
-
-add-t18 : tie.Need-add-t18
-unfolding verb
-add-t18 c =
-    let a = c .before .before .before .before .before .before .before .before .before .before .args in
-    let s = drop (a .at) (a .text .now) in
-    let e : wordAt (verb 2) s ≡ true = sym (c .before .is-word3 .ensures) ∙ c .if3 .taken in
-    omega (arith, word-fits (verb 2) s e, length-drop (a .at) (a .text .now))
+    let a = c .before .before .before .before .before .args in
+    verb-found (a .at) (a .text .now) (bytes (c .before .before)) (asked c)
 
 returns-3 : tie.Need-returns-3
-unfolding verb
 returns-3 c =
-    let t2 = c .before .before .before in
-    let t1 = t2 .before .before .before in
-    let a = t1 .before .before .before .before .args in
-    verb-give (a .at) (drop (a .at) (a .text .now))
-    (sym (t1 .before .is-word .ensures) ∙ t1 .if1 .left)
-    (sym (t2 .before .is-word2 .ensures) ∙ t2 .if2 .left)
-    (sym (c .before .is-word3 .ensures) ∙ c .if3 .taken)
-
-slice-aggregate-is-word-4 : tie.Need-slice-aggregate-is-word-4
-slice-aggregate-is-word-4 c = search needs
-
-is-word-requires-4 : tie.Need-is-word-requires-4
-is-word-requires-4 c κs = search needs
-
-add-t22 : tie.Need-add-t22
-unfolding verb
-add-t22 c =
-    let t1 = c .before .before .before .before .before .before .before .before .before in
-    let a = t1 .before .before .before .before .args in
-    let s = drop (a .at) (a .text .now) in
-    let e : wordAt (verb 3) s ≡ true = sym (c .before .is-word4 .ensures) ∙ c .if4 .taken in
-    omega (arith, word-fits (verb 3) s e, length-drop (a .at) (a .text .now))
-
-returns-4 : tie.Need-returns-4
-unfolding verb
-returns-4 c =
-    let t3 = c .before .before .before in
-    let t2 = t3 .before .before .before in
-    let t1 = t2 .before .before .before in
-    let a = t1 .before .before .before .before .args in
-    verb-start (a .at) (drop (a .at) (a .text .now))
-    (sym (t1 .before .is-word .ensures) ∙ t1 .if1 .left)
-    (sym (t2 .before .is-word2 .ensures) ∙ t2 .if2 .left)
-    (sym (t3 .before .is-word3 .ensures) ∙ t3 .if3 .left)
-    (sym (c .before .is-word4 .ensures) ∙ c .if4 .taken)
-
-returns-5 : tie.Need-returns-5
-unfolding verb
-returns-5 c =
-    let t3 = c .before .before .before in
-    let t2 = t3 .before .before .before in
-    let t1 = t2 .before .before .before in
-    let a = t1 .before .before .before .before .args in
-    verb-none (a .at) (drop (a .at) (a .text .now))
-    (sym (t1 .before .is-word .ensures) ∙ t1 .if1 .left)
-    (sym (t2 .before .is-word2 .ensures) ∙ t2 .if2 .left)
-    (sym (t3 .before .is-word3 .ensures) ∙ t3 .if3 .left)
-    (sym (c .before .is-word4 .ensures) ∙ c .if4 .left)
+    let a = c .before .before .before .before .before .args in
+    verb-wrong (a .at) (a .text .now) (bytes (c .before .before))
+    (λ e. c .if2 .left
+    (ap (λ (y : ℕ). y * 2 ^ below (kindBy (getD (a .text .now) (a .at) 0)) % 2 ^ 64) (c .before .eight .ensures) ∙ e))
 
 pub verb-at-spec : {M : Type 1} → statement M
 verb-at-spec =
     tie.close
     (tie.spec
-    slice-aggregate-is-word
-    is-word-requires
-    add-t10
     returns
-    slice-aggregate-is-word-2
-    is-word-requires-2
-    add-t14
+    shared-slice-read-b
+    cast-b
+    mul-k
+    add-k
+    eight-requires
+    cast-spelt
+    mul-spelt
+    array-read-spelt
+    cast-spelt-2
+    shl-spelt
+    cast-if2
+    mul-if2
+    array-read-if2
+    cast-past
+    mul-past
+    add-past
+    cast-past-2
+    add-past-2
+    add-t25
     returns-2
-    slice-aggregate-is-word-3
-    is-word-requires-3
-    add-t18
-    returns-3
-    slice-aggregate-is-word-4
-    is-word-requires-4
-    add-t22
-    returns-4
-    returns-5)
+    returns-3)

@@ -1,17 +1,8 @@
 -- `verdict::barred` meets its contract: each number tells whether its set has a device.
-use Prim.Native.Nat.{ℕ}
-use mathlib.Core.Option.{none}
-use mathlib.Core.Path.{_≡_}
-use Rattle.rows.specs.Where.{circlesOf}
-use Rattle.verdict.specs.Findings.{lowestIn}
 use Rattle.verdict.proofs.Findings.{lowest-found, none-found, twice-bars, circle-bars, not-barred}
 use borrow.Author.Needs.{needs}
 use Rattle.verdict.proofs.barred.Statement.{statement}
 use Rattle.verdict.proofs.barred.Tie as tie
-use Rattle.verdict.proofs.barred.Reads as reads
-use Rattle.verdict.proofs.barred.Lts as lts
-use Rattle.rows.proofs.circles.Reads as circles-reads
-use Rattle.sets.proofs.lowest.Reads as lowest-reads
 
 -- src/lib.rt:21:9
 lowest-requires : tie.Need-lowest-requires

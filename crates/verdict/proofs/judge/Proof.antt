@@ -12,11 +12,6 @@ use Rattle.verdict.proofs.Outcome.{short, without-order, ordered}
 use borrow.Author.Needs.{needs}
 use Rattle.verdict.proofs.judge.Statement.{statement}
 use Rattle.verdict.proofs.judge.Tie as tie
-use Rattle.verdict.proofs.judge.Reads as reads
-use Rattle.verdict.proofs.judge.Lts as lts
-use Rattle.sets.proofs.count.Reads as count-reads
-use Rattle.verdict.proofs.barred.Reads as barred-reads
-use Rattle.verdict.proofs.order.hand_out.Reads as hand-out-reads
 
 -- src/lib.rt:48:61
 cast-t12 : tie.Need-cast-t12

@@ -5,10 +5,6 @@ use Rattle.verdict.proofs.Outcome.{faulty}
 use borrow.Author.Needs.{needs}
 use Rattle.verdict.proofs.verdict.Statement.{statement}
 use Rattle.verdict.proofs.verdict.Tie as tie
-use Rattle.verdict.proofs.verdict.Reads as reads
-use Rattle.verdict.proofs.verdict.Lts as lts
-use Rattle.rows.proofs.holds.Reads as holds-reads
-use Rattle.verdict.proofs.judge.Reads as judge-reads
 
 -- src/lib.rt:65:11
 holds-requires : tie.Need-holds-requires

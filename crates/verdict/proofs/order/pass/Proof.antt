@@ -1,5 +1,5 @@
 -- `verdict::order::pass` meets its contract: its three steps one after the other.
-use Rattle.verdict.specs.Waiting.{nextLine}
+use Rattle.verdict.specs.Waiting.{lastingAfter}
 use Rattle.verdict.proofs.Steps.{passes, placed-length}
 use borrow.Author.Needs.{needs}
 use Rattle.verdict.proofs.order.pass.Statement.{statement}
@@ -16,7 +16,7 @@ begin-requires c κs =
     let s = c .before .before .before .before .before .before in (
       s .pre .0,
       placed-length (s .args .plan .now) (s .args .places .now) (c .before .follow .last .1 .1 .0)
-          (nextLine (s .args .plan .now) (s .args .i)) (c .before .follow .ensures .1) (s .pre .1 .0),
+          (lastingAfter (s .args .plan .now) (s .args .i)) (c .before .follow .ensures .1) (s .pre .1 .0),
     )
 
 returns : tie.Need-returns

@@ -1,0 +1,93 @@
+-- The words in which theory says what moves do (01, "Moving a claim"): why one is refused, what it leaves, and the same
+-- of any list of moves. What is claimed of moves is claimed in these words, so they are read like those of `model`.
+use Prim.Native.Nat.{ℕ, suc, _<_, _≤_}
+use mathlib.Core.Bool.{true, false, cond}
+use mathlib.Core.List.{List, [], _∷_, _++_}
+use mathlib.Core.Option.{none, some}
+use mathlib.Core.Path.{_≡_}
+use lib.Dec.{eqb}
+use lib.ListN.{length, getD, drop}
+use Rattle.model.specs.Lists.{has}
+use Rattle.model.specs.Answers.{numberOf}
+use Rattle.model.specs.WellFormed.{fault}
+use Rattle.model.specs.Claims.{table}
+use Rattle.model.specs.Move.{edited, way, askedAt, isTakeOf}
+use Rattle.model.specs.Entries.{MoveOutcome, moving, judging}
+use Rattle.model.specs.declared.Refusal.{Refusal}
+use Rattle.model.specs.declared.Refusal.the-variants.{NotATake, NoSuchDevice}
+use Rattle.model.specs.declared.MoveAnswer.{MoveAnswer}
+
+-- ---- one move
+
+-- why a move from a plan without a fault and its own table is refused: 12, 13 or 8
+pub data Refused (D : ℕ) (p : List ℕ) (line device : ℕ) : Refusal → Type 0 where
+  notATake : isTakeOf p line ≡ false → Refused D p line device (NotATake line)
+  noSuchDevice : isTakeOf p line ≡ true → D ≤ device → Refused D p line device (NoSuchDevice device)
+  takeOfHeld : (r : Refusal) → isTakeOf p line ≡ true → device < D → numberOf r ≡ 8
+      → fault D (edited p (askedAt line) device) ≡ some r → Refused D p line device r
+
+-- at how many places two lists differ, as far as both go
+unfoldable pub differing : List ℕ → List ℕ → ℕ
+differing [] ys = 0
+differing (x ∷ xs) [] = 0
+differing (x ∷ xs) (y ∷ ys) = cond (eqb x y) (differing xs ys) (suc (differing xs ys))
+
+-- what an accepted move does: the plan is the edited one and has no fault; the sets are its table, worked out afresh,
+-- and the rest of the list; off the way they are what they were; the count is that of the places where the lists
+-- differ
+pub record Accepted (D : ℕ) (p t : List ℕ) (line device : ℕ) (o : MoveOutcome) : Type 0 where
+  pub plan : o .plan ≡ edited p (askedAt line) device
+  pub long : length (o .plan) ≡ length p
+  pub noFault : fault D (o .plan) ≡ none
+  pub afresh : o .sets ≡ table (o .plan) ++ drop (length p) t
+  pub room : length (o .sets) ≡ length t
+  pub verdict : judging D (o .plan) ≡ judging D (edited p (askedAt line) device)
+  pub offWay : (k : ℕ) → has k (way p (askedAt line)) ≡ false → getD (o .sets) k 0 ≡ getD t k 0
+  pub count : o .answer ≡ MoveAnswer.Changed (differing (o .sets) t)
+
+-- what a refused move does: nothing, but for the answer
+pub record Unmoved (D : ℕ) (p t : List ℕ) (line device : ℕ) (o : MoveOutcome) : Type 0 where
+  pub refusal : Refusal
+  pub reason : Refused D p line device refusal
+  pub answer : o .answer ≡ MoveAnswer.Refused refusal
+  pub plan : o .plan ≡ p
+  pub sets : o .sets ≡ t
+
+-- what any move does
+pub data Step (D : ℕ) (p t : List ℕ) (line device : ℕ) (o : MoveOutcome) : Type 0 where
+  refused : Unmoved D p t line device o → Step D p t line device o
+  accepted : Accepted D p t line device o → Step D p t line device o
+
+-- ---- a list of moves
+
+-- what is asked for: a line, by its number, and a device
+pub record Ask : Type 0 where
+  pub line : ℕ
+  pub device : ℕ
+
+-- plan and sets, as they are lent from move to move
+pub record Lent : Type 0 where
+  pub plan : List ℕ
+  pub sets : List ℕ
+
+-- one move, from what is lent to what is lent next
+unfoldable pub moved : ℕ → Lent → Ask → Lent
+moved D s a =
+    let o : MoveOutcome = moving D (s .plan) (s .sets) (a .line) (a .device) in
+    record { plan = o .plan; sets = o .sets }
+
+-- one move after the other
+unfoldable pub movedBy : ℕ → Lent → List Ask → Lent
+unfolding moved
+movedBy D s [] = s
+movedBy D s (a ∷ asks) = movedBy D (moved D s a) asks
+
+-- What is lent now is right, going by what was lent first: the plan has no fault and as many lines, the sets are its
+-- own table and then the rest of the first list, and what is asked next is refused and changes nothing, or is
+-- accepted.
+pub record Kept (D : ℕ) (first s : Lent) : Type 0 where
+  pub noFault : fault D (s .plan) ≡ none
+  pub long : length (s .plan) ≡ length (first .plan)
+  pub afresh : s .sets ≡ table (s .plan) ++ drop (length (first .plan)) (first .sets)
+  pub next : (a : Ask)
+      → Step D (s .plan) (s .sets) (a .line) (a .device) (moving D (s .plan) (s .sets) (a .line) (a .device))
