@@ -7,10 +7,10 @@ use Rattle.order.specs.declared.Piece.{Piece}
 use Rattle.order.specs.declared.Input.{Input}
 
 -- a piece has a byte at least, and fits into the room
-abbrev pub Moves : Piece → List ℕ → Type 0
-Moves (Piece.Bytes n) room = (0 < n) × (n ≤ length room)
-Moves Piece.End room = Unit {0}
-Moves Piece.Failed room = Unit {0}
+abbrev pub Brings : Piece → List ℕ → Type 0
+Brings (Piece.Bytes n) room = (0 < n) × (n ≤ length room)
+Brings Piece.End room = Unit {0}
+Brings Piece.Failed room = Unit {0}
 
 abbrev pub Within : Input → List ℕ → Type 0
 Within (Input.Bytes n) room = n ≤ length room

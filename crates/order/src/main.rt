@@ -3,7 +3,7 @@
 // standard error says so.
 use model::ReadAnswer;
 use model::VerdictAnswer;
-ghost use Rattle.order.specs.Input.{Within, Moves};
+ghost use Rattle.order.specs.Input.{Within, Brings};
 
 // What one read brought: so many bytes, the end, or nothing since it failed.
 enum Piece {
@@ -20,7 +20,7 @@ enum Input {
 
 // One read of standard input.
 fn read_piece(room: &mut [u8]) -> Piece
-    ensures { λ r. ⌜ Moves r (now (room .entry)) ⌝ }
+    ensures { λ r. ⌜ Brings r (now (room .entry)) ⌝ }
 {
     let got = libc::read(libc::STDIN_FILENO, room);
     if got < 0 {

@@ -1,6 +1,6 @@
 -- 01, "The plan as text": the round trips, and the reader's answer that comes again, as promises about what the entries
 -- answer and leave: a text that was read and is written again is the same text, a plan that was written and is read
--- again the same plan.
+-- again the same plan. A refusal is a listed one and changes nothing.
 use Prim.Native.Nat.{ℕ, _≤_}
 use mathlib.Core.List.{List, [], _∷_}
 use mathlib.Core.Option.{Option, none, some}
@@ -20,18 +20,13 @@ use Rattle.model.specs.declared.Cursor.{Cursor}
 use Rattle.model.specs.declared.LineAnswer.{LineAnswer}
 use Rattle.model.specs.declared.ReadAnswer.{ReadAnswer}
 use Rattle.model.specs.declared.WriteAnswer.{WriteAnswer}
+use Rattle.theory.proofs.Answers.{none-refuses}
 use Rattle.theory.proofs.Text.{reading-written, writing-read}
 use Rattle.theory.proofs.Reader as reader
 use Rattle.theory.proofs.Reader.{NoLine}
 use Rattle.text.specs.Promises.{ReadsAs, WritesAs}
 use Rattle.text.proofs.Tight.{one-read, one-written, reads-as, writes-as}
 use Rattle.text.proofs.Outcomes.{reading-is, writing-is}
-
--- the first of two tests did not refuse, where neither did
-first-passed : (a b : Option Refusal) → firstRefusal (a ∷ b ∷ []) ≡ none → a ≡ none
-unfolding firstRefusal
-first-passed none b e = refl
-first-passed (some r) b e = e
 
 -- what was written to the front of a list is its front
 front-of : (new old : List ℕ) → take (length new) (over new old) ≡ new
@@ -51,6 +46,19 @@ write-fine : (o : Option Refusal) (text lent : List ℕ) (m : ℕ) → WriteAnsw
 unfolding writeBy
 write-fine none text lent m e = let q : m ≡ length text = cc in (refl, q, refl)
 write-fine (some r) text lent m e = let z : _≡_ {A = ℕ} 0 1 = cc in absurd (omega arith)
+
+-- and a refusal, which it was, with the list as it came
+read-refused : (o : Option Refusal) (plan lent : List ℕ) (r : Refusal)
+    → ReadAnswer.Refused r ≡ readBy o plan lent .answer → (o ≡ some r) × (readBy o plan lent .plan ≡ lent)
+unfolding readBy
+read-refused none plan lent r e = let z : _≡_ {A = ℕ} 0 1 = cc in absurd (omega arith)
+read-refused (some q) plan lent r e = let z : q ≡ r = cc in (ap {B = Option Refusal} some z, refl)
+
+write-refused : (o : Option Refusal) (text lent : List ℕ) (r : Refusal)
+    → WriteAnswer.Refused r ≡ writeBy o text lent .answer → (o ≡ some r) × (writeBy o text lent .text ≡ lent)
+unfolding writeBy
+write-refused none text lent r e = let z : _≡_ {A = ℕ} 0 1 = cc in absurd (omega arith)
+write-refused (some q) text lent r e = let z : q ≡ r = cc in (ap {B = Option Refusal} some z, refl)
 
 -- an outcome that satisfies the promise is the outcome of `model`
 read-is : (text lent : List ℕ) (a : ReadAnswer) (left : List ℕ) → ReadsAs text lent a left
@@ -74,7 +82,7 @@ was-read text lent n left r =
     let o : Option Refusal = firstRefusal (textFault devices text ∷ t ∷ []) in
     let u = read-is text lent (ReadAnswer.Lines n) left r in
     let f = read-fine o p lent n (rw (reading-is text lent) at (u .0)) in (
-      first-passed (textFault devices text) t (f .0),
+      none-refuses (textFault devices text ∷ t ∷ []) (f .0) 0,
       rw (u .1, reading-is text lent, f .2, f .1) (front-of p lent),
     )
 
@@ -86,9 +94,32 @@ was-written plan lent m left r =
     let o : Option Refusal = firstRefusal (fault devices plan ∷ t ∷ []) in
     let u = write-is plan lent (WriteAnswer.Bytes m) left r in
     let f = write-fine o s lent m (rw (writing-is plan lent) at (u .0)) in (
-      first-passed (fault devices plan) t (f .0),
+      none-refuses (fault devices plan ∷ t ∷ []) (f .0) 0,
       rw (u .1, writing-is plan lent, f .2, f .1) (front-of s lent),
     )
+
+-- ---- a refusal is the first that is listed, and leaves the list as it came
+
+pub refused-read-leaves : (text lent : List ℕ) (r : Refusal) (left : List ℕ)
+    → ReadsAs text lent (ReadAnswer.Refused r) left
+    → (firstRefusal (textFault devices text ∷ tooShort (length lent) (length (spelt devices text)) ∷ []) ≡ some r)
+    × (left ≡ lent)
+refused-read-leaves text lent r left m =
+    let u = read-is text lent (ReadAnswer.Refused r) left m in
+    let f =
+    read-refused (firstRefusal (textFault devices text ∷ tooShort (length lent) (length (spelt devices text)) ∷ []))
+    (spelt devices text) lent r (rw (reading-is text lent) at (u .0)) in
+    (f .0, rw (u .1, reading-is text lent) (f .1))
+
+pub refused-write-leaves : (plan lent : List ℕ) (r : Refusal) (left : List ℕ)
+    → WritesAs plan lent (WriteAnswer.Refused r) left
+    → (firstRefusal (fault devices plan ∷ tooShort (length lent) (length (textOf plan)) ∷ []) ≡ some r) × (left ≡ lent)
+refused-write-leaves plan lent r left m =
+    let u = write-is plan lent (WriteAnswer.Refused r) left m in
+    let f =
+    write-refused (firstRefusal (fault devices plan ∷ tooShort (length lent) (length (textOf plan)) ∷ [])) (textOf plan)
+    lent r (rw (writing-is plan lent) at (u .0)) in
+    (f .0, rw (u .1, writing-is plan lent) (f .1))
 
 -- ---- the round trips
 

@@ -15,7 +15,7 @@ use mir.Val.{boolByte}
 use borrow.Author.Tests.{eqb-true, eq-eqb, ne-eqb, leb-true, ltb-true}
 use Rattle.model.specs.Text.{tab, verb}
 use Rattle.theory.proofs.Tests.{clash, test, and-split}
-use Rattle.text.specs.Scan.{wordAt, verbAt, inOne}
+use Rattle.text.specs.Scan.{inOne, verbNumbers, wordAt, verbAt}
 use Rattle.text.specs.declared.Verb.{Verb}
 use Rattle.text.proofs.Steps.{word-fits, verb-do, verb-take, verb-give, verb-start, verb-none}
 
@@ -37,11 +37,11 @@ front n (suc a) (b ∷ s) = front n a s
 
 -- a text from place a on, by its bytes
 module _ (a : ℕ) (s : List ℕ) where
-  abbrev pub byte : ℕ → ℕ
+  abbrev byte : ℕ → ℕ
   byte i = getD s (a + i) 0
 
   -- the number of the next n bytes, after the first i
-  abbrev pub rest : ℕ → ℕ → ℕ
+  abbrev rest : ℕ → ℕ → ℕ
   rest i n = inOne (take n (drop (a + i) s))
 
   step : (n i : ℕ) → rest i (suc n) ≡ byte i + rest (suc i) n * 256
@@ -55,10 +55,7 @@ module _ (a : ℕ) (s : List ℕ) where
   two-fours = omega (arith, four-bytes, step 7 0, step 6 1, step 5 2, step 4 3)
 
   module _ (bytes : (i : ℕ) → getD s i 0 < 256) where
-    pub four-small : rest 0 4 < 4294967296
-    four-small = omega (arith, four-bytes, bytes (a + 0), bytes (a + 1), bytes (a + 2), bytes (a + 3))
-
-    pub seven-small : rest 0 7 < 72057594037927936
+    seven-small : rest 0 7 < 72057594037927936
     unfolding inOne
     seven-small =
         omega (
@@ -237,7 +234,7 @@ below-small (suc (suc (suc zero))) = lit≤ tt
 below-small (suc (suc (suc (suc k)))) = lit≤ tt
 
 abbrev pub numbered : ℕ → ℕ
-numbered k = getD (679872019919011840 ∷ 677065385291284480 ∷ 677077514060824576 ∷ 681295206530875392 ∷ []) k 0
+numbered k = getD verbNumbers k 0
 
 module _ (a : ℕ) (s : List ℕ) (bytes : (i : ℕ) → getD s i 0 < 256) where
   -- what the code asks of kind k
@@ -246,7 +243,7 @@ module _ (a : ℕ) (s : List ℕ) (bytes : (i : ℕ) → getD s i 0 < 256) where
 
   -- it is whether the number of the bytes there is that of the verb
   told : (k : ℕ) → k < 4 → Asked k → standing a s (verb k) 0 ≡ worded (verb k)
-  unfolding verb reach worded
+  unfolding verb reach worded verbNumbers
   told zero h e =
       let z = sym (shifted a s bytes (verb 0) 5 1099511627776 (lit≤ tt)) ∙ e in omega (arith, z)
   told (suc zero) h e =
@@ -258,7 +255,7 @@ module _ (a : ℕ) (s : List ℕ) (bytes : (i : ℕ) → getD s i 0 < 256) where
   told (suc (suc (suc (suc k)))) h e = absurd (omega (arith, h))
 
   tells : (k : ℕ) → k < 4 → standing a s (verb k) 0 ≡ worded (verb k) → Asked k
-  unfolding verb reach worded
+  unfolding verb reach worded verbNumbers
   tells zero h e = shifted a s bytes (verb 0) 5 1099511627776 (lit≤ tt) ∙ rw e
   tells (suc zero) h e = shifted a s bytes (verb 1) 3 16777216 (lit≤ tt) ∙ rw e
   tells (suc (suc zero)) h e = shifted a s bytes (verb 2) 3 16777216 (lit≤ tt) ∙ rw e

@@ -1,13 +1,13 @@
 -- 01, "The plan as text": what the private functions of this crate answer as they go through a line from left to right.
 -- That this is what the definition by splitting gives is shown in proofs/Scanned.antt; no promise rests on these words.
-use Prim.Native.Nat.{ℕ, suc, _+_, _-_, _*_, _≤_, _<_}
+use Prim.Native.Nat.{ℕ, suc, _+_, _-_, _*_, _^_, _%_, _≤_, _<_}
 use mathlib.Core.Bool.{Bool, false, cond}
-use mathlib.Core.List.{List, [], _∷_}
+use mathlib.Core.List.{List, [], _∷_, _++_, map}
 use mathlib.Core.Path.{_≡_}
 use lib.Dec.{eqb, leb, ltb}
-use lib.ListN.{drop}
+use lib.ListN.{length, drop}
 use Rattle.model.specs.Line.{pack, isStep}
-use Rattle.model.specs.Text.{tab, newline, isDigit, verb, linesOf, handedLine}
+use Rattle.model.specs.Text.{tab, newline, isDigit, verbs, verb, linesOf, handedLine}
 use Rattle.model.specs.declared.LineAnswer.{LineAnswer}
 use Rattle.text.specs.declared.Field.{Field}
 use Rattle.text.specs.declared.Verb.{Verb}
@@ -49,6 +49,15 @@ fieldAt end i (b ∷ s) =
 unfoldable pub inOne : List ℕ → ℕ
 inOne [] = 0
 inOne (b ∷ s) = b + inOne s * 256
+
+-- a word as the highest of eight bytes, and the verbs with their tabs as such
+unfoldable pub highestOf : List ℕ → ℕ
+unfolding inOne
+highestOf w = inOne w * 2 ^ (64 - length w * 8) % 2 ^ 64
+
+unfoldable pub verbNumbers : List ℕ
+unfolding highestOf verbs
+verbNumbers = map (λ v. highestOf (v ++ (tab ∷ []))) verbs
 
 -- a text begins with a word and the tab that ends it
 unfoldable pub wordAt : List ℕ → List ℕ → Bool

@@ -17,7 +17,7 @@ ghost use Rattle.model.specs.Text.{decimal, verb, lineText, textOf, nextLine};
 ghost use Rattle.model.specs.WellFormed.{fault};
 ghost use Rattle.text.specs.Promises.{ReadsAs, WritesAs};
 ghost use Rattle.text.specs.Scan.{endedAt, digitsAt, DigitOf, joinedBy, fieldAt, inOne};
-ghost use Rattle.text.specs.Scan.{verbAt, lineAt, handedAt};
+ghost use Rattle.text.specs.Scan.{highestOf, verbNumbers, verbAt, lineAt, handedAt};
 ghost use Rattle.text.specs.Gathered.{GathersAs};
 ghost use Rattle.text.specs.Made.{Puts, Lays, verbTable};
 
@@ -203,19 +203,33 @@ fn eight(text: &[u8], at: usize) -> u64
     four(text, at) + four(text, at + 4) * 4294967296
 }
 
-// The verbs, each with its tab, as the highest bytes of a number of eight; and how many bits of it lie below them.
-const VERBS: [u64; 4] = [
-    679872019919011840,
-    677065385291284480,
-    677077514060824576,
-    681295206530875392,
-];
+// A word, its tab the last byte of it, as the highest of eight bytes.
+fn highest(word: &[u8]) -> u64
+    requires { ⌜ (1 ≤ length (now word)) × (length (now word) < 8) ⌝ }
+    ensures { λ r. ⌜ r ≡ highestOf (now (word .entry)) ⌝ }
+{
+    last_bytes(word, 0) << (64 - word.len() * 8)
+}
 
+// The verbs as such numbers. They are made once for a text.
+fn verb_numbers() -> [u64; 4]
+    ensures { λ r. ⌜ r ≡ verbNumbers ⌝ }
+{
+    [
+        highest(b"do\t"),
+        highest(b"take\t"),
+        highest(b"give\t"),
+        highest(b"start\t"),
+    ]
+}
+
+// How many bits lie below each verb.
 const BELOW: [u32; 4] = [40, 24, 24, 16];
 
 // The verb at the place. Its first byte tells which it can be, and the eight bytes there whether it is that one: there
 // is no branch on the kind, which cannot be foretold.
-fn verb_at(text: &[u8], at: usize) -> Verb
+fn verb_at(text: &[u8], at: usize, numbers: &[u64; 4]) -> Verb
+    requires { ⌜ now numbers ≡ verbNumbers ⌝ }
     ensures { λ r. ⌜ r ≡ verbAt at (drop at (now (text .entry))) ⌝ }
 {
     if text.len() <= at {
@@ -223,8 +237,7 @@ fn verb_at(text: &[u8], at: usize) -> Verb
     }
     let b = text[at] as u32;
     let k = b / 16 % 2 + b % 2 * 2;
-    let spelt = eight(text, at) << BELOW[k as usize];
-    if spelt == VERBS[k as usize] {
+    if eight(text, at) << BELOW[k as usize] == numbers[k as usize] {
         let past = 3 + (b != 100) as usize * 2 + (b == 115) as usize;
         return Verb::Kind(k, at + past);
     }
@@ -232,13 +245,14 @@ fn verb_at(text: &[u8], at: usize) -> Verb
 }
 
 // The line at the place: a job and a verb, each with its tab, and an operand with its newline.
-fn line_at(text: &[u8], from: usize) -> Spelt
+fn line_at(text: &[u8], from: usize, numbers: &[u64; 4]) -> Spelt
+    requires { ⌜ now numbers ≡ verbNumbers ⌝ }
     ensures { λ r. ⌜ r ≡ lineAt devices (now (text .entry)) from ⌝ }
 {
     let Field::Number(j, a) = field_at(text, from, 9) else {
         return Spelt::Malformed;
     };
-    let Verb::Kind(k, b) = verb_at(text, a) else {
+    let Verb::Kind(k, b) = verb_at(text, a, numbers) else {
         return Spelt::Malformed;
     };
     let Field::Number(o, e) = field_at(text, b, 10) else {
@@ -252,7 +266,8 @@ fn line_at(text: &[u8], from: usize) -> Spelt
 }
 
 // What the reader hands out at a place, after some lines.
-fn handed(text: &[u8], offset: usize, lines: usize) -> LineAnswer
+fn handed(text: &[u8], offset: usize, lines: usize, numbers: &[u64; 4]) -> LineAnswer
+    requires { ⌜ now numbers ≡ verbNumbers ⌝ }
     ensures { λ r. ⌜ r ≡ handedAt devices (now (text .entry)) offset lines ⌝ }
 {
     if text.len() <= offset {
@@ -261,7 +276,7 @@ fn handed(text: &[u8], offset: usize, lines: usize) -> LineAnswer
     if 1024 <= lines {
         return LineAnswer::Refused(Refusal::TooManyLines);
     }
-    match line_at(text, offset) {
+    match line_at(text, offset, numbers) {
         Spelt::Line(n, next) => {
             return LineAnswer::Line(
                 n,
@@ -286,7 +301,8 @@ pub fn next_line(text: &[u8], c: Cursor) -> LineAnswer
     }
     let offset = c.offset;
     let lines = c.lines;
-    handed(text, offset, lines)
+    let numbers = verb_numbers();
+    handed(text, offset, lines, &numbers)
 }
 
 // ---- the whole text
@@ -302,10 +318,11 @@ fn gather(text: &[u8], lines: &mut [u32; 1024]) -> Gathered
     requires { ⌜ length (now lines) ≡ 1024 ⌝ }
     ensures { λ r. ⌜ GathersAs devices (now (text .entry)) r (now (lines .exit)) ⌝ }
 {
+    let numbers = verb_numbers();
     let mut offset: usize = 0;
     let mut n: usize = 0;
     loop {
-        match handed(text, offset, n) {
+        match handed(text, offset, n, &numbers) {
             LineAnswer::Line(l, next) => {
                 lines[n] = l;
                 offset = next.offset;

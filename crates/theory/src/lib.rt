@@ -1,1 +1,2 @@
-// Theorems about the definitions of `model`; no code. They stand in proofs/.
+// Theorems about the definitions of `model`; no code. They stand in proofs/, and words that they need beside those of
+// `model` in specs/.

@@ -6,7 +6,7 @@ use native.Mathlib.Omega.{arith}
 use lib.ListN.{length, drop, length-take}
 use borrow.Rule.Slice.PartMut.{midOf, putMid, same-len-mid}
 use borrow.Author.Needs.{needs}
-use Rattle.order.specs.Input.{Moves}
+use Rattle.order.specs.Input.{Brings}
 use Rattle.order.specs.declared.Piece.{Piece}
 use Rattle.order.proofs.read_input.Statement.{statement}
 use Rattle.order.proofs.read_input.Tie as tie
@@ -52,7 +52,7 @@ piece : (c : After-piece)
     ≤ length (room-of (c .before .before .before .before .before)))
 piece c =
     let r = c .before .before .before .before .before in
-    let m = subst (λ (p : Piece). Moves p (midOf (read-to r) (rest-of r) (room-of r))) (c .before .more .given .1)
+    let m = subst (λ (p : Piece). Brings p (midOf (read-to r) (rest-of r) (room-of r))) (c .before .more .given .1)
     (r .read-piece .ensures) in (
       m .0,
       omega (

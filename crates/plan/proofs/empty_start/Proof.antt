@@ -15,39 +15,30 @@ Inv-loop first starter low₀ j₀ low j = (j ≤ 65)
 abbrev μ-loop : tie.MeasureT-loop
 μ-loop first starter low₀ j₀ low j = 65 - j
 
--- src/lib.rt:215:5
 loop-holds : tie.Need-loop-holds Inv-loop μ-loop
 loop-holds c = (search needs, refl)
 
--- src/lib.rt:216:26
 mul-lower : tie.Need-mul-lower Inv-loop μ-loop
 mul-lower c = search needs
 
--- src/lib.rt:216:26
 element-copy-out-lower : tie.Need-element-copy-out-lower Inv-loop μ-loop
 element-copy-out-lower c = search needs
 
--- src/lib.rt:216:36
 mul-lower-2 : tie.Need-mul-lower-2 Inv-loop μ-loop
 mul-lower-2 c = search needs
 
--- src/lib.rt:216:36
 element-copy-out-lower-2 : tie.Need-element-copy-out-lower-2 Inv-loop μ-loop
 element-copy-out-lower-2 c = search needs
 
--- src/lib.rt:216:9
 lower-requires : tie.Need-lower-requires Inv-loop μ-loop
 lower-requires c κs = search needs
 
--- src/lib.rt:217:9
 add-j : tie.Need-add-j Inv-loop μ-loop
 add-j c = search needs
 
--- src/lib.rt:215:5
 loop-less : tie.Need-loop-less Inv-loop μ-loop
 loop-less c = search needs
 
--- src/lib.rt:215:5
 loop-again : tie.Need-loop-again Inv-loop μ-loop
 loop-again c =
     let l = c .before .before .before .before in
@@ -59,7 +50,6 @@ loop-again c =
           (sym (c .lower .ensures)),
     )
 
--- src/lib.rt:209:1
 returns : tie.Need-returns Inv-loop μ-loop
 returns c =
     let l = c .before in

@@ -4,22 +4,18 @@ use borrow.Author.Needs.{needs}
 use Rattle.plan.proofs.ends.Statement.{statement}
 use Rattle.plan.proofs.ends.Tie as tie
 
--- src/lib.rt:253:9
 empty-start-requires : tie.Need-empty-start-requires
 empty-start-requires c κs = search needs
 
--- src/lib.rt:255:9
 returns : tie.Need-returns
 returns c =
     let a = c .before .before .args in
     empty-ends (a .first .now) (a .starter .now) (c .before .empty-start .result) (c .before .empty-start .ensures)
     (c .if1 .taken)
 
--- src/lib.rt:257:9
 never-started-requires : tie.Need-never-started-requires
 never-started-requires c κs = search needs
 
--- src/lib.rt:259:9
 returns-2 : tie.Need-returns-2
 returns-2 c =
     let a = c .before .before .before .before .args in
@@ -29,7 +25,6 @@ returns-2 c =
     (c .before .before .if1 .left)
     (c .if2 .taken)
 
--- src/lib.rt:249:1
 returns-3 : tie.Need-returns-3
 returns-3 c =
     let a = c .before .before .before .before .args in

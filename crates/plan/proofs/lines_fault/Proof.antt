@@ -4,11 +4,9 @@ use borrow.Author.Needs.{needs}
 use Rattle.plan.proofs.lines_fault.Statement.{statement}
 use Rattle.plan.proofs.lines_fault.Tie as tie
 
--- src/lib.rt:185:5
 walk-requires : tie.Need-walk-requires
 walk-requires c κs = search needs
 
--- src/lib.rt:180:1
 returns : tie.Need-returns
 unfolding none-yet
 returns c =

@@ -3,30 +3,25 @@ use Rattle.plan.proofs.LastTests.{has-lines, not-started, first-found, 
 use Rattle.plan.proofs.lower.Statement.{statement}
 use Rattle.plan.proofs.lower.Tie as tie
 
--- src/lib.rt:194:9
 returns : tie.Need-returns
 returns c = let a = c .before .args in has-lines (a .low) (a .first) (a .starter) (c .if1 .taken)
 
--- src/lib.rt:197:9
 returns-2 : tie.Need-returns-2
 returns-2 c =
     let a = c .before .before .args in
     not-started (a .low) (a .first) (a .starter) (c .before .if1 .left) (c .if2 .taken)
 
--- src/lib.rt:200:9
 returns-3 : tie.Need-returns-3
 returns-3 c =
     let a = c .before .before .before .args in
     first-found (a .low) (a .first) (a .starter) (c .before .before .if1 .left) (c .before .if2 .left) (c .if3 .taken)
 
--- src/lib.rt:203:9
 returns-4 : tie.Need-returns-4
 returns-4 c =
     let a = c .before .before .before .before .args in
     lower-found (a .low) (a .first) (a .starter) (c .before .before .before .if1 .left) (c .before .before .if2 .left)
     (c .before .if3 .left) (c .if4 .taken)
 
--- src/lib.rt:190:1
 returns-5 : tie.Need-returns-5
 returns-5 c =
     let a = c .before .before .before .before .args in

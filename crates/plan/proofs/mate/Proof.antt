@@ -19,52 +19,41 @@ Inv-loop plan i j depth₀ k₀ depth k =
 abbrev μ-loop : tie.MeasureT-loop
 μ-loop plan i j depth₀ k₀ depth k = length plan - k
 
--- src/lib.rt:319:9
 returns : tie.Need-returns Inv-loop μ-loop
 returns c = let a = c .before .before .args in ap found (sym (mate-past (a .plan .now) (a .i) (search needs)))
 
--- src/lib.rt:321:13
 mul-j : tie.Need-mul-j Inv-loop μ-loop
 mul-j c = search needs
 
--- src/lib.rt:321:13
 shared-slice-read-j : tie.Need-shared-slice-read-j Inv-loop μ-loop
 shared-slice-read-j c = search needs
 
--- src/lib.rt:323:17
 add-k : tie.Need-add-k Inv-loop μ-loop
 add-k c = search needs
 
--- src/lib.rt:324:5
 loop-holds : tie.Need-loop-holds Inv-loop μ-loop
 unfolding job
 loop-holds c = let a = c .before .before .before .args in
     (search needs, search needs, mate-start (a .plan .now) (a .i))
 
--- src/lib.rt:325:17
 mul-n : tie.Need-mul-n Inv-loop μ-loop
 mul-n c = search needs
 
--- src/lib.rt:325:17
 shared-slice-read-n : tie.Need-shared-slice-read-n Inv-loop μ-loop
 shared-slice-read-n c = search needs
 
--- src/lib.rt:327:13
 returns-2 : tie.Need-returns-2 Inv-loop μ-loop
 unfolding job
 returns-2 c = let l = c .before .before .before in
     let p = c .before .before .before .before .before .before .before .args .plan .now in
     ap found (sym (l .loop .inv .2 ∙ search-foreign p _ (l .loop .depth) (l .loop .k) (search needs) (c .if2 .taken)))
 
--- src/lib.rt:329:15
 turned-requires : tie.Need-turned-requires Inv-loop μ-loop
 turned-requires c κs = search needs
 
--- src/lib.rt:331:17
 enum-told : tie.Need-enum-told Inv-loop μ-loop
 enum-told c = search needs
 
--- src/lib.rt:331:17
 returns-3 : tie.Need-returns-3 Inv-loop μ-loop
 unfolding job
 returns-3 c = let f = c .before .before .turned in
@@ -76,19 +65,15 @@ returns-3 c = let f = c .before .before .turned in
     ∙ search-found p _ (l .loop .depth) (l .loop .k) (search needs) (c .before .before .before .if2 .left)
     (sym (c .enum-told .given .1) ∙ f .ensures)))
 
--- src/lib.rt:333:24
 enum-known-d : tie.Need-enum-known-d Inv-loop μ-loop
 enum-known-d c = search needs
 
--- src/lib.rt:335:17
 add-k-2 : tie.Need-add-k-2 Inv-loop μ-loop
 add-k-2 c = search needs
 
--- src/lib.rt:324:5
 loop-less : tie.Need-loop-less Inv-loop μ-loop
 loop-less c = search needs
 
--- src/lib.rt:324:5
 loop-again : tie.Need-loop-again Inv-loop μ-loop
 unfolding job
 loop-again c = let f = c .before .before .before .turned in
@@ -103,7 +88,6 @@ loop-again c = let f = c .before .before .before .turned in
           (c .before .before .before .before .if2 .left) d told,
     )
 
--- src/lib.rt:315:1
 returns-4 : tie.Need-returns-4 Inv-loop μ-loop
 returns-4 c = let l = c .before in
     let p = c .before .before .before .before .before .args .plan .now in

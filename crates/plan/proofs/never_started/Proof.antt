@@ -14,39 +14,30 @@ Inv-loop first starter j₀ j = (j ≤ 65) × (neverFrom first starter 2 63 ≡ 
 abbrev μ-loop : tie.MeasureT-loop
 μ-loop first starter j₀ j = 65 - j
 
--- src/lib.rt:239:5
 loop-holds : tie.Need-loop-holds Inv-loop μ-loop
 loop-holds c = (search needs, refl)
 
--- src/lib.rt:240:22
 mul-unstarted : tie.Need-mul-unstarted Inv-loop μ-loop
 mul-unstarted c = search needs
 
--- src/lib.rt:240:22
 element-copy-out-unstarted : tie.Need-element-copy-out-unstarted Inv-loop μ-loop
 element-copy-out-unstarted c = search needs
 
--- src/lib.rt:240:32
 mul-unstarted-2 : tie.Need-mul-unstarted-2 Inv-loop μ-loop
 mul-unstarted-2 c = search needs
 
--- src/lib.rt:240:32
 element-copy-out-unstarted-2 : tie.Need-element-copy-out-unstarted-2 Inv-loop μ-loop
 element-copy-out-unstarted-2 c = search needs
 
--- src/lib.rt:240:12
 unstarted-requires : tie.Need-unstarted-requires Inv-loop μ-loop
 unstarted-requires c κs = search needs
 
--- src/lib.rt:241:20
 mul-result : tie.Need-mul-result Inv-loop μ-loop
 mul-result c = search needs
 
--- src/lib.rt:241:20
 element-copy-out-result : tie.Need-element-copy-out-result Inv-loop μ-loop
 element-copy-out-result c = search needs
 
--- src/lib.rt:241:13
 returns : tie.Need-returns Inv-loop μ-loop
 returns c =
     let l = c .before .before .before .before .before .before in
@@ -56,15 +47,12 @@ returns c =
     ∙ never-here (a .first .now) (a .starter .now) 65 (l .loop .j) (omega arith)
     (sym (c .before .before .unstarted .ensures) ∙ c .before .if1 .taken))
 
--- src/lib.rt:243:9
 add-j : tie.Need-add-j Inv-loop μ-loop
 add-j c = search needs
 
--- src/lib.rt:239:5
 loop-less : tie.Need-loop-less Inv-loop μ-loop
 loop-less c = search needs
 
--- src/lib.rt:239:5
 loop-again : tie.Need-loop-again Inv-loop μ-loop
 loop-again c =
     let l = c .before .before .before .before .before in
@@ -75,7 +63,6 @@ loop-again c =
           (sym (c .before .unstarted .ensures) ∙ c .if1 .left),
     )
 
--- src/lib.rt:234:1
 returns-2 : tie.Need-returns-2 Inv-loop μ-loop
 returns-2 c =
     let l = c .before in

@@ -6,15 +6,12 @@ use borrow.Author.Needs.{needs}
 use Rattle.plan.proofs.scan.Statement.{statement}
 use Rattle.plan.proofs.scan.Tie as tie
 
--- src/lib.rt:270:34
 walk-requires : tie.Need-walk-requires
 walk-requires c κs = search needs
 
--- src/lib.rt:270:29
 enum-known-r : tie.Need-enum-known-r
 enum-known-r c = search needs
 
--- src/lib.rt:271:9
 returns : tie.Need-returns
 unfolding none-yet
 returns c =
@@ -27,15 +24,12 @@ returns c =
 enum-told : tie.Need-enum-told
 enum-told c = search needs
 
--- src/lib.rt:273:34
 ends-requires : tie.Need-ends-requires
 ends-requires c κs = search needs
 
--- src/lib.rt:273:29
 enum-known-r-2 : tie.Need-enum-known-r-2
 enum-known-r-2 c = search needs
 
--- src/lib.rt:274:9
 returns-2 : tie.Need-returns-2
 unfolding none-yet
 returns-2 c =
@@ -50,7 +44,6 @@ returns-2 c =
 enum-told-2 : tie.Need-enum-told-2
 enum-told-2 c = search needs
 
--- src/lib.rt:265:1
 returns-3 : tie.Need-returns-3
 unfolding none-yet
 returns-3 c =

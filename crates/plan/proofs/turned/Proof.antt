@@ -5,32 +5,26 @@ use borrow.Author.Needs.{needs}
 use Rattle.plan.proofs.turned.Statement.{statement}
 use Rattle.plan.proofs.turned.Tie as tie
 
--- src/lib.rt:303:27
 add-t6 : tie.Need-add-t6
 add-t6 c = search needs
 
--- src/lib.rt:303:9
 returns : tie.Need-returns
 unfolding kind
 returns c = let a = c .before .args in take-turn (a .n) (a .depth) (c .if1 .taken)
 
--- src/lib.rt:307:13
 returns-2 : tie.Need-returns-2
 unfolding kind
 returns-2 c = let a = c .before .before .before .args in
     end-turn (a .n) (a .depth) (c .before .before .if1 .left) (c .before .if2 .taken) (c .if3 .taken)
 
--- src/lib.rt:309:27
 sub-t8 : tie.Need-sub-t8
 sub-t8 c = search needs
 
--- src/lib.rt:309:9
 returns-3 : tie.Need-returns-3
 unfolding kind
 returns-3 c = let a = c .before .before .before .args in
     give-turn (a .n) (a .depth) (c .before .before .if1 .left) (c .before .if2 .taken) (c .if3 .left)
 
--- src/lib.rt:297:1
 returns-4 : tie.Need-returns-4
 unfolding kind
 returns-4 c = let a = c .before .before .args in level-turn (a .n) (a .depth) (c .before .if1 .left) (c .if2 .left)

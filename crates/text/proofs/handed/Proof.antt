@@ -22,8 +22,8 @@ line-at-requires c κs = search needs
 enum-known-n : tie.Need-enum-known-n
 enum-known-n c = search needs
 
-add-t10 : tie.Need-add-t10
-add-t10 c = search needs
+add-t11 : tie.Need-add-t11
+add-t11 c = search needs
 
 returns-3 : tie.Need-returns-3
 returns-3 c =
@@ -36,11 +36,11 @@ returns-3 c =
 enum-told : tie.Need-enum-told
 enum-told c = search needs
 
-add-t12 : tie.Need-add-t12
-add-t12 c = search needs
+add-t13 : tie.Need-add-t13
+add-t13 c = search needs
 
-cast-t13 : tie.Need-cast-t13
-cast-t13 c = search needs
+cast-t14 : tie.Need-cast-t14
+cast-t14 c = search needs
 
 returns-4 : tie.Need-returns-4
 returns-4 c =
@@ -57,9 +57,9 @@ handed-spec =
     returns-2
     line-at-requires
     enum-known-n
-    add-t10
+    add-t11
     returns-3
     enum-told
-    add-t12
-    cast-t13
+    add-t13
+    cast-t14
     returns-4)

@@ -11,13 +11,17 @@ returns : tie.Need-returns
 returns c =
     let a = c .before .before .args in next-long devices (a .text .now) (a .c) (c .if1 .taken)
 
+verb-numbers-requires : tie.Need-verb-numbers-requires
+verb-numbers-requires c κs = search needs
+
 handed-requires : tie.Need-handed-requires
-handed-requires c κs = search needs
+handed-requires c κs = c .before .verb-numbers .ensures
 
 returns-2 : tie.Need-returns-2
 returns-2 c =
-    let a = c .before .before .before .args in
-    c .handed .ensures ∙ sym (next-in devices (a .text .now) (a .c) (c .before .if1 .left))
+    let e = c .before .before .before in
+    let a = e .before .before .args in
+    c .handed .ensures ∙ sym (next-in devices (a .text .now) (a .c) (e .if1 .left))
 
 pub next-line-spec : {M : Type 1} → statement M
-next-line-spec = tie.close (tie.spec returns handed-requires returns-2)
+next-line-spec = tie.close (tie.spec returns verb-numbers-requires handed-requires returns-2)

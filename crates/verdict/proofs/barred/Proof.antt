@@ -4,26 +4,21 @@ use borrow.Author.Needs.{needs}
 use Rattle.verdict.proofs.barred.Statement.{statement}
 use Rattle.verdict.proofs.barred.Tie as tie
 
--- src/lib.rt:21:9
 lowest-requires : tie.Need-lowest-requires
 lowest-requires c κs = search needs
 
--- src/lib.rt:23:9
 returns : tie.Need-returns
 returns c =
     let a = c .before .before .args in
     let d = c .before .lowest in
     twice-bars (a .rows .now) (a .twice) (d .result) (lowest-found (a .twice) (d .result) (d .ensures) (c .if1 .taken))
 
--- src/lib.rt:25:9
 circles-requires : tie.Need-circles-requires
 circles-requires c κs = search needs
 
--- src/lib.rt:26:9
 lowest-requires-2 : tie.Need-lowest-requires-2
 lowest-requires-2 c κs = search needs
 
--- src/lib.rt:28:9
 returns-2 : tie.Need-returns-2
 returns-2 c =
     let a = c .before .before .before .before .before .args in
@@ -34,7 +29,6 @@ returns-2 c =
     (none-found (a .twice) (d .result) (d .ensures) (c .before .before .before .if1 .left))
     (rw (back .ensures) at (lowest-found (back .result) (e .result) (e .ensures) (c .if2 .taken)))
 
--- src/lib.rt:18:1
 returns-3 : tie.Need-returns-3
 returns-3 c =
     let a = c .before .before .before .before .before .args in

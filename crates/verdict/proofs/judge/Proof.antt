@@ -13,27 +13,22 @@ use borrow.Author.Needs.{needs}
 use Rattle.verdict.proofs.judge.Statement.{statement}
 use Rattle.verdict.proofs.judge.Tie as tie
 
--- src/lib.rt:48:61
 cast-t12 : tie.Need-cast-t12
 cast-t12 c =
     let a = c .before .before .before .args in
     omega (arith, no-fault-exactly devices (a .plan .now) .0 (c .before .before .before .pre .sound) .few)
 
--- src/lib.rt:48:9
 returns : tie.Need-returns
 returns c =
     let b = c .before .before .before in
     short (b .args .plan .now) (b .args .order .now) (b .pre .sound) (c .if1 .taken)
 
--- src/lib.rt:50:34
 barred-requires : tie.Need-barred-requires
 barred-requires c κs = search needs
 
--- src/lib.rt:50:29
 enum-known-r : tie.Need-enum-known-r
 enum-known-r c = search needs
 
--- src/lib.rt:51:9
 returns-2 : tie.Need-returns-2
 returns-2 c =
     let b = c .before .before .before .before .before .before .before in
@@ -57,7 +52,6 @@ none-barred c =
     (sym (c .enum-told .given .1) ∙ c .before .before .barred .ensures) in
     no-order (a .plan .now) (a .first .now) (a .rows .now) (a .lasting .now) (a .held) (a .twice) (b .pre) none n
 
--- src/lib.rt:53:5
 hand-out-requires : tie.Need-hand-out-requires
 hand-out-requires c κs =
     let b = c .before .before .before .before .before .before .before in
@@ -69,15 +63,12 @@ hand-out-requires c κs =
       c .before .before .before .before .if1 .left,
     )
 
--- src/lib.rt:54:25
 count-requires : tie.Need-count-requires
 count-requires c κs = search needs
 
--- src/lib.rt:34:1
 same-length : tie.Need-same-length
 same-length c = search needs
 
--- src/lib.rt:34:1
 returns-3 : tie.Need-returns-3
 returns-3 c =
     let b = c .before .before .before .before .before .before .before .before .before .before .before in

@@ -6,26 +6,21 @@ use borrow.Author.Needs.{needs}
 use Rattle.verdict.proofs.verdict.Statement.{statement}
 use Rattle.verdict.proofs.verdict.Tie as tie
 
--- src/lib.rt:65:11
 holds-requires : tie.Need-holds-requires
 holds-requires c κs = search needs
 
--- src/lib.rt:66:30
 enum-known-r : tie.Need-enum-known-r
 enum-known-r c = search needs
 
--- src/lib.rt:67:27
 enum-known-held : tie.Need-enum-known-held
 enum-known-held c = search needs
 
--- src/lib.rt:67:43
 judge-requires : tie.Need-judge-requires
 judge-requires c κs =
     let h = c .before .before .before .before .before .before .before .holds in
     let m = c .before .before .before .before .before .held .given in
     holds-made _ _ _ _ _ _ _ (h .result) (h .ensures) (m .0 .0) (m .0 .1 .0) (m .1)
 
--- src/lib.rt:59:1
 returns : tie.Need-returns
 returns c =
     let h = c .before .before .before .holds in
@@ -34,11 +29,9 @@ returns c =
     faulty (a .plan .now) (a .order .now) (r .0 .0)
     (holds-refused _ _ _ _ _ _ _ (h .result) (h .ensures) (r .0 .0) (r .1))
 
--- src/lib.rt:59:1
 same-length : tie.Need-same-length
 same-length c = search needs
 
--- src/lib.rt:59:1
 returns-2 : tie.Need-returns-2
 returns-2 c = search needs
 
