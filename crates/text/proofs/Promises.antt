@@ -24,8 +24,8 @@ use Rattle.theory.proofs.Answers.{none-refuses}
 use Rattle.theory.proofs.Text.{reading-written, writing-read}
 use Rattle.theory.proofs.Reader as reader
 use Rattle.theory.proofs.Reader.{NoLine}
-use Rattle.text.specs.Promises.{ReadsAs, WritesAs}
-use Rattle.text.proofs.Tight.{one-read, one-written, reads-as, writes-as}
+use Rattle.text.specs.Promises.{HandsOutAs, ReadsAs, WritesAs}
+use Rattle.text.proofs.Tight.{one-read, one-written, handed-out, reads-as, writes-as}
 use Rattle.text.proofs.Outcomes.{reading-is, writing-is}
 
 -- what was written to the front of a list is its front
@@ -152,9 +152,10 @@ written-then-read plan lent left m r list h answer taken w =
 -- ---- the line reader
 
 -- Where no line came, asking again gives the same answer.
-pub same-again : (text : List ℕ) (c : Cursor) (a b : LineAnswer) → a ≡ nextLine devices text c → NoLine a
-    → b ≡ nextLine devices text (cursorAfter c a) → b ≡ a
-same-again text c a b e h f =
-    f
-    ∙ (ap (λ (x : LineAnswer). nextLine devices text (cursorAfter c x)) e
+pub same-again : (text : List ℕ) (c : Cursor) (a b : LineAnswer) → HandsOutAs text c a → NoLine a
+    → HandsOutAs text (cursorAfter c a) b → b ≡ a
+same-again text c a b x h y =
+    let e = handed-out text c a x in
+    handed-out text (cursorAfter c a) b y
+    ∙ (ap (λ (z : LineAnswer). nextLine devices text (cursorAfter c z)) e
     ∙ (reader.same-again devices text c (subst NoLine e h) ∙ sym e))

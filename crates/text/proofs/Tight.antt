@@ -11,14 +11,13 @@ use Rattle.model.specs.declared.Cursor.{Cursor}
 use Rattle.model.specs.declared.LineAnswer.{LineAnswer}
 use Rattle.model.specs.declared.ReadAnswer.{ReadAnswer}
 use Rattle.model.specs.declared.WriteAnswer.{WriteAnswer}
-use Rattle.theory.proofs.Answers.{one-read-answer, one-write-answer}
-use Rattle.text.specs.Promises.{ReadsAs, WritesAs}
+use Rattle.theory.proofs.Answers.{one-line-answer, one-read-answer, one-write-answer}
+use Rattle.text.specs.Promises.{HandsOutAs, ReadsAs, WritesAs}
 
 -- ---- one outcome
 
-pub one-line : (text : List ℕ) (c : Cursor) (a b : LineAnswer) → a ≡ nextLine devices text c
-    → b ≡ nextLine devices text c → a ≡ b
-one-line text c a b x y = cc
+pub one-line : (text : List ℕ) (c : Cursor) (a b : LineAnswer) → HandsOutAs text c a → HandsOutAs text c b → a ≡ b
+one-line text c a b x y = one-line-answer a b (x .answers ∙ sym (y .answers))
 
 pub one-read : (text lent : List ℕ) (a b : ReadAnswer) (l m : List ℕ) → ReadsAs text lent a l → ReadsAs text lent b m
     → (a ≡ b) × (l ≡ m)
@@ -29,6 +28,10 @@ pub one-written : (plan lent : List ℕ) (a b : WriteAnswer) (l m : List ℕ) �
 one-written plan lent a b l m x y = (one-write-answer a b (x .answers ∙ sym (y .answers)), cc)
 
 -- ---- an outcome
+
+-- what the line reader hands out is what `model` defines
+pub handed-out : (text : List ℕ) (c : Cursor) (a : LineAnswer) → HandsOutAs text c a → a ≡ nextLine devices text c
+handed-out text c a x = one-line-answer a (nextLine devices text c) (x .answers)
 
 pub reads-as : (text lent : List ℕ) (a : ReadAnswer) (l : List ℕ) → a ≡ reading devices text lent .answer
     → l ≡ reading devices text lent .plan → ReadsAs text lent a l

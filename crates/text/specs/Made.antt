@@ -1,6 +1,6 @@
 -- 01, "The plan as text": what the private functions that make a text leave in a buffer: new bytes behind those before
--- a place, the place past them, and behind it what was there. Printing, in `screen`, has `Puts` from here too. No promise
--- rests on these words.
+-- a place, the place past them, and behind it what was there. `screen`, which prints, has `Puts` from here too. No
+-- promise rests on these words.
 use Prim.Native.Nat.{ℕ, _+_}
 use mathlib.Core.List.{List, _∷_, _++_}
 use mathlib.Core.Path.{_≡_}

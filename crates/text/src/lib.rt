@@ -13,9 +13,9 @@ ghost use mathlib.Core.Path.{_≡_};
 ghost use lib.ListN.{length, take, drop};
 ghost use Rattle.model.specs.Board.{devices};
 ghost use Rattle.model.specs.Lists.{over};
-ghost use Rattle.model.specs.Text.{decimal, verb, lineText, textOf, nextLine};
+ghost use Rattle.model.specs.Text.{decimal, verb, lineText, textOf};
 ghost use Rattle.model.specs.WellFormed.{fault};
-ghost use Rattle.text.specs.Promises.{ReadsAs, WritesAs};
+ghost use Rattle.text.specs.Promises.{HandsOutAs, ReadsAs, WritesAs};
 ghost use Rattle.text.specs.Scan.{endedAt, digitsAt, DigitOf, joinedBy, fieldAt, inOne};
 ghost use Rattle.text.specs.Scan.{highestOf, verbNumbers, verbAt, lineAt, handedAt};
 ghost use Rattle.text.specs.Gathered.{GathersAs};
@@ -294,7 +294,7 @@ fn handed(text: &[u8], offset: usize, lines: usize, numbers: &[u64; 4]) -> LineA
 
 // The line at the cursor, with the cursor past it; a refusal with its place; or the end.
 pub fn next_line(text: &[u8], c: Cursor) -> LineAnswer
-    ensures { λ r. ⌜ r ≡ nextLine devices (now (text .entry)) c ⌝ }
+    ensures { λ r. ⌜ HandsOutAs (now (text .entry)) c r ⌝ }
 {
     if 12288 < text.len() {
         return LineAnswer::Refused(Refusal::TextTooLong);

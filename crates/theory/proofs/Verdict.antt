@@ -22,7 +22,7 @@ use Rattle.model.specs.Verdict.{twoLasting, circle, noOrder, heldAtEnd}
 use Rattle.model.specs.declared.Refusal.{Refusal}
 use Rattle.model.specs.declared.Refusal.the-variants.{TwoLasting, LeadsBack}
 use Rattle.theory.specs.Verdict.{LastsTwice, NoOrder, twice, back}
-use Rattle.theory.proofs.Tests.{clash, test, and-split, and-both}
+use Rattle.theory.proofs.Tests.{clash, test, and-split, and-both, le-or-lt}
 use Rattle.theory.proofs.Lists.{has-none, has-head, has-tail, has-cases, has-upFrom, upFrom-has, position-has}
 use Rattle.theory.proofs.Lists.{has-those}
 use Rattle.theory.proofs.Lists.{those-has, those-same, any-found, any-at, Answer, first-answer, first-lowest}
@@ -203,6 +203,25 @@ held-number D p legal =
 
 -- ---- the theorem
 
+-- two numbers that are both the lowest of which something holds are one
+lowest-one : (P : ℕ → Type 0) (d e : ℕ) → P d → P e → ((n : ℕ) → n < d → P n → ⊥) → ((n : ℕ) → n < e → P n → ⊥)
+    → d ≡ e
+lowest-one P d e x y low under = go (le-or-lt d e) (le-or-lt e d)
+  where
+    go : (d ≤ e) ⊎ (e < d) → (e ≤ d) ⊎ (d < e) → d ≡ e
+    go (inl a) (inl b) = omega (arith, a, b)
+    go (inl a) (inr b) = absurd (under d b x)
+    go (inr a) b = absurd (low e a y)
+
+-- there is one such reason at most: the lowest device of the twice held, otherwise the lowest that leads back
+one-reason : (D : ℕ) (p : List ℕ) (r s : Refusal) → NoOrder D p r → NoOrder D p s → r ≡ s
+one-reason D p r s (twice d l t low) (twice e m u under) =
+    ap {B = Refusal} TwoLasting (lowest-one (LastsTwice p) d e t u low under)
+one-reason D p r s (twice d l t low) (back e n m c under) = absurd (n d l t)
+one-reason D p r s (back d n l c low) (twice e m u under) = absurd (n e m u)
+one-reason D p r s (back d n l c low) (back e o m x under) =
+    ap {B = Refusal} LeadsBack (lowest-one (λ g. Leads (rows D p) g g) d e c x low under)
+
 module _ (D : ℕ) (p : List ℕ) (sound : fault D p ≡ none) where
   well-formed : WellFormed D p
   well-formed = no-fault-exactly D p .0 sound
@@ -219,12 +238,21 @@ module _ (D : ℕ) (p : List ℕ) (sound : fault D p ≡ none) where
       go (some r) q v = absurd (Option·none-ne-some r (sym q))
 
   -- 9 or 10 exactly for its reason
-  pub refused-exactly : (r : Refusal) → noOrder D p ≡ some r → NoOrder D p r
-  refused-exactly r e = go (noOrder D p) e (order-view D p)
+  pub refused-exactly : (r : Refusal) → (noOrder D p ≡ some r) ↔ NoOrder D p r
+  refused-exactly r = (λ e. to (noOrder D p) e (order-view D p), λ h. from (noOrder D p) refl (order-view D p) h)
     where
-      go : (x : Option Refusal) → x ≡ some r → OrderView D p x → NoOrder D p r
-      go none q v = absurd (Option·none-ne-some r q)
-      go (some s) q (refused t h) = subst (λ (y : Refusal). NoOrder D p y) (Option·some-injective s r q) h
+      to : (x : Option Refusal) → x ≡ some r → OrderView D p x → NoOrder D p r
+      to none q v = absurd (Option·none-ne-some r q)
+      to (some s) q (refused t h) = subst (λ (y : Refusal). NoOrder D p y) (Option·some-injective s r q) h
+
+      none-left : ((e : ℕ) → e < D → LastsTwice p e → ⊥) → ((e : ℕ) → e < D → Leads (rows D p) e e → ⊥)
+          → (t : Refusal) → NoOrder D p t → ⊥
+      none-left f g t (twice d l u low) = f d l u
+      none-left f g t (back d n l c low) = g d l c
+
+      from : (x : Option Refusal) → noOrder D p ≡ x → OrderView D p x → NoOrder D p r → noOrder D p ≡ some r
+      from none q (accepted f g) h = absurd (none-left f g r h)
+      from (some s) q (refused t k) h = q ∙ ap {B = Option Refusal} some (one-reason D p s r k h)
 
   -- The theorem: a legal order exists exactly if the verdict refuses by neither 9 nor 10.
   pub legal-order-exactly : ((o : List ℕ) × Legal p o) ↔ (noOrder D p ≡ none)
@@ -232,4 +260,4 @@ module _ (D : ℕ) (p : List ℕ) (sound : fault D p ≡ none) where
     where
       to : (o : List ℕ) × Legal p o → (x : Option Refusal) → noOrder D p ≡ x → noOrder D p ≡ none
       to l none e = e
-      to l (some r) e = absurd (no-legal-order D p r (refused-exactly r e) (l .0) (l .1))
+      to l (some r) e = absurd (no-legal-order D p r (refused-exactly r .0 e) (l .0) (l .1))

@@ -1,13 +1,13 @@
--- The way of a line: it begins with the line and falls, and with a line it has all that have to come before that line.
+-- The way of a line: it begins with the line and falls to line 1, and with a line it has all that come before that one.
 -- So a line off the way has no successor on it, and a move, which rewrites the sets on the way, leaves the rest right.
 use Prim.Native.Nat.{ℕ, zero, suc, _+_, _<_, _≤_}
 use mathlib.Core.Bool.{Bool, true, false, _||_}
 use mathlib.Core.List.{List, [], _∷_}
 use mathlib.Core.Logic.{_⊎_, inl, inr}
-use mathlib.Core.Path.{_≡_, refl}
+use mathlib.Core.Path.{_≡_, refl, sym, _∙_}
 use native.Mathlib.Omega.{arith}
 use lib.Dec.{eqb}
-use lib.ListN.{drop}
+use lib.ListN.{length, drop}
 use borrow.Author.Tests.{eqb-true, eq-eqb, eqb-false}
 use Rattle.model.specs.Lists.{has}
 use Rattle.model.specs.Line.{job, starts, at}
@@ -15,10 +15,11 @@ use Rattle.model.specs.WellFormed.{Rules}
 use Rattle.model.specs.Legal.{precedes}
 use Rattle.model.specs.Claims.{successors}
 use Rattle.model.specs.Move.{wayIn, way}
-use Rattle.theory.proofs.Tests.{clash, test, or-split, or-right}
+use Rattle.theory.proofs.Tests.{clash, test, or-split, or-right, le-or-lt}
 use Rattle.theory.proofs.Lists.{has-none, has-head, has-tail, has-cases}
-use Rattle.theory.proofs.WellFormed.{start-line}
+use Rattle.theory.proofs.WellFormed.{start-line, any-line}
 use Rattle.theory.proofs.Successors.{Why, sameJob, starter, why, successor-after, jobs-grow}
+use Rattle.theory.proofs.Successors.{earlier-precedes, start-precedes, precedes-reaches}
 
 -- numbers that fall, all below n
 pub data Falls : ℕ → List ℕ → Type 0 where
@@ -150,3 +151,37 @@ module _ (p : List ℕ) (rules : Rules p) where
       go (inl n) =
           clash (has k (way p i)) (way-closed i k (suc k + o) (omega arith) (successor-after p k o h .1) n) m
       go (inr n) = n
+
+  -- a line on the way has an earlier one on it, if it is not line 1
+  earlier : (i s : ℕ) → 0 < s → s < length p → has s (way p i) ≡ true → (k : ℕ) × (k < s) × (has k (way p i) ≡ true)
+  earlier i s pos lt m = go (test (eqb (job (at p s)) 1))
+    where
+      nonempty : 0 < length p
+      nonempty = omega (arith, lt)
+
+      go : (eqb (job (at p s)) 1 ≡ true) ⊎ (eqb (job (at p s)) 1 ≡ false)
+          → (k : ℕ) × (k < s) × (has k (way p i) ≡ true)
+      go (inl e) =
+          let h = earlier-precedes p 0 s pos (rules .first nonempty ∙ sym (eqb-true (job (at p s)) 1 e)) in
+          (0, pos, way-closed i 0 s pos h m)
+      go (inr e) =
+          let r = any-line (λ l. starts l (job (at p s))) p (rules .started s lt (eqb-false (job (at p s)) 1 e)) in
+          let h = start-precedes p (r .0) s (r .2) in
+          let below = precedes-reaches p rules (r .0) s (r .1) lt h .0 in
+          (r .0, below, way-closed i (r .0) s below h m)
+
+  -- from a line at most n down there is line 1
+  down : (n i s : ℕ) → s ≤ n → s < length p → has s (way p i) ≡ true → has 0 (way p i) ≡ true
+  down zero i s h lt m = let z : s ≡ 0 = omega (arith, h) in rw z at m
+  down (suc n) i s h lt m = go (le-or-lt s 0) (λ k a b c. down n i k a b c)
+    where
+      go : (s ≤ 0) ⊎ (0 < s)
+          → ((k : ℕ) → k ≤ n → k < length p → has k (way p i) ≡ true → has 0 (way p i) ≡ true)
+          → has 0 (way p i) ≡ true
+      go (inl z) ih = let e : s ≡ 0 = omega (arith, z) in rw e at m
+      go (inr pos) ih =
+          let r = earlier i s pos lt m in ih (r .0) (omega (arith, h, r .1)) (omega (arith, lt, r .1)) (r .2)
+
+  -- The way goes back to line 1.
+  pub way-to-first : (i : ℕ) → i < length p → has 0 (way p i) ≡ true
+  way-to-first i h = down i i i (omega arith) h (line-on-way p i)

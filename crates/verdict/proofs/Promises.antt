@@ -165,7 +165,7 @@ no-order-exists p lent r left j low high =
         let n = short-number (length lent) (length p) r (eb ∙ ap {B = Option Refusal} some z) in
         absurd (omega arith)
     by none none (some s) ea eb ec e =
-        let z : s ≡ r = cc in refused-exactly devices p ea r (ec ∙ ap {B = Option Refusal} some z)
+        let z : s ≡ r = cc in refused-exactly devices p ea r .0 (ec ∙ ap {B = Option Refusal} some z)
     by none none none ea eb ec e = absurd (Option·none-ne-some r e)
 
     go : (a : VerdictAnswer) (l : List ℕ) → a ≡ VerdictAnswer.Refused r → Judged p lent a l

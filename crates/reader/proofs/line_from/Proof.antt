@@ -3,6 +3,7 @@ use mathlib.Core.Path.{_∙_}
 use borrow.Author.Needs.{needs}
 use Rattle.model.specs.Board.{devices}
 use Rattle.theory.proofs.Offsets.{from-count}
+use Rattle.text.proofs.Tight.{handed-out}
 use Rattle.reader.proofs.line_from.Statement.{statement}
 use Rattle.reader.proofs.line_from.Tie as tie
 
@@ -16,7 +17,8 @@ returns : tie.Need-returns
 returns c =
     let n = c .before .newlines-before in
     let a = c .before .before .before .args in
-    c .next-line .ensures ∙ from-count devices (a .text .now) (a .offset) (n .result) (n .ensures)
+    handed-out (a .text .now) _ (c .next-line .result) (c .next-line .ensures)
+    ∙ from-count devices (a .text .now) (a .offset) (n .result) (n .ensures)
 
 pub line-from-spec : {M : Type 1} → statement M
 line-from-spec = tie.close (tie.spec newlines-before-requires next-line-requires returns)

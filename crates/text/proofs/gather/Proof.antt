@@ -63,7 +63,8 @@ returns : tie.Need-returns Inv-loop μ-loop
 returns c =
     let l = c .before .before .before .before .before in
     stopped devices (l .before .before .before .args .text .now) (l .loop .offset) (l .loop .n) (l .loop .lines)
-    (l .loop .inv) (c .before .r .given .0 .0) (sym (c .before .before .before .handed .ensures) ∙ c .before .r .given .1)
+    (l .loop .inv) (c .before .r .given .0 .0)
+    (sym (c .before .before .before .handed .ensures) ∙ c .before .r .given .1)
 
 enum-told : tie.Need-enum-told Inv-loop μ-loop
 enum-told c = search needs
