@@ -26,7 +26,26 @@ pub fn plans(run: &mut Run) {
         if run.random.once_in(3) {
             there_and_back(run, &packed, &text);
         }
+        if run.random.once_in(3) {
+            other_codes(run, &packed);
+        }
     }
+}
+
+/// The code of an action touches no device: with other codes a plan has the same table and the same
+/// verdict.
+fn other_codes(run: &mut Run, packed: &[u32]) {
+    let mut recoded = packed.to_vec();
+    for line in recoded.iter_mut().filter(|line| **line / 256 % 4 == 0) {
+        *line = *line / 256 * 256 + run.random.below(256) as u32;
+    }
+    let asked = Asked::Packed { plan: packed, room: packed.len() };
+    let table = entries::table(run, packed, packed.len());
+    let table_then = entries::table(run, &recoded, packed.len());
+    run.tally.compare("other codes: the same table", &asked, table, table_then);
+    let verdict = entries::verdict(run, packed, packed.len());
+    let verdict_then = entries::verdict(run, &recoded, packed.len());
+    run.tally.compare("other codes: the same verdict", &asked, verdict, verdict_then);
 }
 
 /// What was read is written as the same bytes; what was written is read as the same numbers.
