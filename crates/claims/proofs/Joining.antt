@@ -1,20 +1,19 @@
 -- A line's claim set by the first lines of two jobs, its own and, for a start, the started one: what the code keeps in
 -- an array of one set a job. And the own claim, as the code works it out.
-use Prim.Native.Nat.{ℕ, suc, _≤_}
+use Prim.Native.Nat.{ℕ, suc}
 use mathlib.Core.Bool.{Bool, true, false, cond}
 use mathlib.Core.List.{List, [], _∷_, _++_, map}
-use mathlib.Core.Logic.{inl, inr}
 use mathlib.Core.Path.{_≡_, refl, sym, _∙_, ap}
-use native.Mathlib.Omega.{arith}
 use lib.Bits.{or-zero-l, or-zero-r}
 use lib.Dec.{eqb}
 use lib.ListN.{getD, drop}
 use borrow.Author.Tests.{lt-ltb}
-use Rattle.model.specs.Sets.{empty, only, onlyOf, union, unionOf}
-use Rattle.model.specs.Line.{job, kind, operand, isTake, isStart, isLine, at, firstLine, maxJob}
+use Rattle.model.specs.Sets.{empty, only, union, unionOf}
+use Rattle.sets.specs.Only.{onlyOf}
+use Rattle.model.specs.Line.{job, operand, isTake, isStart, isLine, at, firstLine}
 use Rattle.model.specs.Mate.{takesAt, deviceAt}
 use Rattle.model.specs.Claims.{successors, own, joined, beyond}
-use Rattle.theory.proofs.Line.{line-parts, device-line, Fits, ofDo, ofDevice, ofStart}
+use Rattle.theory.proofs.Line.{device-line}
 
 -- ---- unions with the empty set
 
@@ -110,13 +109,3 @@ own-is D p i h = go (isTake (at p i)) refl
         → cond b (onlyOf D (operand (at p i))) empty ≡ cond b (only (operand (at p i))) empty
     go false e = refl
     go true e = rw (lt-ltb (operand (at p i)) D (device-line D (at p i) h (rw e)))
-
--- a start names a job of the board
-pub start-job : (D l : ℕ) → isLine D l ≡ true → kind l ≡ 3 → operand l ≤ maxJob
-start-job D l h e = go (line-parts D l h .2)
-  where
-    go : Fits D (kind l) (operand l) → operand l ≤ maxJob
-    go (ofDo k b) = absurd (omega arith)
-    go (ofDevice (inl k) b) = absurd (omega arith)
-    go (ofDevice (inr k) b) = absurd (omega arith)
-    go (ofStart k b c) = c

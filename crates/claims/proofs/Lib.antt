@@ -2,5 +2,6 @@
 pub mod Tight
 pub mod Promises
 pub mod Joining
+pub mod Firsts
 pub mod Passed
 pub mod Outcome

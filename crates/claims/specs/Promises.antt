@@ -1,11 +1,16 @@
--- What `table` promises (01, "Claims and rows" and "Refusal numbers"): the answer, and what it leaves in the lent list.
--- Then the words for what follows from it, which proofs/Promises.antt shows.
+-- What `claim` and `table` promise (01, "Claims and rows" and "Refusal numbers"): a line's claim set by those of the
+-- lines after it; the answer, and what it leaves in the lent list. Then the words for what follows from that, which
+-- proofs/Promises.antt shows.
 use Prim.Native.Nat.{ℕ, _<_, _≤_}
+use mathlib.Core.Bool.{cond}
 use mathlib.Core.List.{List}
 use mathlib.Core.Option.{none, some}
 use mathlib.Core.Path.{_≡_}
-use lib.ListN.{length}
+use lib.ListN.{length, getD}
 use Rattle.model.specs.Lists.{over}
+use Rattle.model.specs.Sets.{empty, union}
+use Rattle.sets.specs.Only.{onlyOf}
+use Rattle.model.specs.Line.{operand, isTake, isStart}
 use Rattle.model.specs.Answers.{tableValues}
 use Rattle.model.specs.WellFormed.{fault}
 use Rattle.model.specs.Claims.{table}
@@ -14,6 +19,16 @@ use Rattle.model.specs.Board.{devices}
 use Rattle.model.specs.declared.Refusal.{Refusal}
 use Rattle.model.specs.declared.Refusal.the-variants.{ListTooShort}
 use Rattle.model.specs.declared.TableAnswer.{TableAnswer}
+
+-- What the job claims that a line starts, by what each job claims; and the line's claim set: its own claim, with what
+-- its job claims after it and what the started job claims.
+unfoldable pub begunOf : ℕ → List ℕ → ℕ
+unfolding isStart operand empty
+begunOf l first = cond (isStart l) (getD first (operand l) 0) empty
+
+unfoldable pub claimOf : ℕ → ℕ → List ℕ → ℕ
+unfolding isTake onlyOf operand empty begunOf union
+claimOf l next first = union (cond (isTake l) (onlyOf devices (operand l)) empty) (union next (begunOf l first))
 
 -- Of a plan and a lent list, the answer and the list left are those of the outcome that `model` defines.
 pub record TablesAs (plan lent : List ℕ) (answer : TableAnswer) (left : List ℕ) : Type 0 where

@@ -5,13 +5,14 @@ use plan::Checked;
 ghost use mathlib.Core.Path.{_≡_};
 ghost use mathlib.Core.Bool.{true, cond};
 ghost use Prim.Native.Nat.{ℕ, _≤_, _<_};
-ghost use lib.ListN.{length, getD};
+ghost use lib.ListN.{length};
 ghost use Rattle.model.specs.Lists.{over};
-ghost use Rattle.model.specs.Sets.{empty, onlyOf, union};
-ghost use Rattle.model.specs.Line.{job, operand, isTake, isStart, isLine, at};
+ghost use Rattle.model.specs.Sets.{empty};
+ghost use Rattle.sets.specs.Only.{onlyOf};
+ghost use Rattle.model.specs.Line.{operand, isTake, isLine, at};
 ghost use Rattle.model.specs.Claims.{table};
 ghost use Rattle.model.specs.Board.{devices};
-ghost use Rattle.claims.specs.Promises.{TablesAs};
+ghost use Rattle.claims.specs.Promises.{begunOf, claimOf, TablesAs};
 
 // A line's own claim: its device, if it is a take.
 pub fn own(l: u32) -> u32
@@ -23,11 +24,10 @@ pub fn own(l: u32) -> u32
     0
 }
 
-// Of a start, the set of the started job's first line. For each job `first` has the set of its first line, of the lines
-// passed so far.
-fn begun(l: u32, first: &[u32; 65]) -> u32
-    requires { ⌜ isLine devices l ≡ true ⌝ }
-    ensures { λ r. ⌜ r ≡ cond (isStart l) (getD (now (first .entry)) (operand l) 0) empty ⌝ }
+// Of a start, what the started job claims: `first` has the set of each job's first line, of the lines passed so far,
+// and a place for each number that an operand has, so that none lies past it.
+fn begun(l: u32, first: &[u32; 256]) -> u32
+    ensures { λ r. ⌜ r ≡ begunOf l (now (first .entry)) ⌝ }
 {
     if l / 256 % 4 == 3 {
         let t = (l % 256) as usize;
@@ -36,15 +36,10 @@ fn begun(l: u32, first: &[u32; 65]) -> u32
     0
 }
 
-// A line's claim set: its own claim, joined with the sets of its successors.
-fn claim(l: u32, first: &[u32; 65]) -> u32
-    requires { ⌜ isLine devices l ≡ true ⌝ }
-    ensures { λ r. ⌜ r ≡ union (cond (isTake l) (onlyOf devices (operand l)) empty)
-        (union (getD (now (first .entry)) (job l) 0)
-        (cond (isStart l) (getD (now (first .entry)) (operand l) 0) empty)) ⌝ }
+// A line's claim set: its own claim, joined with what its job claims after it and with what a started job claims.
+pub fn claim(l: u32, next: u32, first: &[u32; 256]) -> u32
+    ensures { λ r. ⌜ r ≡ claimOf l next (now (first .entry)) ⌝ }
 {
-    let j = (l / 1024) as usize;
-    let next = first[j];
     sets::union(own(l), sets::union(next, begun(l, first)))
 }
 
@@ -54,14 +49,15 @@ fn fill(plan: &[u32], sets: &mut [u32])
         × (length (now plan) ≤ length (now sets)) ⌝ }
     ensures { λ r. ⌜ now (sets .exit) ≡ over (table (now (plan .entry))) (now (sets .entry)) ⌝ }
 {
-    let mut first = [0u32; 65];
+    let mut first = [0u32; 256];
     let mut i = plan.len();
     while 0 < i {
         i -= 1;
         let l = plan[i];
-        let s = claim(l, &first);
-        sets[i] = s;
         let j = (l / 1024) as usize;
+        let next = first[j];
+        let s = claim(l, next, &first);
+        sets[i] = s;
         first[j] = s;
     }
 }

@@ -1,9 +1,9 @@
 -- A set of devices as a number, device d being bit d (01, "Claims and rows").
 use Prim.Native.Nat.{ℕ, _/_, _%_, _^_}
-use mathlib.Core.Bool.{Bool, cond}
+use mathlib.Core.Bool.{Bool}
 use mathlib.Core.List.{List, [], _∷_}
 use lib.Bits.{bitOr}
-use lib.Dec.{eqb, ltb}
+use lib.Dec.{eqb}
 
 -- the set with no device, and the set of one
 unfoldable pub empty : ℕ
@@ -11,11 +11,6 @@ empty = 0
 
 unfoldable pub only : ℕ → ℕ
 only d = 2 ^ d
-
--- the set of one device of a board of D; of a number past the board, no device
-unfoldable pub onlyOf : ℕ → ℕ → ℕ
-unfolding only empty
-onlyOf D d = cond (ltb d D) (only d) empty
 
 -- the union of two sets
 unfoldable pub union : ℕ → ℕ → ℕ

@@ -11,7 +11,8 @@ use lib.ListN.{length, getD, drop, length-drop}
 use lib.Seq.{drop-cons, getD-drop}
 use borrow.Author.Tests.{eqb-true, eq-eqb, ne-eqb}
 use Rattle.model.specs.Lists.{has}
-use Rattle.model.specs.Sets.{empty, onlyOf, union, unionOf}
+use Rattle.model.specs.Sets.{empty, union, unionOf}
+use Rattle.sets.specs.Only.{onlyOf}
 use Rattle.model.specs.Line.{job, kind, operand, isTake, isStart, starts, at, lineNumber, hasLines, firstLine, maxJob}
 use Rattle.model.specs.WellFormed.{Rules, WellFormed}
 use Rattle.model.specs.Claims.{joined}
@@ -22,7 +23,8 @@ use Rattle.theory.proofs.Line.{start-of}
 use Rattle.theory.proofs.WellFormed.{any-line}
 use Rattle.theory.proofs.Successors.{first-is, first-at, jobs-grow}
 use Rattle.claims.proofs.Joining.{AtMostOne, one, at-most-one, setOf, union-none, set-here, set-there}
-use Rattle.claims.proofs.Joining.{beyond-is, own-is, start-job}
+use Rattle.claims.proofs.Joining.{beyond-is, own-is}
+use Rattle.theory.proofs.Line.{start-operand}
 use Rattle.moving.specs.Along.{nextSet, begunSet}
 use Rattle.moving.proofs.Numbered.{first-at-job}
 
@@ -161,7 +163,7 @@ module _ (D : ℕ) (p t : List ℕ) (w : WellFormed D p) (room : length p ≤ le
   unfolding begunSet
   begun first kept k =
       let s : isStart (at p i) ≡ true = start-kind (at p i) k in
-      let r = begins p t room (w .rules) i h (start-job D (at p i) (w .lines i h) k) s in
+      let r = begins p t room (w .rules) i h (start-operand D (at p i) (w .lines i h) k) s in
       rw kept (record {
         positive = r .positive;
         inPlan = r .inPlan;

@@ -10,10 +10,10 @@ use lib.Dec.{eqb}
 use lib.ListN.{length}
 use borrow.Author.Tests.{eqb-true, eqb-false, eq-eqb, ne-eqb}
 use Rattle.model.specs.Lists.{has, those, upFrom}
-use Rattle.model.specs.Sets.{only, member}
-use Rattle.theory.proofs.Tests.{test, le-or-lt}
+use Rattle.model.specs.Sets.{empty, only, member}
+use Rattle.theory.proofs.Tests.{clash, test, le-or-lt}
 use Rattle.theory.proofs.Lists.{has-head, has-right, has-upFrom, those-same}
-use Rattle.theory.proofs.Sets.{member-only}
+use Rattle.theory.proofs.Sets.{member-empty, member-only}
 
 digit : (u v : ℕ) → u < 2 → v < 2 → (differ u v < 2) × (eqb (differ u v) 1 ≡ cond (eqb v 1) (not (eqb u 1)) (eqb u 1))
 digit zero zero h k = (omega arith, refl)
@@ -97,33 +97,42 @@ one-more f g a (suc n) o l h p q e =
     go (inl k) ih = here (omega arith)
     go (inr k) ih = there (g a) (e a (λ r. omega arith)) refl (ih k)
 
-pub none-counted : 0 ≡ length (those (member 0) (upFrom 0 32))
-unfolding those upFrom member
-none-counted = refl
+none-among : (xs : List ℕ) → length (those (member 0) xs) ≡ 0
+unfolding those empty
+none-among [] = refl
+none-among (x ∷ xs) = go (member 0 x) (member-empty x) (none-among xs)
+  where
+    go : (b : Bool) → b ≡ false → length (those (member 0) xs) ≡ 0
+        → length {A = ℕ} (elim b [ true ↦ x ∷ those (member 0) xs | false ↦ those (member 0) xs ]) ≡ 0
+    go true e ih = clash true refl e
+    go false e ih = ih
 
-module _ (s o depth : ℕ) (b : o < 32) where
+pub none-counted : (D : ℕ) → 0 ≡ length (those (member 0) (upFrom 0 D))
+none-counted D = sym (none-among (upFrom 0 D))
+
+module _ (D s o depth : ℕ) (b : o < D) where
   turned-over : (m : Bool) → member s o ≡ m → member (bitXor s (only o)) o ≡ not m
   turned-over m e = member-flip s o o ∙ rw (eq-eqb o o refl, e)
 
   others-stay : (d : ℕ) → (d ≡ o → ⊥) → member s d ≡ member (bitXor s (only o)) d
   others-stay d n = sym (member-flip s o d ∙ rw (ne-eqb o d (λ q. n (sym q))))
 
-  pub put-in : member s o ≡ false → depth ≡ length (those (member s) (upFrom 0 32))
-      → depth + 1 ≡ length (those (member (bitXor s (only o))) (upFrom 0 32))
+  pub put-in : member s o ≡ false → depth ≡ length (those (member s) (upFrom 0 D))
+      → depth + 1 ≡ length (those (member (bitXor s (only o))) (upFrom 0 D))
   put-in m c =
       omega (
         arith,
         c,
-        one-more (member s) (member (bitXor s (only o))) 0 32 o (omega arith) (omega arith) m (turned-over false m)
+        one-more (member s) (member (bitXor s (only o))) 0 D o (omega arith) (omega arith) m (turned-over false m)
             others-stay,
       )
 
-  pub taken-out : member s o ≡ true → depth ≡ length (those (member s) (upFrom 0 32))
-      → depth - 1 ≡ length (those (member (bitXor s (only o))) (upFrom 0 32))
+  pub taken-out : member s o ≡ true → depth ≡ length (those (member s) (upFrom 0 D))
+      → depth - 1 ≡ length (those (member (bitXor s (only o))) (upFrom 0 D))
   taken-out m c =
       omega (
         arith,
         c,
-        one-more (member (bitXor s (only o))) (member s) 0 32 o (omega arith) (omega arith) (turned-over true m) m
+        one-more (member (bitXor s (only o))) (member s) 0 D o (omega arith) (omega arith) (turned-over true m) m
             (λ d n. sym (others-stay d n)),
       )

@@ -17,11 +17,12 @@ use Rattle.model.specs.declared.Refusal.{Refusal}
 use Rattle.model.specs.declared.Refusal.the-variants.{BadStart, NeverStarted}
 use Rattle.theory.proofs.Tests.{clash, test, and-split, and-both, and-left, and-right}
 use Rattle.theory.proofs.Lists.{Answer, first-answer, has-upFrom, first-is-lowest}
-use Rattle.theory.proofs.Line.{start-parts, start-of, line-parts, Fits, ofDo, ofDevice, ofStart}
+use Rattle.theory.proofs.Line.{start-parts, start-of}
 use Rattle.theory.proofs.WellFormed.{startsEmpty, unstarted, any-line, line-any}
 use Rattle.plan.specs.Checked.{checked}
 use Rattle.plan.specs.Jobs.{numberOfFound}
 use Rattle.plan.specs.Ends.{lowerOf, emptyFrom, neverFrom, endsBy, endsOf}
+use Rattle.theory.proofs.Line.{start-operand}
 use Rattle.plan.proofs.Tables.{firstNumber, number-none, none-number, number-found, number-is}
 use Rattle.plan.proofs.Whole.{Ended, listed, first-line-found}
 
@@ -125,13 +126,7 @@ module _ (D : ℕ) (p first starter : List ℕ) (e : Ended D p first starter) wh
       starts-it = start-of (at p i) (s .0)
 
       small : o ≤ maxJob
-      small = go (line-parts D (at p i) (e .lines i h .line) .2)
-        where
-          go : Fits D (kind (at p i)) o → o ≤ maxJob
-          go (ofStart k a b) = b
-          go (ofDo k b) = absurd (omega (arith, k, eqb-true (kind (at p i)) 3 (s .0)))
-          go (ofDevice (inl k) b) = absurd (omega (arith, k, eqb-true (kind (at p i)) 3 (s .0)))
-          go (ofDevice (inr k) b) = absurd (omega (arith, k, eqb-true (kind (at p i)) 3 (s .0)))
+      small = start-operand D (at p i) (e .lines i h .line) (eqb-true (kind (at p i)) 3 (s .0))
 
       none-first : getD first o 0 ≡ 0
       none-first = e .first-is o small

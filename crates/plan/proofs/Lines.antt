@@ -9,6 +9,7 @@ use native.Mathlib.Omega.{arith}
 use lib.Dec.{leb, ltb}
 use lib.ListN.{getD}
 use borrow.Author.Tests.{le-leb, lt-leb, lt-ltb, le-ltb}
+use Rattle.model.specs.Board.{devices}
 use Rattle.model.specs.Line.{kind, operand, isStep, isLine, operandFits}
 use Rattle.theory.proofs.Tests.{le-or-lt}
 use Rattle.theory.proofs.Line.{Fits, ofDo, ofDevice, ofStart, line-parts}
@@ -45,7 +46,7 @@ below-32 o = go (le-or-lt o 31)
     go (inl h) = lt-ltb o 32 (omega arith) ∙ sym (le-leb o 31 h)
     go (inr h) = le-ltb o 32 (omega arith) ∙ sym (lt-leb o 31 h)
 
-below : (k o : ℕ) → k < 4 → o < getD lowest k 0 → operandFits 32 k o ≡ false
+below : (k o : ℕ) → k < 4 → o < getD lowest k 0 → operandFits devices k o ≡ false
 unfolding operandFits
 below zero o h l = absurd (omega arith)
 below (suc zero) o h l = absurd (omega arith)
@@ -53,7 +54,7 @@ below (suc (suc zero)) o h l = absurd (omega arith)
 below (suc (suc (suc zero))) o h l = rw (lt-leb 2 o l)
 below (suc (suc (suc (suc k)))) o h l = absurd (omega arith)
 
-from : (k o : ℕ) → k < 4 → getD lowest k 0 ≤ o → operandFits 32 k o ≡ leb o (getD highest k 0)
+from : (k o : ℕ) → k < 4 → getD lowest k 0 ≤ o → operandFits devices k o ≡ leb o (getD highest k 0)
 unfolding operandFits
 from zero o h l = or-none (leb o 255 || false) ∙ or-none (leb o 255)
 from (suc zero) o h l = or-none (ltb o 32) ∙ below-32 o
@@ -62,27 +63,17 @@ from (suc (suc (suc zero))) o h l = rw (le-leb 2 o l)
 from (suc (suc (suc (suc k)))) o h l = absurd (omega arith)
 
 module _ (j k o : ℕ) (low : 1 ≤ j) (high : j ≤ 64) (kind : k < 4) where
-  pub low-operand : o < getD lowest k 0 → isStep 32 j k o ≡ false
-  low-operand h = fits 32 j k o low high ∙ below k o kind h
+  pub low-operand : o < getD lowest k 0 → isStep devices j k o ≡ false
+  low-operand h = fits devices j k o low high ∙ below k o kind h
 
-  pub high-operand : getD lowest k 0 ≤ o → isStep 32 j k o ≡ leb o (getD highest k 0)
-  high-operand h = fits 32 j k o low high ∙ from k o kind h
-
--- the operand of a start that is a line's has its place in a table of jobs
-pub start-operand : (D n : ℕ) → isLine D n ≡ true → kind n ≡ 3 → operand n < 65
-start-operand D n h e = go (line-parts D n h .2)
-  where
-    go : Fits D (kind n) (operand n) → operand n < 65
-    go (ofDo k b) = absurd (omega arith)
-    go (ofDevice (inl k) b) = absurd (omega arith)
-    go (ofDevice (inr k) b) = absurd (omega arith)
-    go (ofStart k a b) = omega arith
+  pub high-operand : getD lowest k 0 ≤ o → isStep devices j k o ≡ leb o (getD highest k 0)
+  high-operand h = fits devices j k o low high ∙ from k o kind h
 
 -- the operand of a take or a give that is a line's is a device's number
-pub device-operand : (n : ℕ) → isLine 32 n ≡ true → kind n < 3 → 1 ≤ kind n → operand n < 32
-device-operand n h l m = go (line-parts 32 n h .2)
+pub device-operand : (n : ℕ) → isLine devices n ≡ true → kind n < 3 → 1 ≤ kind n → operand n < devices
+device-operand n h l m = go (line-parts devices n h .2)
   where
-    go : Fits 32 (kind n) (operand n) → operand n < 32
+    go : Fits devices (kind n) (operand n) → operand n < devices
     go (ofDo k b) = absurd (omega arith)
     go (ofDevice k b) = b
     go (ofStart k a b) = absurd (omega arith)

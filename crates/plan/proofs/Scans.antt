@@ -4,6 +4,7 @@ use mathlib.Core.List.{List, []}
 use mathlib.Core.Option.{Option, none, some}
 use Prim.Native.Nat.{ℕ}
 use native.Mathlib.Omega.{arith}
+use Rattle.model.specs.Board.{devices}
 use Rattle.model.specs.Answers.{firstRefusal}
 use Rattle.model.specs.WellFormed.{firstFault, fault}
 use Rattle.model.specs.declared.Refusal.{Refusal}
@@ -18,14 +19,14 @@ use Rattle.plan.proofs.Told.{told, untold}
 
 module _ (p first starter : List ℕ) where
   -- a fault leaves both tables
-  scans-refused : (r : Refusal) → fault 32 p ≡ some r → ScansAs p first starter (Checked.Refused r) first starter
+  scans-refused : (r : Refusal) → fault devices p ≡ some r → ScansAs p first starter (Checked.Refused r) first starter
   scans-refused r e = record {
     answers = ap checked (sym e);
     firsts = ap (λ (x : Option Refusal). leftBy x (firstLines p) first) (sym e);
     starts = cc;
   }
 
-  scans-fine : (f s : List ℕ) → fault 32 p ≡ none → f ≡ firstLines p → s ≡ starters p
+  scans-fine : (f s : List ℕ) → fault devices p ≡ none → f ≡ firstLines p → s ≡ starters p
       → ScansAs p first starter Checked.Fine f s
   scans-fine f s e a b = record {
     answers = ap checked (sym e);
@@ -33,36 +34,37 @@ module _ (p first starter : List ℕ) where
     starts = cc;
   }
 
-  module _ (f s : List ℕ) (w : Checked) (walked : walkBy w f s ≡ walkFrom 32 0 0 [] none-yet none-yet p) where
+  module _ (f s : List ℕ) (w : Checked) (walked : walkBy w f s ≡ walkFrom devices 0 0 [] none-yet none-yet p) where
     -- a line has a fault
     pub at-a-line : (r : Refusal) → w ≡ Checked.Refused r → ScansAs p first starter (Checked.Refused r) first starter
     unfolding fault firstRefusal
-    at-a-line r e = go w (firstFault 32 [] p) refl e (answered 32 p f s w walked)
+    at-a-line r e = go w (firstFault devices [] p) refl e (answered devices p f s w walked)
       where
-        go : (w : Checked) (x : Option Refusal) → firstFault 32 [] p ≡ x → w ≡ Checked.Refused r
-            → Answered 32 p f s w x
+        go : (w : Checked) (x : Option Refusal) → firstFault devices [] p ≡ x → w ≡ Checked.Refused r
+            → Answered devices p f s w x
             → ScansAs p first starter (Checked.Refused r) first starter
         go (Checked.Refused q) (some y) z e (refused t) = let v : q ≡ r = cc in scans-refused r (rw (z, v))
         go Checked.Fine x z e a = let v : _≡_ {A = ℕ} 0 1 = cc in absurd (omega arith)
 
     module _ (fine : w ≡ Checked.Fine) where
-      ended : (firstFault 32 [] p ≡ none) × Ended 32 p f s
-      ended = go w (firstFault 32 [] p) refl fine (answered 32 p f s w walked)
+      ended : (firstFault devices [] p ≡ none) × Ended devices p f s
+      ended = go w (firstFault devices [] p) refl fine (answered devices p f s w walked)
         where
-          go : (w : Checked) (x : Option Refusal) → firstFault 32 [] p ≡ x → w ≡ Checked.Fine → Answered 32 p f s w x
-              → (firstFault 32 [] p ≡ none) × Ended 32 p f s
+          go : (w : Checked) (x : Option Refusal) → firstFault devices [] p ≡ x → w ≡ Checked.Fine
+              → Answered devices p f s w x
+              → (firstFault devices [] p ≡ none) × Ended devices p f s
           go (Checked.Refused q) x z e a = let v : _≡_ {A = ℕ} 0 1 = cc in absurd (omega arith)
           go Checked.Fine none z e (allFine t) = (z, t)
 
       module _ (x : Checked) (ends : x ≡ endsOf f s) where
-        found : x ≡ checked (fault 32 p)
-        found = ends ∙ ends-find 32 p f s (ended .1) (ended .0)
+        found : x ≡ checked (fault devices p)
+        found = ends ∙ ends-find devices p f s (ended .1) (ended .0)
 
         -- the last tests refuse
         pub after-the-lines : (r : Refusal) → x ≡ Checked.Refused r
             → ScansAs p first starter (Checked.Refused r) first starter
-        after-the-lines r e = scans-refused r (told (fault 32 p) r (sym e ∙ found))
+        after-the-lines r e = scans-refused r (told (fault devices p) r (sym e ∙ found))
 
         -- nothing is broken
         pub sound : x ≡ Checked.Fine → ScansAs p first starter Checked.Fine f s
-        sound e = scans-fine f s (untold (fault 32 p) (sym e ∙ found)) (ended .1 .firsts) (ended .1 .starts)
+        sound e = scans-fine f s (untold (fault devices p) (sym e ∙ found)) (ended .1 .firsts) (ended .1 .starts)

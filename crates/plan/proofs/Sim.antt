@@ -24,7 +24,7 @@ use Rattle.theory.proofs.WellFormed.{badGive, takeOfHeld}
 use Rattle.theory.proofs.WellFormed.{broken}
 use Rattle.plan.specs.Walk.{kept, ruleOf, on, bad, withFirst, stepOf, butLatest}
 use Rattle.plan.specs.Walk as Walk
-use Rattle.plan.proofs.Lines.{start-operand}
+use Rattle.theory.proofs.Line.{start-operand}
 use Rattle.plan.proofs.Held.{same-members, give-test, give-leaves, take-adds, held-take, held-give, held-other}
 use Rattle.plan.proofs.Held.{none-held}
 use Rattle.plan.proofs.Tables.{firstNumber, number-stays, number-new, number-kept, number-none, none-number}

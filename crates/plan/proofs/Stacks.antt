@@ -12,6 +12,7 @@ use lib.Dec.{eqb}
 use lib.ListN.{length, getD, take, drop, set, length-set, length-drop}
 use lib.Seq.{take-suc, take-suc-set, take-set-le, drop-set-add, getD-drop, getD-set-same, getD-set-other}
 use borrow.Author.Tests.{eqb-true, eqb-false, not-true, not-false}
+use Rattle.model.specs.Board.{devices}
 use Rattle.model.specs.Lists.{has, upFrom}
 use Rattle.model.specs.Sets.{empty, only, member}
 use Rattle.model.specs.declared.Refusal.the-variants.{TakeOfHeld, GiveWithoutTake}
@@ -25,18 +26,18 @@ use Rattle.plan.proofs.Flips.{member-flip, with-one, without-one, none-
 use Rattle.plan.proofs.Rules.{held-take, new-take, empty-give, right-give, wrong-give}
 
 -- a device's number is its remainder
-same-device : (o : ℕ) → o < 32 → o % 32 ≡ o
+same-device : (o : ℕ) → o < devices → o % 32 ≡ o
 same-device o b = omega arith
 
 -- no device held
-pub none-held : (stack : List ℕ) → length stack ≡ 34 → getD stack 0 0 ≡ 32 → Holding 0 0 stack
+pub none-held : (stack : List ℕ) → length stack ≡ devices + 2 → getD stack 0 0 ≡ devices → Holding 0 0 stack
 unfolding has empty
 none-held stack l f = record {
   long = l;
   floor = f;
   same = λ d h. member-empty d;
   once = λ e h. absurd (omega arith);
-  many = none-counted;
+  many = none-counted devices;
 }
 
 -- what a job holds, or nothing: b says which
@@ -46,9 +47,9 @@ held-or-none depth held stack h true = h
 held-or-none depth held stack h false = none-held stack (h .long) (h .floor)
 
 -- no more devices than the board has
-pub few : (depth held : ℕ) (stack : List ℕ) → Holding depth held stack → depth ≤ 32
+pub few : (depth held : ℕ) (stack : List ℕ) → Holding depth held stack → depth ≤ devices
 few depth held stack h =
-    omega (arith, h .many, those-length (member held) (upFrom 0 32), length-upFrom 0 32)
+    omega (arith, h .many, those-length (member held) (upFrom 0 devices), length-upFrom 0 devices)
 
 module _ (depth held o : ℕ) (stack : List ℕ) (h : Holding depth held stack) where
   above : drop 1 (set stack (depth + 1) o) ≡ set (drop 1 stack) depth o
@@ -74,7 +75,7 @@ module _ (depth held o : ℕ) (stack : List ℕ) (h : Holding depth held stack) 
   still-long : length (set stack (depth + 1) o) ≡ 34
   still-long = length-set stack (depth + 1) o ∙ h .long
 
-  still-floor : getD (set stack (depth + 1) o) 0 0 ≡ 32
+  still-floor : getD (set stack (depth + 1) o) 0 0 ≡ devices
   still-floor = getD-set-other stack (depth + 1) 0 o 0 (λ q. omega arith) ∙ h .floor
 
   after-do : Holding depth held (set stack (depth + 1) o)
@@ -89,7 +90,8 @@ module _ (depth held o : ℕ) (stack : List ℕ) (h : Holding depth held stack) 
   pushed : heldIn (depth + 1) (set stack (depth + 1) o) ≡ heldIn depth stack ++ (o ∷ [])
   pushed = ap (take (depth + 1)) above ∙ rw (add-one, take-suc-set (drop 1 stack) depth o fits)
 
-  after-take : o < 32 → member held o ≡ false → Holding (depth + 1) (bitXor held (only o)) (set stack (depth + 1) o)
+  after-take : o < devices → member held o ≡ false
+      → Holding (depth + 1) (bitXor held (only o)) (set stack (depth + 1) o)
   after-take b m = record {
     long = still-long;
     floor = still-floor;
@@ -97,7 +99,7 @@ module _ (depth held o : ℕ) (stack : List ℕ) (h : Holding depth held stack) 
         ∙ with-one d o (heldIn depth stack) (member held d) new (h .same d k)
         ∙ ap (has d) (sym pushed);
     once = λ e k. go e (le-or-lt depth e) k;
-    many = put-in held o depth b m (h .many);
+    many = put-in devices held o depth b m (h .many);
   }
     where
       new : has o (heldIn depth stack) ≡ false
@@ -121,7 +123,8 @@ module _ (depth held o : ℕ) (stack : List ℕ) (h : Holding depth held stack) 
         getD-drop 1 stack (depth - 1) 0
         ∙ ap (λ (n : ℕ). getD stack n 0) (let q : 1 + (depth - 1) ≡ depth = omega arith in q)
 
-    after-give : o < 32 → getD stack depth 0 ≡ o → Holding (depth - 1) (bitXor held (only o)) (set stack (depth + 1) o)
+    after-give : o < devices → getD stack depth 0 ≡ o
+        → Holding (depth - 1) (bitXor held (only o)) (set stack (depth + 1) o)
     after-give b t = record {
       long = still-long;
       floor = still-floor;
@@ -129,7 +132,7 @@ module _ (depth held o : ℕ) (stack : List ℕ) (h : Holding depth held stack) 
           ∙ without-one d o (heldIn (depth - 1) stack) (member held d) other (h .same d k ∙ ap (has d) popped)
           ∙ ap (has d) (sym (below (depth - 1) (omega arith)));
       once = λ e k. still-once e (omega arith);
-      many = taken-out held o depth b m (h .many);
+      many = taken-out devices held o depth b m (h .many);
     }
       where
         popped : heldIn depth stack ≡ heldIn (depth - 1) stack ++ (o ∷ [])
@@ -160,15 +163,16 @@ abbrev pub setAfter : ℕ → ℕ → ℕ → ℕ
 setAfter k o held = cond (eqb k 1 || eqb k 2) (bitXor held (only (o % 32))) held
 
 -- the place below the first device is no device's
-pub deep : (depth held o : ℕ) (stack : List ℕ) → Holding depth held stack → o < 32 → getD stack depth 0 ≡ o → 1 ≤ depth
+pub deep : (depth held o : ℕ) (stack : List ℕ) → Holding depth held stack → o < devices → getD stack depth 0 ≡ o
+    → 1 ≤ depth
 deep zero held o stack h b t = absurd (omega (arith, h .floor))
 deep (suc depth) held o stack h b t = omega arith
 
 module _ (i j o depth held : ℕ) (stack starter : List ℕ) (h : Holding depth held stack) where
-  is-held : o < 32 → has o (heldIn depth stack) ≡ member held (o % 32)
+  is-held : o < devices → has o (heldIn depth stack) ≡ member held (o % 32)
   is-held b = sym (h .same o b) ∙ ap (member held) (sym (same-device o b))
 
-  broken-take : o < 32 → member held (o % 32) ≡ true
+  broken-take : o < devices → member held (o % 32) ≡ true
       → broken (TakeOfHeld (i + 1)) ≡ ruleOf i j 1 o (heldIn depth stack) starter
   broken-take b m = held-take i j 1 o (drop 1 stack) starter depth refl (sym (is-held b ∙ m))
 
@@ -186,7 +190,7 @@ module _ (i j o depth held : ℕ) (stack starter : List ℕ) (h : Holding depth 
   unfolding ruleOf
   kept-do = ap {B = Ruled} (λ xs. kept xs starter) (below depth held o stack h depth (omega arith))
 
-  kept-take : o < 32 → member held (o % 32) ≡ false
+  kept-take : o < devices → member held (o % 32) ≡ false
       → kept (heldIn (depth + 1) (set stack (depth + 1) o)) starter ≡ ruleOf i j 1 o (heldIn depth stack) starter
   kept-take b m =
       ap {B = Ruled} (λ l. kept (take (depth + 1) l) starter) (above depth held o stack h)
@@ -201,7 +205,7 @@ module _ (i j o depth held : ℕ) (stack starter : List ℕ) (h : Holding depth 
 
 -- a device's number where the kind wants one
 abbrev pub Handled : ℕ → ℕ → Type 0
-Handled k o = (1 ≤ k) → o < 32
+Handled k o = (1 ≤ k) → o < devices
 
 module _ (i j k o depth held : ℕ) (stack : List ℕ) (h : Holding depth held stack) (three : k < 3)
     (b : Handled k o) where

@@ -13,7 +13,8 @@ use Rattle.model.specs.Board.{devices}
 use Rattle.model.specs.Lists.{upFrom, positions, any, those}
 use Rattle.model.specs.Line.{operand, at}
 use Rattle.model.specs.Mate.{takesAt, deviceAt, takes, mate, isNone, lastingAt, lasting}
-use Rattle.model.specs.Sets.{empty, only, onlyOf, union, member}
+use Rattle.model.specs.Sets.{empty, only, union, member}
+use Rattle.sets.specs.Only.{onlyOf}
 use Rattle.model.specs.Rows.{lastingTakes}
 use Rattle.theory.proofs.Tests.{test, le-or-lt}
 use Rattle.theory.proofs.Sets.{member-empty, member-only, member-union, empty-below, only-below, union-below}

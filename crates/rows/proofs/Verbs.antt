@@ -3,11 +3,10 @@ use Prim.Native.Nat.{ℕ, _/_, _%_, _<_}
 use mathlib.Core.Bool.{true, false}
 use mathlib.Core.Path.{_≡_}
 use native.Mathlib.Omega.{arith}
-use borrow.Author.Tests.{eq-eqb, ne-eqb, eqb-true}
-use Rattle.model.specs.Line.{job, kind, operand, isTake, isGive, isStart, isLine}
+use borrow.Author.Tests.{eq-eqb, ne-eqb}
+use Rattle.model.specs.Line.{job, kind, operand, isTake, isGive, isLine}
 use Rattle.theory.proofs.Tests.{or-left}
 use Rattle.theory.proofs.Line.{line-parts, device-line}
-use Rattle.claims.proofs.Joining.{start-job}
 
 module _ (l : ℕ) where
   pub takes-1 : l / 256 % 4 ≡ 1 → isTake l ≡ true
@@ -26,21 +25,9 @@ module _ (l : ℕ) where
   unfolding isGive
   gives-not h = ne-eqb (kind l) 2 h
 
-  pub starts-3 : l / 256 % 4 ≡ 3 → isStart l ≡ true
-  unfolding isStart
-  starts-3 h = eq-eqb (kind l) 3 h
-
-  pub starts-not : (l / 256 % 4 ≡ 3 → ⊥) → isStart l ≡ false
-  unfolding isStart
-  starts-not h = ne-eqb (kind l) 3 h
-
--- the job of a line, and the job that it starts, are one of the 64
-pub job-small : (D l : ℕ) → isLine D l ≡ true → job l < 65
+-- the job of a line has its place among the sets of the jobs
+pub job-small : (D l : ℕ) → isLine D l ≡ true → job l < 256
 job-small D l h = omega (arith, line-parts D l h .1)
-
-pub started-small : (D l : ℕ) → isLine D l ≡ true → isStart l ≡ true → operand l < 65
-unfolding isStart
-started-small D l h s = omega (arith, start-job D l h (eqb-true (kind l) 3 s))
 
 -- the device of a take is on the board
 pub taken-small : (D l : ℕ) → isLine D l ≡ true → isTake l ≡ true → operand l < D

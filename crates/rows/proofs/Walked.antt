@@ -24,7 +24,7 @@ pub record Walked (p rs flags sets : List ℕ) (h : Held) (j w i : ℕ) : Type 0
   pub counted : Counted p (h .held) (h .twice) i
 
 pub none-walked : (p : List ℕ)
-    → Walked p (replicate devices 0) (replicate maxLines 0) (replicate 65 0) (record { held = 0; twice = 0 }) 0 0
+    → Walked p (replicate devices 0) (replicate maxLines 0) (replicate 256 0) (record { held = 0; twice = 0 }) 0 0
     (length p)
 none-walked p = record { marked = none-marked p; gathered = none-gathered p; counted = none-counted p }
 

@@ -13,9 +13,10 @@ use Rattle.model.specs.WellFormed.{fault}
 use Rattle.model.specs.declared.Refusal.{Refusal}
 use Rattle.plan.specs.Jobs.{firstLines}
 use Rattle.plan.specs.Ends.{leftBy}
+use Rattle.claims.specs.Promises.{claimOf}
 use Rattle.rows.specs.declared.Held.{Held}
 use Rattle.rows.specs.declared.HoldsAnswer.{HoldsAnswer}
-use Rattle.rows.specs.Lasting.{lastingFlags, heldToEnd, heldTwice, flaggedDevice, rowJoined, claimOf}
+use Rattle.rows.specs.Lasting.{lastingFlags, heldToEnd, heldTwice, flaggedDevice, rowJoined}
 
 -- the rows of the board's devices
 abbrev pub rowsOf : List ℕ → List ℕ

@@ -7,9 +7,10 @@ use lib.Dec.{eqb, leb}
 use lib.ListN.{length, getD, set}
 use Rattle.model.specs.Board.{devices}
 use Rattle.model.specs.Lists.{upFrom, positions, any}
-use Rattle.model.specs.Line.{job, operand, isTake, isGive, isStart, maxLines}
+use Rattle.model.specs.Line.{job, operand, isTake, isGive, maxLines}
 use Rattle.model.specs.Mate.{lastingAt, lasting}
-use Rattle.model.specs.Sets.{empty, onlyOf, union}
+use Rattle.model.specs.Sets.{empty, union}
+use Rattle.sets.specs.Only.{onlyOf}
 use Rattle.model.specs.Rows.{lastingTakes}
 use Rattle.rows.specs.Where.{devicesWhere}
 
@@ -58,13 +59,3 @@ unfoldable pub rowJoined : ℕ → ℕ → ℕ → List ℕ → List ℕ
 unfolding operand union
 rowJoined l flag next rows =
     cond (eqb flag 1) (set rows (operand l) (union next (getD rows (operand l) 0))) rows
-
--- what the job claims that a line starts, and the line's claim set: its own claim, with what its job claims after it
--- and what the started job claims
-unfoldable pub startedOf : ℕ → List ℕ → ℕ
-unfolding isStart operand empty
-startedOf l sets = cond (isStart l) (getD sets (operand l) 0) empty
-
-unfoldable pub claimOf : ℕ → ℕ → List ℕ → ℕ
-unfolding isTake onlyOf operand empty startedOf union
-claimOf l next sets = union (cond (isTake l) (onlyOf devices (operand l)) empty) (union next (startedOf l sets))

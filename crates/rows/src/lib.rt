@@ -11,8 +11,7 @@ ghost use Rattle.model.specs.Board.{devices};
 ghost use Rattle.model.specs.Line.{operand, isLine, maxLines};
 ghost use Rattle.model.specs.WellFormed.{fault};
 ghost use Rattle.rows.specs.Where.{onlyIf, devicesWhere, circlesOf};
-ghost use Rattle.rows.specs.Lasting.{wantedBefore, wantedAfter, lastsFlag, flaggedDevice};
-ghost use Rattle.rows.specs.Lasting.{rowJoined, startedOf, claimOf};
+ghost use Rattle.rows.specs.Lasting.{wantedBefore, wantedAfter, lastsFlag, flaggedDevice, rowJoined};
 ghost use Rattle.rows.specs.Holds.{CountedOn, GatheredOn, WalkedAs, HoldsAs};
 ghost use Rattle.rows.specs.Square.{ledBy, swept, closed, inOwnRow};
 
@@ -172,30 +171,8 @@ fn join_row(l: u32, flag: u8, next: u32, rows: &mut [u32; 32])
     }
 }
 
-// What the job claims that a line starts.
-fn started(l: u32, sets: &[u32; 65]) -> u32
-    requires { ⌜ isLine devices l ≡ true ⌝ }
-    ensures { λ r. ⌜ r ≡ startedOf l (now (sets .entry)) ⌝ }
-{
-    if l / 256 % 4 == 3 {
-        let j = (l % 256) as usize;
-        return sets[j];
-    }
-    0
-}
-
-// The claim set of a line, with what its job claims after it.
-fn claim(l: u32, next: u32, sets: &[u32; 65]) -> u32
-    requires { ⌜ isLine devices l ≡ true ⌝ }
-    ensures { λ r. ⌜ r ≡ claimOf l next (now (sets .entry)) ⌝ }
-{
-    let begun = started(l, sets);
-    let beyond = sets::union(next, begun);
-    sets::union(claims::own(l), beyond)
-}
-
 // The rows with a line, and the claim set of its job's first line so far, which is now this line.
-fn gather(l: u32, flag: u8, rows: &mut [u32; 32], sets: &mut [u32; 65])
+fn gather(l: u32, flag: u8, rows: &mut [u32; 32], sets: &mut [u32; 256])
     requires { ⌜ (isLine devices l ≡ true) × (flag ≡ 1 → operand l < devices) ⌝ }
     ensures { λ r. ⌜
         GatheredOn l flag (now (rows .entry)) (now (sets .entry)) (now (rows .exit)) (now (sets .exit))
@@ -204,7 +181,7 @@ fn gather(l: u32, flag: u8, rows: &mut [u32; 32], sets: &mut [u32; 65])
     let j = (l / 1024) as usize;
     let next = sets[j];
     join_row(l, flag, next, rows);
-    let s = claim(l, next, sets);
+    let s = claims::claim(l, next, sets);
     sets[j] = s;
 }
 
@@ -216,7 +193,7 @@ fn walk_back(plan: &[u32], rows: &mut [u32; 32], lasting: &mut [u8; 1024]) -> He
 {
     *rows = [0u32; 32];
     *lasting = [0u8; 1024];
-    let mut sets = [0u32; 65];
+    let mut sets = [0u32; 256];
     let mut found = Held { held: 0, twice: 0 };
     let mut job: u32 = 0;
     let mut wanted: u32 = 0;

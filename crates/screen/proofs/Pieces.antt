@@ -1,7 +1,7 @@
 -- 01, "Plans with their verdicts", its last part: the pieces that are printed, how long each is, and what stands in the
 -- buffer when one was put behind another. The laws of putting are those of `text`.
 use Prim.Native.Nat.{ℕ, zero, suc, _+_, _-_, _*_, _/_, _%_, _^_, _≤_, _<_}
-use mathlib.Core.Bool.{Bool, true, false}
+use mathlib.Core.Bool.{true, false}
 use mathlib.Core.List.{List, [], _∷_, _++_, append-assoc, append-nil}
 use mathlib.Core.Logic.{_⊎_, inl, inr}
 use mathlib.Core.Path.{_≡_, refl, sym, _∙_, ap}
@@ -9,8 +9,8 @@ use native.Mathlib.Numerals.{add-one}
 use native.Mathlib.Omega.{arith}
 use lib.Pow.{pow-add}
 use lib.Dec.{leb}
-use borrow.Author.Tests.{leb-true, leb-false, le-leb, lt-leb}
-use Rattle.theory.proofs.Tests.{le-or-lt}
+use borrow.Author.Tests.{le-leb, lt-leb}
+use Rattle.theory.proofs.Tests.{le-or-lt, leb-agree}
 use lib.ListN.{length, getD, take, drop, length-append, take-append-drop}
 use lib.Seq.{take-suc, take-all, drop-cons, drop-nil}
 use Rattle.model.specs.Text.{tab, newline, decimal, tabbed}
@@ -71,11 +71,7 @@ listed-append (x ∷ xs) ys =
     rw (listed-append xs ys) (sym (append-assoc (tabbed (decimal x ∷ [])) (listed xs) (listed ys)))
 
 leb-less : (n r left : ℕ) → n ≤ left → leb (n + r) left ≡ leb r (left - n)
-leb-less n r left l = by-test (leb r (left - n)) refl
-  where
-    by-test : (b : Bool) → leb r (left - n) ≡ b → leb (n + r) left ≡ b
-    by-test true f = le-leb (n + r) left (omega (arith, leb-true r (left - n) f))
-    by-test false f = lt-leb (n + r) left (omega (arith, leb-false r (left - n) f))
+leb-less n r left l = leb-agree (n + r) left r (left - n) (λ e. omega arith) (λ e. omega arith)
 
 module _ (order : List ℕ) (i : ℕ) (h : i < length order) where
   rest-length : length (listed (drop i order)) ≡ length (decimal (getD order i 0)) + 1 + length

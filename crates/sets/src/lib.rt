@@ -4,7 +4,8 @@ ghost use mathlib.Core.Path.{_≡_};
 ghost use mathlib.Core.Option.{Option·getD};
 ghost use lib.ListN.{length};
 ghost use Rattle.model.specs.Lists.{upFrom, those, firstOf};
-ghost use Rattle.model.specs.Sets.{onlyOf, union, member};
+ghost use Rattle.model.specs.Sets.{union, member};
+ghost use Rattle.sets.specs.Only.{onlyOf};
 ghost use Rattle.model.specs.Board.{devices};
 
 // The set of one device; no device where the board has none of that number.

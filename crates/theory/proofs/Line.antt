@@ -157,3 +157,13 @@ device-line D l h t = go (line-parts D l h .2) (or-split (eqb (kind l) 1) (eqb (
     go : Fits D (kind l) (operand l) → (eqb (kind l) 1 ≡ true) ⊎ (eqb (kind l) 2 ≡ true) → operand l < D
     go f (inl e) = device (inl (eqb-true (kind l) 1 e)) f
     go f (inr e) = device (inr (eqb-true (kind l) 2 e)) f
+
+-- the operand of a start that is a line's is a job's number
+pub start-operand : (D n : ℕ) → isLine D n ≡ true → kind n ≡ 3 → operand n ≤ maxJob
+start-operand D n h e = go (line-parts D n h .2)
+  where
+    go : Fits D (kind n) (operand n) → operand n ≤ maxJob
+    go (ofDo k b) = absurd (omega arith)
+    go (ofDevice (inl k) b) = absurd (omega arith)
+    go (ofDevice (inr k) b) = absurd (omega arith)
+    go (ofStart k a b) = b

@@ -3,10 +3,10 @@ use Prim.Native.Nat.{ℕ, _≤_, _<_}
 use mathlib.Core.Bool.{Bool, true, false, cond, _&&_, _||_}
 use mathlib.Core.Logic.{_⊎_, inl, inr}
 use mathlib.Core.Option.{Option, none, some, Option·none-ne-some}
-use mathlib.Core.Path.{_≡_, refl, ap}
+use mathlib.Core.Path.{_≡_, refl, sym, ap}
 use native.Mathlib.Omega.{arith}
 use lib.Dec.{leb}
-use borrow.Author.Tests.{leb-true, leb-false}
+use borrow.Author.Tests.{leb-true, leb-false, le-leb}
 
 -- no test both passes and fails
 pub clash : {A : Type 0} (b : Bool) → b ≡ true → b ≡ false → A
@@ -66,3 +66,13 @@ le-or-lt a b = go (test (leb a b))
     go : (leb a b ≡ true) ⊎ (leb a b ≡ false) → (a ≤ b) ⊎ (b < a)
     go (inl h) = inl (leb-true a b h)
     go (inr h) = inr (leb-false a b h)
+
+-- two tests that pass together are the same
+pub tests-agree : (s t : Bool) → (s ≡ true → t ≡ true) → (t ≡ true → s ≡ true) → s ≡ t
+tests-agree true t f g = sym (f refl)
+tests-agree false true f g = g refl
+tests-agree false false f g = refl
+
+pub leb-agree : (a b c d : ℕ) → (a ≤ b → c ≤ d) → (c ≤ d → a ≤ b) → leb a b ≡ leb c d
+leb-agree a b c d f g =
+    tests-agree (leb a b) (leb c d) (λ e. le-leb c d (f (leb-true a b e))) (λ e. le-leb a b (g (leb-true c d e)))

@@ -3,8 +3,7 @@
 use Prim.Native.Nat.{ℕ, suc, _+_, _-_, _*_, _/_, _%_, _^_, _<_, _≤_}
 use mathlib.Core.Bool.{Bool, true, false, cond, not, _||_, _&&_}
 use mathlib.Core.List.{List, [], _∷_}
-use mathlib.Core.Logic.{_⊎_, inl, inr}
-use mathlib.Core.Path.{_≡_, refl, sym, _∙_, ap}
+use mathlib.Core.Path.{_≡_, refl, _∙_, ap}
 use native.Mathlib.Numerals.{add-one}
 use native.Mathlib.Omega.{arith}
 use mir.Val.{boolByte}
@@ -21,12 +20,13 @@ use Rattle.model.specs.WellFormed.{WellFormed, fault}
 use Rattle.model.specs.Board.{devices}
 use mathlib.Core.Option.{none}
 use Rattle.theory.proofs.WellFormed.{no-fault-exactly, any-line}
-use Rattle.theory.proofs.Line.{line-parts, start-of, Fits, ofDo, ofDevice, ofStart}
+use Rattle.theory.proofs.Line.{start-of}
 use Rattle.theory.proofs.Successors.{first-is, first-at}
 use Rattle.theory.proofs.Lists.{left-all}
 use Rattle.theory.proofs.Sets.{shifted}
-use Rattle.theory.proofs.Tests.{le-or-lt}
+use Rattle.theory.proofs.Tests.{leb-agree}
 use Rattle.theory.proofs.Progress.{device-below}
+use Rattle.theory.proofs.Line.{start-operand}
 use Rattle.verdict.proofs.Counts.{through, takes-own, tallied-takes}
 use Rattle.verdict.specs.declared.waiting.Waiting.{Waiting}
 use Rattle.verdict.specs.declared.order.Choice.{Choice}
@@ -154,14 +154,8 @@ started-some p first lasting t i h e = go (first-at j p (k .0) (k .1) (eqb-true 
         opened : hasLines p j ≡ true → any (λ l. eqb (job l) j) p ≡ true
         opened x = x
 
-    fits : Fits devices 3 j → j ≤ maxJob
-    fits (ofDo q b) = absurd (omega (arith, q))
-    fits (ofDevice (inl q) b) = absurd (omega (arith, q))
-    fits (ofDevice (inr q) b) = absurd (omega (arith, q))
-    fits (ofStart q a b) = b
-
     small : j ≤ maxJob
-    small = fits (rw e at (line-parts devices (at p i) (w .lines i h) .2))
+    small = start-operand devices (at p i) (w .lines i h) e
 
     go : (f : ℕ) × (has f (firstLine j p) ≡ true) × (f ≤ k .0) → StartedAt p first i
     go r = record {
@@ -190,7 +184,7 @@ none-came p places w ts e = rw e (refl, refl)
 none-shifted : (d : ℕ) → 0 * 2 ^ d % 4294967296 ≡ 0
 none-shifted d = omega arith
 
-with-scarce : (w : Waiting) (d : ℕ) (t : Bool) → d < 32
+with-scarce : (w : Waiting) (d : ℕ) (t : Bool) → d < devices
     → _≡_ {A = Waiting}
     (record {
       ready = w .ready;
@@ -204,25 +198,21 @@ with-scarce w d false h = rw (none-shifted d, or-comm (w .scarce) 0)
 
 -- at most one is left where at most two were
 leb-less : (c : ℕ) → 1 ≤ c → leb c 2 ≡ leb (c - 1) 1
-leb-less c h = go (le-or-lt c 2)
-  where
-    go : (c ≤ 2) ⊎ (2 < c) → leb c 2 ≡ leb (c - 1) 1
-    go (inl l) = le-leb c 2 l ∙ sym (le-leb (c - 1) 1 (omega arith))
-    go (inr l) = lt-leb c 2 l ∙ sym (lt-leb (c - 1) 1 (omega arith))
+leb-less c h = leb-agree c 2 (c - 1) 1 (λ e. omega arith) (λ e. omega arith)
 
 module _ (p counts : List ℕ) (w : Waiting) (i : ℕ) (can : CanFall p counts i) where
   abbrev takes : Bool
   takes = eqb (at p i / 256 % 4) 1
 
   abbrev place : ℕ
-  place = at p i % 32
+  place = at p i % devices
 
   module _ (e : takes ≡ true) where
     device : (deviceAt p i ≡ place) × (1 ≤ getD counts place 0)
     unfolding deviceAt operand takesAt isTake kind
     device =
         let f = can e in
-        let d : at p i % 256 ≡ at p i % 32 = omega (arith, f .0) in
+        let d : at p i % 256 ≡ at p i % devices = omega (arith, f .0) in
         (d, rw d at f .1)
 
     settles-take : (_≡_ {A = Waiting}
@@ -287,26 +277,27 @@ chooses-foremost places w v on i s e q r = rw (e, r, q)
 -- ---- the counts at the start
 
 pub rise-fits : (p counts : List ℕ) (i : ℕ) → CanRise p counts i
-    → getD counts (at p i % 32) 0 + boolByte (eqb (at p i / 256 % 4) 1) ≤ 1025
+    → getD counts (at p i % devices) 0 + boolByte (eqb (at p i / 256 % 4) 1) ≤ 1025
 rise-fits p counts i can = go (eqb (at p i / 256 % 4) 1)
   where
-    go : (t : Bool) → getD counts (at p i % 32) 0 + boolByte t ≤ 1025
+    go : (t : Bool) → getD counts (at p i % devices) 0 + boolByte t ≤ 1025
     go true = omega (arith, can .1)
     go false = omega (arith, can .1)
 
 pub adds : (p counts : List ℕ) (i : ℕ) → CanRise p counts i
-    → set counts (at p i % 32) (getD counts (at p i % 32) 0 + boolByte (eqb (at p i / 256 % 4) 1)) ≡ added p counts i
+    → set counts (at p i % devices) (getD counts (at p i % devices) 0 + boolByte (eqb (at p i / 256 % 4) 1))
+    ≡ added p counts i
 unfolding added takesAt isTake kind deviceAt operand
 adds p counts i can = go (eqb (at p i / 256 % 4) 1) (can .0)
   where
     go : (t : Bool) → (t ≡ true → at p i % 256 < devices)
-        → set counts (at p i % 32) (getD counts (at p i % 32) 0 + boolByte t)
+        → set counts (at p i % devices) (getD counts (at p i % devices) 0 + boolByte t)
         ≡ cond t (set counts (at p i % 256) (getD counts (at p i % 256) 0 + 1)) counts
     go true f =
-        let d : at p i % 256 ≡ at p i % 32 = omega (arith, f refl) in rw d
+        let d : at p i % 256 ≡ at p i % devices = omega (arith, f refl) in rw d
     go false f =
-        let z : getD counts (at p i % 32) 0 + 0 ≡ getD counts (at p i % 32) 0 = omega arith in
-        rw z (set-getD counts (at p i % 32) 0)
+        let z : getD counts (at p i % devices) 0 + 0 ≡ getD counts (at p i % devices) 0 = omega arith in
+        rw z (set-getD counts (at p i % devices) 0)
 
 pub tallied-on : (p counts next : List ℕ) (i : ℕ) → counts ≡ tallied p i → next ≡ added p counts i
     → next ≡ tallied p (i + 1)
@@ -321,8 +312,8 @@ tallied-fits p counts sound i h e =
       λ t. device-below devices p w i (deviceAt p i) (takes-own p i t),
       rw e (omega (
         arith,
-        tallied-takes p w i (at p i % 32) (omega arith),
-        left-all (through p [] (at p i % 32)) i,
+        tallied-takes p w i (at p i % devices) (omega arith),
+        left-all (through p [] (at p i % devices)) i,
         w .few,
       )),
     )

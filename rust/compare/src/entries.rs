@@ -8,8 +8,9 @@ use crate::lent::{Lent, Word};
 use crate::run::{Answer, Run};
 use gimmerskip::raw;
 use second::orders;
-use second::plain::{self, passes_over, rows, shortest_circle, SCREEN};
+use second::plain::{self, passes_over, SCREEN};
 use second::read::{check_packed, Handed, Lines};
+use second::tally::circle_class;
 use second::Refusal;
 use std::hint::black_box;
 
@@ -87,7 +88,12 @@ pub fn lines(run: &mut Run, text: &[u8]) {
             let asked = Asked::Text { text, room: offset };
             let lent = lent_text(run, text);
             run.meet("line", &wanted);
-            run.tally.compare("line: the answer", &asked, wanted, answer(raw::line(lent.list(), offset)));
+            run.tally.compare(
+                "line: the answer",
+                &asked,
+                wanted,
+                answer(raw::line(lent.list(), offset)),
+            );
             stays(run, "line", &asked, text, &lent);
         }
         if last {
@@ -168,12 +174,7 @@ fn sort(run: &mut Run, plan: &[u32], refusal: Option<&Refusal>) {
                 run.tally.meet("plan: accepted with over 500 lines");
             }
         }
-        Some(10) => run.tally.meet(match shortest_circle(&rows(&plan)) {
-            Some(1) => "plan: shortest circle 1",
-            Some(2) => "plan: shortest circle 2",
-            Some(3) => "plan: shortest circle 3",
-            _ => "plan: shortest circle 4 or more",
-        }),
+        Some(10) => run.tally.meet(circle_class(&plan)),
         Some(_) => {}
     }
 }

@@ -25,19 +25,9 @@ mod small;
 
 use program::Program;
 use run::Run;
+use second::tally::seeded;
 use std::process::ExitCode;
 use std::time::Instant;
-
-/// The seed where none is asked for.
-const SEED: u64 = 20_260_417;
-
-/// The seed asked for, or the fixed one.
-fn seed() -> Result<u64, String> {
-    match std::env::var("SEED") {
-        Ok(seed) => seed.parse().map_err(|_| format!("SEED is no number: {seed}")),
-        Err(_) => Ok(SEED),
-    }
-}
 
 /// Runs one part and prints the time it took.
 fn part(run: &mut Run, name: &str, part: impl FnOnce(&mut Run)) {
@@ -47,30 +37,21 @@ fn part(run: &mut Run, name: &str, part: impl FnOnce(&mut Run)) {
 }
 
 fn main() -> ExitCode {
-    let seed = match seed() {
-        Ok(seed) => seed,
-        Err(fault) => {
-            eprintln!("{fault}");
-            return ExitCode::from(2);
+    seeded(|seed| {
+        let mut run = Run::new(seed);
+        let program = Program::new();
+        let program = processes::is_there(&mut run, &program).then_some(program);
+        part(&mut run, "listed plans", |run| listed::listed(run, program.as_ref()));
+        part(&mut run, "plans up to the limits", limits::plans);
+        part(&mut run, "texts of any bytes", bytes::texts);
+        part(&mut run, "random plans against all orders", small::random_plans);
+        part(&mut run, "rings against all orders", small::rings);
+        part(&mut run, "all small plans against all orders", small::all_plans);
+        part(&mut run, "moves", moves::moves);
+        if let Some(program) = program {
+            part(&mut run, "the program", |run| processes::processes(run, &program));
         }
-    };
-    println!("seed {seed}");
-    let mut run = Run::new(seed);
-    let program = Program::new();
-    let program = processes::is_there(&mut run, &program).then_some(program);
-    part(&mut run, "listed plans", |run| listed::listed(run, program.as_ref()));
-    part(&mut run, "plans up to the limits", limits::plans);
-    part(&mut run, "texts of any bytes", bytes::texts);
-    part(&mut run, "random plans against all orders", small::random_plans);
-    part(&mut run, "rings against all orders", small::rings);
-    part(&mut run, "all small plans against all orders", small::all_plans);
-    part(&mut run, "moves", moves::moves);
-    if let Some(program) = program {
-        part(&mut run, "the program", |run| processes::processes(run, &program));
-    }
-    println!();
-    match run.tally.print() {
-        true => ExitCode::SUCCESS,
-        false => ExitCode::FAILURE,
-    }
+        println!();
+        run.tally.print()
+    })
 }

@@ -8,9 +8,9 @@ use crate::plans::{any_plan, any_ring, long_plan, short_plan};
 use crate::run::{Answer, Run};
 use gimmerskip::raw;
 use second::damage::damaged_packed;
-use second::line::{pack, DEVICES};
+use second::line::pack;
 use second::plain::{self, edited, table};
-use second::random::Random;
+use second::random::{some_move, Move, Random};
 use second::read::check_packed;
 use second::Line;
 
@@ -19,13 +19,6 @@ use second::Line;
 pub struct Kept {
     pub plan: Vec<u32>,
     pub sets: Vec<u32>,
-}
-
-/// A move: what is asked of the plan.
-#[derive(Clone, Copy)]
-pub struct Move {
-    pub line: u32,
-    pub device: u32,
 }
 
 /// Compares one move. Plan and table go on as the proved entry left them.
@@ -108,25 +101,6 @@ fn accepted(run: &mut Run, before: &Kept, after: &Kept, asked_move: Move, count:
     }
 }
 
-/// What is asked of a plan: mostly a take and a device, at times anything.
-fn ask(random: &mut Random, plan: &[u32]) -> Move {
-    let is_take = |number: &u32| number / 256 % 4 == 1;
-    let takes: Vec<usize> = (0..plan.len()).filter(|&at| is_take(&plan[at])).collect();
-    let line = match random.below(20) {
-        0 => random.below(plan.len() + 3) as u32,
-        1 if random.once_in(4) => random.bits() as u32,
-        _ if takes.is_empty() => 0,
-        _ => random.one_of(&takes) as u32 + 1,
-    };
-    let device = match random.below(20) {
-        0 => DEVICES + random.below(300) as u32,
-        1 if random.once_in(4) => random.bits() as u32,
-        2..=8 if !takes.is_empty() => plan[random.one_of(&takes)] % 256,
-        _ => random.below(DEVICES as usize) as u32,
-    };
-    Move { line, device }
-}
-
 /// A table that is not that of the plan: an older one, one with a wrong set or two, too short, or
 /// anything.
 fn spoilt(random: &mut Random, sets: &[u32], older: &[u32]) -> Vec<u32> {
@@ -156,7 +130,7 @@ fn keep_moving(run: &mut Run, plan: &[Line], moves: usize) {
     let mut older = sets.clone();
     let mut kept = Kept { plan: pack(plan), sets };
     for _ in 0..moves {
-        let asked = ask(&mut run.random, &kept.plan);
+        let asked = some_move(&mut run.random, &kept.plan);
         let sets = kept.sets.clone();
         if run.random.once_in(4) {
             let spoilt = spoilt(&mut run.random, &kept.sets, &older);
@@ -171,7 +145,7 @@ fn keep_moving(run: &mut Run, plan: &[Line], moves: usize) {
 /// A move of a damaged plan, with the table it had when it was whole, or one long enough.
 fn move_damaged(run: &mut Run) {
     let plan = any_plan(&mut run.random);
-    let asked = ask(&mut run.random, &pack(&plan));
+    let asked = some_move(&mut run.random, &pack(&plan));
     let damaged = damaged_packed(&mut run.random, &pack(&plan));
     let mut sets = table(&plan);
     if run.random.once_in(2) {

@@ -2,8 +2,9 @@
 
 mod common;
 
-use common::{packed, text, A, B, G, H};
+use common::text;
 use gimmerskip::{entries, SCREEN_ROOM};
+use second::listed::{packed, A, B, D, E, G, H};
 
 #[test]
 fn reading_and_writing_give_back_what_they_got() {
@@ -41,14 +42,11 @@ fn the_table_has_the_sets_of_all_that_follows() {
 
 #[test]
 fn the_verdict_has_the_order_and_what_is_held() {
-    let d = "1 start 2; 1 take 0; 1 take 1; 1 give 1; 1 give 0; \
-             2 take 1; 2 take 0; 2 give 0; 2 give 1";
-    let e = "1 take 0; 1 start 2; 1 give 0; 2 take 0";
     let cases: [(&str, &[u16], usize); 5] = [
         (A, &[1, 4, 5, 6, 2, 3], 2),
         (B, &[1, 4, 5, 6, 2, 3], 2),
-        (d, &[1, 2, 3, 4, 5, 6, 7, 8, 9], 0),
-        (e, &[1, 2, 3, 4], 1),
+        (D, &[1, 2, 3, 4, 5, 6, 7, 8, 9], 0),
+        (E, &[1, 2, 3, 4], 1),
         ("", &[], 0),
     ];
     for (short, lines, held) in cases {

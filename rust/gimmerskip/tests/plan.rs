@@ -2,8 +2,9 @@
 
 mod common;
 
-use common::{packed, plan, text, A, B, G, H};
+use common::{plan, text};
 use gimmerskip::{Order, Plan, Refusal};
+use second::listed::{packed, A, B, G, H};
 
 #[test]
 fn text_and_packed_numbers_make_the_same_plan() {

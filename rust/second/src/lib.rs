@@ -9,13 +9,15 @@
 //!
 //! [`orders`] and [`read`] never call [`plain`], and [`plain`] never calls [`orders`]; the run
 //! `readings` is the only place where their answers meet. [`random`] makes the plans for it,
-//! [`damage`] spoils them, [`small`] brings every small one, and [`tally`] counts what was seen.
+//! [`damage`] spoils them, [`small`] brings every small one, [`listed`] those of document 01 with
+//! their answers, and [`tally`] counts what was seen.
 
 #![forbid(unsafe_code)]
 #![warn(missing_docs)]
 
 pub mod damage;
 pub mod line;
+pub mod listed;
 pub mod orders;
 pub mod plain;
 pub mod random;

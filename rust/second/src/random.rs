@@ -1,5 +1,5 @@
-//! Plans for the comparisons: a small seeded generator, random well-formed plans, and planted
-//! rings, whole and cut.
+//! Plans for the comparisons: a small seeded generator, random well-formed plans, planted rings,
+//! whole and cut, and moves.
 //!
 //! Reads, of document 01: "Rules of a well-formed plan", so that everything made here keeps them.
 //! What a ring is for is told by "Claims and rows": random plans alone hardly ever hold a circle
@@ -377,4 +377,32 @@ fn make_noise(random: &mut Random, jobs: &mut [Vec<Step>], devices: &[u8]) {
             _ => {}
         }
     }
+}
+
+/// A move: what is asked of a plan.
+#[derive(Clone, Copy, Debug)]
+pub struct Move {
+    /// The number of the line, from 1.
+    pub line: u32,
+    /// The device that it is moved to.
+    pub device: u32,
+}
+
+/// A move of a packed plan: mostly a take and a device, at times anything.
+pub fn some_move(random: &mut Random, plan: &[u32]) -> Move {
+    let is_take = |number: &u32| number / 256 % 4 == 1;
+    let takes: Vec<usize> = (0..plan.len()).filter(|&at| is_take(&plan[at])).collect();
+    let line = match random.below(20) {
+        0 => random.below(plan.len() + 3) as u32,
+        1 if random.once_in(4) => random.bits() as u32,
+        _ if takes.is_empty() => 0,
+        _ => random.one_of(&takes) as u32 + 1,
+    };
+    let device = match random.below(20) {
+        0 => DEVICES + random.below(300) as u32,
+        1 if random.once_in(4) => random.bits() as u32,
+        2..=8 if !takes.is_empty() => plan[random.one_of(&takes)] % 256,
+        _ => random.below(DEVICES as usize) as u32,
+    };
+    Move { line, device }
 }

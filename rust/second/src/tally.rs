@@ -1,14 +1,19 @@
 //! What a comparison run has seen: its named checks, and the classes of inputs it met. The classes
-//! go by the words of document 01, mostly its refusal numbers; each run brings its own list.
+//! go by the words of document 01, mostly its refusal numbers; each run brings its own list. And how
+//! such a run begins and ends.
 
 use crate::line::Line;
+use crate::plain::{rows, shortest_circle};
 use crate::read::write;
 use std::collections::BTreeMap;
 use std::fmt::Debug;
+use std::process::ExitCode;
 
 /// A class that fewer inputs than this fall into shows little; runs ask for it unless they say
 /// otherwise.
 pub const LEAST: u64 = 200;
+/// The seed where none is asked for.
+const SEED: u64 = 20_260_417;
 /// Differences printed in full; later ones are only counted.
 const TOLD: u64 = 10;
 
@@ -27,6 +32,16 @@ impl Input for [Line] {
 impl Input for Vec<Line> {
     fn told(&self) -> String {
         self.as_slice().told()
+    }
+}
+
+/// The class of a plan with a circle, by its shortest one.
+pub fn circle_class(plan: &[Line]) -> &'static str {
+    match shortest_circle(&rows(plan)) {
+        Some(1) => "plan: shortest circle 1",
+        Some(2) => "plan: shortest circle 2",
+        Some(3) => "plan: shortest circle 3",
+        _ => "plan: shortest circle 4 or more",
     }
 }
 
@@ -119,5 +134,24 @@ impl Tally {
         let all = self.classes.len() + self.checks.len();
         println!("\n{} passed, {failed} failed", all - failed);
         failed == 0
+    }
+}
+
+/// A program that compares: prints its seed, runs, and ends well if the run says that all is well.
+/// The seed is taken from the environment variable SEED; without it, a fixed one is used.
+pub fn seeded(run: impl FnOnce(u64) -> bool) -> ExitCode {
+    let seed = match std::env::var("SEED").map(|seed| seed.parse().map_err(|_| seed)) {
+        Ok(Err(seed)) => {
+            eprintln!("SEED is no number: {seed}");
+            return ExitCode::from(2);
+        }
+        Ok(Ok(seed)) => seed,
+        Err(_) => SEED,
+    };
+    println!("seed {seed}");
+    if run(seed) {
+        ExitCode::SUCCESS
+    } else {
+        ExitCode::FAILURE
     }
 }

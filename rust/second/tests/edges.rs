@@ -2,7 +2,8 @@
 
 mod common;
 
-use common::{packed, plan, refusal, text, A};
+use common::{packed, plan, refusal};
+use second::listed::{text, A, G};
 use second::plain::{read_into, table_into, verdict, verdict_into, write_into};
 use second::read::{check_packed, read, write};
 use second::{Line, Refusal, Verb};
@@ -292,7 +293,7 @@ fn eleven_is_the_length_alone_and_comes_before_the_verdict() {
     let mut short = vec![9; length - 1];
     assert_eq!(write_into(&a, &mut short), Err(refusal(11, length as u64)));
     assert!(short.iter().all(|&byte| byte == 9));
-    let nine = packed("1 start 2; 1 take 5; 2 take 5");
+    let nine = packed(G);
     assert_eq!(verdict_into(&nine, &mut [9; 2]), Err(refusal(11, 3)));
     assert_eq!(verdict_into(&nine, &mut [9; 3]), Err(refusal(9, 5)));
     assert_eq!(verdict_into(&[0], &mut []), Err(refusal(2, 1)));

@@ -2,7 +2,8 @@
 
 mod common;
 
-use common::{packed, refusal, text, A};
+use common::{packed, refusal};
+use second::listed::{text, A};
 use second::read::{Handed, Lines};
 
 /// Takes the lines until something else comes, which then has to come again and again.

@@ -2,8 +2,9 @@
 
 mod common;
 
-use common::{packed, plan, refusal, A};
+use common::{packed, plan, refusal};
 use second::line::pack;
+use second::listed::{A, F, G};
 use second::plain::{move_claim, table, way};
 use second::read::check_packed;
 use second::Refusal;
@@ -165,11 +166,11 @@ fn eight_names_the_line_of_the_edited_plan() {
 
 #[test]
 fn plans_without_a_legal_order_may_be_moved() {
-    let (nine, sets) = both("1 start 2; 1 take 5; 2 take 5");
+    let (nine, sets) = both(G);
     let (new_plan, new_sets, changed) = moved(&nine, &sets, 3, 6).expect("accepted");
     assert_eq!(new_sets, table(&check_packed(&new_plan).expect("well-formed")));
     assert_eq!(changed, 2);
-    let (ten, sets) = both("1 take 0; 1 start 2; 2 take 0; 2 give 0");
+    let (ten, sets) = both(F);
     let (new_plan, _, changed) = moved(&ten, &sets, 3, 8).expect("accepted");
     assert_eq!(new_plan, pack(&plan("1 take 0; 1 start 2; 2 take 8; 2 give 8")));
     assert_eq!(changed, 3);

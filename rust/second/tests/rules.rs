@@ -1,8 +1,6 @@
 //! The rules of a well-formed plan, read once more as sentences about whole lists, and held
 //! against the reader for every short list over a few verbs, well-formed or not.
 
-mod common;
-
 use second::read::{check_packed, read, write};
 use second::{line::pack, Line, Refusal, Verb};
 

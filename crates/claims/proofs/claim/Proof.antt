@@ -1,20 +1,8 @@
--- `claims::claim` meets its contract: the three sets are joined.
-use native.Mathlib.Omega.{arith}
+-- `claims::claim` meets its contract: the union of three sets.
 use borrow.Author.Needs.{needs}
-use Rattle.model.specs.Line.{job}
-use Rattle.theory.proofs.Line.{line-parts}
+use Rattle.claims.specs.Promises.{claimOf}
 use Rattle.claims.proofs.claim.Statement.{statement}
 use Rattle.claims.proofs.claim.Tie as tie
-
-cast-j : tie.Need-cast-j
-cast-j c = search needs
-
-mul-next : tie.Need-mul-next
-mul-next c = search needs
-
-element-copy-out-next : tie.Need-element-copy-out-next
-unfolding job
-element-copy-out-next c = omega (arith, line-parts 32 (c .args .l) (c .pre) .1)
 
 own-requires : tie.Need-own-requires
 own-requires c κs = search needs
@@ -29,24 +17,8 @@ union-requires-2 : tie.Need-union-requires-2
 union-requires-2 c κs = search needs
 
 returns : tie.Need-returns
-unfolding job
-returns c =
-    cc (
-      c .union2 .ensures,
-      c .before .union .ensures,
-      c .before .before .begun .ensures,
-      c .before .before .before .own .ensures,
-    )
+unfolding claimOf
+returns c = cc
 
 pub claim-spec : {M : Type 1} → statement M
-claim-spec =
-    tie.close
-    (tie.spec
-    cast-j
-    mul-next
-    element-copy-out-next
-    own-requires
-    begun-requires
-    union-requires
-    union-requires-2
-    returns)
+claim-spec = tie.close (tie.spec own-requires begun-requires union-requires union-requires-2 returns)

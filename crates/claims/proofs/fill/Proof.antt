@@ -4,6 +4,7 @@ use mathlib.Core.Bool.{true}
 use mathlib.Core.Path.{_≡_}
 use native.Mathlib.Omega.{arith}
 use borrow.Author.Needs.{needs}
+use Rattle.model.specs.Board.{devices}
 use Rattle.model.specs.Line.{job, isLine, at, maxJob}
 use Rattle.theory.proofs.Line.{line-parts}
 use Rattle.claims.proofs.Passed.{Done, nothing-done, one-back, all-done}
@@ -18,13 +19,13 @@ abbrev μ-loop : tie.MeasureT-loop
 
 -- the line at hand is a line, so its job is one of the board
 line-at : (c : tie.In-loop Inv-loop μ-loop)
-    → isLine 32 (at (c .before .before .before .before .args .plan .now) (c .before .loop .i - 1)) ≡ true
+    → isLine devices (at (c .before .before .before .before .args .plan .now) (c .before .loop .i - 1)) ≡ true
 line-at c = c .before .before .before .before .pre .0 (c .before .loop .i - 1) (omega arith)
 
 job-at : (c : tie.In-loop Inv-loop μ-loop)
     → job (at (c .before .before .before .before .args .plan .now) (c .before .loop .i - 1)) ≤ maxJob
 job-at c =
-    line-parts 32 (at (c .before .before .before .before .args .plan .now) (c .before .loop .i - 1)) (line-at c) .1
+    line-parts devices (at (c .before .before .before .before .args .plan .now) (c .before .loop .i - 1)) (line-at c) .1
 
 loop-holds : tie.Need-loop-holds Inv-loop μ-loop
 loop-holds c =
@@ -39,18 +40,26 @@ mul-l c = search needs
 shared-slice-read-l : tie.Need-shared-slice-read-l Inv-loop μ-loop
 shared-slice-read-l c = omega arith
 
+cast-j : tie.Need-cast-j Inv-loop μ-loop
+unfolding job
+cast-j c = omega (arith, job-at (c .before))
+
+mul-next : tie.Need-mul-next Inv-loop μ-loop
+unfolding job
+mul-next c = omega (arith, job-at (c .before))
+
+array-read-next : tie.Need-array-read-next Inv-loop μ-loop
+unfolding job
+array-read-next c = omega (arith, job-at (c .before))
+
 claim-requires : tie.Need-claim-requires Inv-loop μ-loop
-claim-requires c κs = line-at (c .before .before)
+claim-requires c κs = search needs
 
 mul-sets : tie.Need-mul-sets Inv-loop μ-loop
 mul-sets c = search needs
 
 slice-write-sets : tie.Need-slice-write-sets Inv-loop μ-loop
 slice-write-sets c = omega arith
-
-cast-j : tie.Need-cast-j Inv-loop μ-loop
-unfolding job
-cast-j c = omega (arith, job-at (c .before .before .before))
 
 mul-first : tie.Need-mul-first Inv-loop μ-loop
 unfolding job
@@ -90,10 +99,12 @@ fill-spec =
     sub-i
     mul-l
     shared-slice-read-l
+    cast-j
+    mul-next
+    array-read-next
     claim-requires
     mul-sets
     slice-write-sets
-    cast-j
     mul-first
     array-write-first
     loop-less

@@ -3,7 +3,7 @@ use native.Mathlib.Omega.{arith}
 use borrow.Author.Needs.{needs}
 use Rattle.model.specs.Line.{kind, operand, at}
 use Rattle.moving.proofs.Successor.{Begun, begun, none-begun}
-use Rattle.claims.proofs.Joining.{start-job}
+use Rattle.theory.proofs.Line.{start-operand}
 use Rattle.moving.proofs.begun_set.Statement.{statement}
 use Rattle.moving.proofs.begun_set.Tie as tie
 
@@ -33,7 +33,7 @@ unfolding kind operand
 element-copy-out-f c =
     let s = c .before .before in
     let ok = s .pre .0 .lines (s .args .i) (s .pre .2) in
-    omega (arith, start-job 32 (at (s .args .plan .now) (s .args .i)) ok (c .if1 .taken))
+    omega (arith, start-operand 32 (at (s .args .plan .now) (s .args .i)) ok (c .if1 .taken))
 
 cast-f : tie.Need-cast-f
 unfolding kind operand

@@ -8,6 +8,7 @@ use lib.Dec.{eqb}
 use lib.ListN.{getD}
 use borrow.Author.Needs.{needs}
 use borrow.Author.Tests.{ne-eqb, eqb-true}
+use Rattle.model.specs.Board.{devices}
 use Rattle.model.specs.Line.{job, kind, operand}
 use Rattle.model.specs.Sets.{member}
 use Rattle.plan.proofs.Lines.{device-operand}
@@ -21,7 +22,7 @@ tested : (k o depth held : ℕ) (stack : List ℕ) (r t : Bool) → r ≡ member
 tested k o depth held stack r t e h =
     ap (λ (x : Bool). (eqb k 1 && x) || (eqb k 2 && not (eqb (getD stack depth 0) o))) (sym e) ∙ h
 
-few-at : (c : tie.Start) → c .args .depth ≤ 32
+few-at : (c : tie.Start) → c .args .depth ≤ devices
 few-at c = few (c .args .depth) (c .args .held) (c .args .stack .now) (c .pre .3)
 
 holds-requires : tie.Need-holds-requires

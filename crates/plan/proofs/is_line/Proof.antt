@@ -3,6 +3,7 @@ use mathlib.Core.Path.{sym}
 use native.Mathlib.Omega.{arith}
 use borrow.Author.Needs.{needs}
 use Prim.Native.Nat.{_/_, _%_}
+use Rattle.model.specs.Board.{devices}
 use Rattle.model.specs.Line.{isLine}
 use Rattle.plan.proofs.Lines.{low-job, high-job, low-operand, high-operand}
 use Rattle.plan.proofs.is_line.Statement.{statement}
@@ -13,12 +14,12 @@ cast-k c = search needs
 
 returns : tie.Need-returns
 unfolding isLine
-returns c = let n = c .before .args .n in sym (low-job 32 (n / 1024) (n / 256 % 4) (n % 256) (c .if1 .taken))
+returns c = let n = c .before .args .n in sym (low-job devices (n / 1024) (n / 256 % 4) (n % 256) (c .if1 .taken))
 
 returns-2 : tie.Need-returns-2
 unfolding isLine
 returns-2 c =
-    let n = c .before .before .args .n in sym (high-job 32 (n / 1024) (n / 256 % 4) (n % 256) (c .if2 .taken))
+    let n = c .before .before .args .n in sym (high-job devices (n / 1024) (n / 256 % 4) (n % 256) (c .if2 .taken))
 
 mul-if3 : tie.Need-mul-if3
 mul-if3 c = search needs

@@ -2,6 +2,7 @@
 use mathlib.Core.Path.{sym, _∙_}
 use native.Mathlib.Omega.{arith}
 use borrow.Author.Needs.{needs}
+use Rattle.model.specs.Board.{devices}
 use Rattle.model.specs.Line.{job}
 use Rattle.plan.specs.Walk.{heldIn}
 use Rattle.plan.proofs.Steps.{too-many, not-line, early, late}
@@ -13,7 +14,7 @@ returns : tie.Need-returns
 returns c =
     let s = c .before in
     let a = s .args in (
-      too-many 32 (a .n) (a .i) (a .prev) (heldIn (a .depth) (a .stack .now)) (a .first .now) (a .starter .now)
+      too-many devices (a .n) (a .i) (a .prev) (heldIn (a .depth) (a .stack .now)) (a .first .now) (a .starter .now)
           (c .if1 .taken),
       (none-held (a .stack .now) (s .pre .1 .long) (s .pre .1 .floor), search needs),
     )
@@ -32,7 +33,7 @@ unfolding job
 returns-2 c =
     let s = c .before .before .before .before in
     let a = s .args in (
-      early 32 (a .n) (a .i) (a .prev) (heldIn (a .depth) (a .stack .now)) (a .first .now) (a .starter .now)
+      early devices (a .n) (a .i) (a .prev) (heldIn (a .depth) (a .stack .now)) (a .first .now) (a .starter .now)
           (c .before .before .before .if1 .left) (sym (c .before .if2 .taken) ∙ c .before .before .is-line .ensures)
           (c .if3 .taken),
       (none-held (a .stack .now) (s .pre .1 .long) (s .pre .1 .floor), search needs),
@@ -52,7 +53,7 @@ unfolding job
 returns-3 c =
     let s = c .before .before .before .before .before in
     let a = s .args in (
-      late 32 (a .n) (a .i) (a .prev) (heldIn (a .depth) (a .stack .now)) (a .first .now) (a .starter .now)
+      late devices (a .n) (a .i) (a .prev) (heldIn (a .depth) (a .stack .now)) (a .first .now) (a .starter .now)
           (c .before .before .before .before .if1 .left)
           (sym (c .before .before .if2 .taken) ∙ c .before .before .before .is-line .ensures) (c .if4 .taken),
       (none-held (a .stack .now) (s .pre .1 .long) (s .pre .1 .floor), search needs),
@@ -84,7 +85,7 @@ returns-5 : tie.Need-returns-5
 returns-5 c =
     let s = c .before .before .before in
     let a = s .args in (
-      not-line 32 (a .n) (a .i) (a .prev) (heldIn (a .depth) (a .stack .now)) (a .first .now) (a .starter .now)
+      not-line devices (a .n) (a .i) (a .prev) (heldIn (a .depth) (a .stack .now)) (a .first .now) (a .starter .now)
           (c .before .before .if1 .left) (sym (c .if2 .left) ∙ c .before .is-line .ensures),
       (none-held (a .stack .now) (s .pre .1 .long) (s .pre .1 .floor), search needs),
     )

@@ -2,10 +2,11 @@
 use native.Mathlib.Omega.{arith}
 use lib.ListN.{drop}
 use borrow.Author.Needs.{needs}
+use Rattle.model.specs.Board.{devices}
 use Rattle.model.specs.Line.{job, kind, operand}
 use Rattle.theory.proofs.Line.{kind-small}
 use Rattle.plan.proofs.Rules.{low-start, new-start, old-start}
-use Rattle.plan.proofs.Lines.{start-operand}
+use Rattle.theory.proofs.Line.{start-operand}
 use Rattle.plan.proofs.Stacks.{none-held}
 use Rattle.plan.proofs.rule.Statement.{statement}
 use Rattle.plan.proofs.rule.Tie as tie
@@ -52,7 +53,8 @@ mul-if3 c = search needs
 element-copy-out-if3 : tie.Need-element-copy-out-if3
 unfolding job kind operand
 element-copy-out-if3 c =
-    let s = c .before .before in start-operand 32 (s .args .n) (s .pre .1) (c .before .if1 .left)
+    let s = c .before .before in
+    omega (arith, start-operand devices (s .args .n) (s .pre .1) (c .before .if1 .left))
 
 add-starter : tie.Need-add-starter
 add-starter c = search needs

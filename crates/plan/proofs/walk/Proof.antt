@@ -4,6 +4,7 @@ use mathlib.Core.List.{List, []}
 use Prim.Native.Nat.{ℕ, _≤_, _-_}
 use borrow.Author.Needs.{needs}
 use lib.ListN.{length, drop, getD}
+use Rattle.model.specs.Board.{devices}
 use Rattle.model.specs.Line.{job}
 use Rattle.model.specs.declared.Refusal.{Refusal}
 use Rattle.theory.proofs.Line.{line-parts}
@@ -24,7 +25,8 @@ record State (n i depth held prev : ℕ) (stack first starter : List ℕ) : Type
 abbrev Inv-loop : tie.InvT-loop
 Inv-loop plan first₀ starter₀ stack₀ depth₀ held₀ prev₀ i₀ first starter stack depth held prev i =
     State (length plan) i depth held prev stack first starter
-    × (walkFrom 32 0 0 [] first₀ starter₀ plan ≡ walkFrom 32 i prev (heldIn depth stack) first starter (drop i plan))
+    × (walkFrom devices 0 0 [] first₀ starter₀ plan
+    ≡ walkFrom devices i prev (heldIn depth stack) first starter (drop i plan))
 
 abbrev μ-loop : tie.MeasureT-loop
 μ-loop plan first₀ starter₀ stack₀ depth₀ held₀ prev₀ i₀ first starter stack depth held prev i = length plan - i
@@ -67,12 +69,12 @@ returns c =
     let first = f .last .1 .1 .1 .1 .1 .1 .0 in
     let starter = f .last .1 .1 .1 .1 .1 .1 .1 .0 in
     let state : bad r
-    ≡ stepOf 32 (getD p (l .loop .i) 0) (l .loop .i) (l .loop .prev) (heldIn (l .loop .depth) (l .loop .stack))
+    ≡ stepOf devices (getD p (l .loop .i) 0) (l .loop .i) (l .loop .prev) (heldIn (l .loop .depth) (l .loop .stack))
     (l .loop .first)
     (l .loop .starter) = ap (λ (x : After). nextBy x stack first starter) (sym told) ∙ f .ensures .0 in (
       sym
           (l .loop .inv .1
-          ∙ walk-bad 32 (l .loop .i) (l .loop .prev) (heldIn (l .loop .depth) (l .loop .stack)) (l .loop .first)
+          ∙ walk-bad devices (l .loop .i) (l .loop .prev) (heldIn (l .loop .depth) (l .loop .stack)) (l .loop .first)
           (l .loop .starter) p
           (search needs) r state),
       f .ensures .1 .1,
@@ -100,21 +102,21 @@ loop-again c =
     let first = f .last .1 .1 .1 .1 .1 .1 .0 in
     let starter = f .last .1 .1 .1 .1 .1 .1 .1 .0 in
     let state : on (heldIn d stack) first starter
-    ≡ stepOf 32 (getD p (l .loop .i) 0) (l .loop .i) (l .loop .prev) (heldIn (l .loop .depth) (l .loop .stack))
+    ≡ stepOf devices (getD p (l .loop .i) 0) (l .loop .i) (l .loop .prev) (heldIn (l .loop .depth) (l .loop .stack))
     (l .loop .first)
     (l .loop .starter) = ap (λ (x : After). nextBy x stack first starter) (sym told) ∙ f .ensures .0 in
-    let line = on-line 32 (getD p (l .loop .i) 0) (l .loop .i) (l .loop .prev)
+    let line = on-line devices (getD p (l .loop .i) 0) (l .loop .i) (l .loop .prev)
     (heldIn (l .loop .depth) (l .loop .stack)) (l .loop .first) (l .loop .starter)
     (heldIn d stack) first starter state in (
       record {
         at-most = search needs;
-        job = line-parts 32 (getD p (l .loop .i) 0) line .1;
+        job = line-parts devices (getD p (l .loop .i) 0) line .1;
         holding = rw told at (f .ensures .1 .0);
         first-long = f .ensures .1 .1 .0;
         starter-long = f .ensures .1 .1 .1;
       },
       l .loop .inv .1
-          ∙ walk-on 32 (l .loop .i) (l .loop .prev) (heldIn (l .loop .depth) (l .loop .stack)) (l .loop .first)
+          ∙ walk-on devices (l .loop .i) (l .loop .prev) (heldIn (l .loop .depth) (l .loop .stack)) (l .loop .first)
           (l .loop .starter) p
           (search needs) (heldIn d stack) first starter state,
     )
@@ -124,7 +126,7 @@ returns-2 c =
     let l = c .before in (
       sym
           (l .loop .inv .1
-          ∙ walk-end 32 (l .loop .i) (l .loop .prev) (heldIn (l .loop .depth) (l .loop .stack)) (l .loop .first)
+          ∙ walk-end devices (l .loop .i) (l .loop .prev) (heldIn (l .loop .depth) (l .loop .stack)) (l .loop .first)
           (l .loop .starter)
           (l .before .before .args .plan .now) (c .loop-test .left)),
       (l .loop .inv .0 .first-long, l .loop .inv .0 .starter-long),

@@ -48,7 +48,7 @@ loop-again c =
 returns : tie.Need-returns Inv-loop μ-loop
 returns c =
     let l = c .before .loop in
-    let e : l .k ≡ 32 = omega arith in (
+    let e : l .k ≡ devices = omega arith in (
       l .inv .1 (omega arith),
       l .inv .2 ∙ ap (λ (n : ℕ). closed n (c .before .before .args .square .now)) e,
     )

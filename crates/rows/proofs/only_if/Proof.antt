@@ -2,7 +2,8 @@
 use mathlib.Core.Path.{_∙_}
 use borrow.Author.Needs.{needs}
 use borrow.Author.Tests.{lt-ltb}
-use Rattle.model.specs.Sets.{onlyOf}
+use Rattle.model.specs.Board.{devices}
+use Rattle.sets.specs.Only.{onlyOf}
 use Rattle.rows.specs.Where.{onlyIf}
 use Rattle.rows.proofs.only_if.Statement.{statement}
 use Rattle.rows.proofs.only_if.Tie as tie
@@ -14,7 +15,7 @@ returns : tie.Need-returns
 unfolding onlyIf onlyOf
 returns c =
     rw (c .before .if1 .taken)
-    (c .only .ensures ∙ rw (lt-ltb (c .before .before .args .d) 32 (c .before .before .pre)))
+    (c .only .ensures ∙ rw (lt-ltb (c .before .before .args .d) devices (c .before .before .pre)))
 
 returns-2 : tie.Need-returns-2
 unfolding onlyIf

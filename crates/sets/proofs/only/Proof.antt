@@ -1,7 +1,7 @@
 -- `sets::only` meets its contract: below the board's number of devices the shift loses nothing.
 use borrow.Author.Needs.{needs}
 use borrow.Author.Tests.{lt-ltb, le-ltb}
-use Rattle.model.specs.Sets.{onlyOf}
+use Rattle.sets.specs.Only.{onlyOf}
 use Rattle.theory.proofs.Sets.{shifted}
 use Rattle.sets.proofs.only.Statement.{statement}
 use Rattle.sets.proofs.only.Tie as tie

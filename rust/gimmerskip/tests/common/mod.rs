@@ -2,43 +2,15 @@
 
 use gimmerskip::{entries, Plan, Refusal, MAX_LINES};
 
-/// A plan whose order goes back and forth between its two jobs.
-#[allow(dead_code)]
-pub const A: &str = "1 start 2; 1 take 1; 1 do 7; 2 take 0; 2 take 1; 2 give 1";
-/// The same with line 5 moved to device 2.
-#[allow(dead_code)]
-pub const B: &str = "1 start 2; 1 take 1; 1 do 7; 2 take 0; 2 take 2; 2 give 2";
-/// Two jobs take the same device for good.
-#[allow(dead_code)]
-pub const G: &str = "1 start 2; 1 take 5; 2 take 5";
-/// Three jobs, each of which holds to the end what the next one wants.
-#[allow(dead_code)]
-pub const H: &str = "1 start 2; 1 start 3; 1 take 0; 1 take 1; 1 give 1; \
-                     2 take 1; 2 take 2; 2 give 2; 3 take 2; 3 take 0; 3 give 0";
-
-/// The text of a plan: tabs for the blanks, and each line ended.
+/// The text of a plan.
 pub fn text(short: &str) -> String {
-    let lines = short.split(';').map(str::trim).filter(|line| !line.is_empty());
-    lines.map(|line| line.replace(' ', "\t") + "\n").collect()
+    String::from_utf8(second::listed::text(short)).expect("a plan is text")
 }
 
 /// A plan that has no fault.
 #[allow(dead_code)]
 pub fn plan(short: &str) -> Plan {
     Plan::from_text(text(short)).expect("the plan has no fault")
-}
-
-/// The packed numbers of lines that need not be a plan.
-#[allow(dead_code)]
-pub fn packed(short: &str) -> Vec<u32> {
-    let number = |line: &str| {
-        let fields: Vec<&str> = line.split('\t').collect();
-        let kind = ["do", "take", "give", "start"].iter().position(|verb| *verb == fields[1]);
-        let kind = kind.expect("one of the four verbs") as u32;
-        let value = |field: &str| field.parse::<u32>().expect("a number");
-        value(fields[0]) * 1_024 + kind * 256 + value(fields[2])
-    };
-    text(short).lines().map(number).collect()
 }
 
 /// What every entry that takes a packed plan says of it, given room; where they differ, the test fails.

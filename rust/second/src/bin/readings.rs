@@ -18,16 +18,14 @@ mod moves;
 
 use by_hand::{claims_by_hand, order_by_hand, refusal_by_hand};
 use second::line::{pack, LINES};
-use second::plain::{self, passes_over, table, verdict, Order};
+use second::plain::{passes_over, table, verdict, Order};
 use second::random::{plan, ring, wish, Cut, Random, Wish};
 use second::read::{check_packed, read, write};
 use second::small::small_plans;
-use second::tally::{Tally, LEAST};
+use second::tally::{circle_class, seeded, Tally, LEAST};
 use second::{orders, Line, Refusal};
 use std::process::ExitCode;
 
-/// The seed where none is asked for.
-const SEED: u64 = 20_260_417;
 /// All plans of up to so many lines are tried.
 const SMALL: usize = 6;
 
@@ -67,12 +65,7 @@ fn sort(tally: &mut Tally, plan: &[Line], verdict: &Result<Order, Refusal>) {
         Err(refusal) if refusal.number == 9 => tally.meet("plan: refusal 9"),
         Err(_) => {
             tally.meet("plan: refusal 10");
-            tally.meet(match plain::shortest_circle(&plain::rows(plan)) {
-                Some(1) => "plan: shortest circle 1",
-                Some(2) => "plan: shortest circle 2",
-                Some(3) => "plan: shortest circle 3",
-                _ => "plan: shortest circle 4 or more",
-            });
+            tally.meet(circle_class(plan));
         }
     }
 }
@@ -188,34 +181,17 @@ fn print_small(counts: &[u64; SMALL + 1]) {
     println!();
 }
 
-/// The seed asked for, or the fixed one.
-fn seed() -> Result<u64, String> {
-    match std::env::var("SEED") {
-        Ok(seed) => seed.parse().map_err(|_| format!("SEED is no number: {seed}")),
-        Err(_) => Ok(SEED),
-    }
-}
-
 fn main() -> ExitCode {
-    let seed = match seed() {
-        Ok(seed) => seed,
-        Err(fault) => {
-            eprintln!("{fault}");
-            return ExitCode::from(2);
-        }
-    };
-    println!("seed {seed}");
-    let mut tally = Tally::new(CLASSES.map(|class| (class.to_string(), LEAST)));
-    let mut random = Random::new(seed);
-    random_plans(&mut tally, &mut random);
-    rings(&mut tally, &mut random);
-    large_plans(&mut tally, &mut random);
-    lists::damaged_texts(&mut tally, &mut random);
-    lists::lent_lists(&mut tally, &mut random);
-    moves::moves(&mut tally, &mut random);
-    print_small(&all_small(&mut tally));
-    match tally.print() {
-        true => ExitCode::SUCCESS,
-        false => ExitCode::FAILURE,
-    }
+    seeded(|seed| {
+        let mut tally = Tally::new(CLASSES.map(|class| (class.to_string(), LEAST)));
+        let mut random = Random::new(seed);
+        random_plans(&mut tally, &mut random);
+        rings(&mut tally, &mut random);
+        large_plans(&mut tally, &mut random);
+        lists::damaged_texts(&mut tally, &mut random);
+        lists::lent_lists(&mut tally, &mut random);
+        moves::moves(&mut tally, &mut random);
+        print_small(&all_small(&mut tally));
+        tally.print()
+    })
 }

@@ -2,6 +2,7 @@
 use mathlib.Core.Path.{_≡_, refl, _∙_, ap}
 use Prim.Native.Nat.{_-_, _≤_}
 use native.Mathlib.Omega.{arith}
+use Rattle.model.specs.Board.{devices}
 use Rattle.model.specs.Sets.{empty}
 use Rattle.verdict.specs.Waiting.{scarceBelow}
 use Rattle.verdict.proofs.Steps.{scarce-on}
@@ -9,10 +10,10 @@ use Rattle.verdict.proofs.order.scarce.Statement.{statement}
 use Rattle.verdict.proofs.order.scarce.Tie as tie
 
 abbrev Inv-loop : tie.InvT-loop
-Inv-loop counts s₀ d₀ s d = (d ≤ 32) × (s ≡ scarceBelow counts d)
+Inv-loop counts s₀ d₀ s d = (d ≤ devices) × (s ≡ scarceBelow counts d)
 
 abbrev μ-loop : tie.MeasureT-loop
-μ-loop counts s₀ d₀ s d = 32 - d
+μ-loop counts s₀ d₀ s d = devices - d
 
 loop-holds : tie.Need-loop-holds Inv-loop μ-loop
 unfolding scarceBelow empty
@@ -44,7 +45,7 @@ loop-again c =
 returns : tie.Need-returns Inv-loop μ-loop
 returns c =
     let l = c .before .loop in
-    let e : l .d ≡ 32 = omega arith in l .inv .1 ∙ ap (scarceBelow (c .before .before .args .counts .now)) e
+    let e : l .d ≡ devices = omega arith in l .inv .1 ∙ ap (scarceBelow (c .before .before .args .counts .now)) e
 
 pub scarce-spec : {M : Type 1} → statement M
 scarce-spec =

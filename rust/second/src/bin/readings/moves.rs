@@ -4,18 +4,17 @@
 use crate::by_hand::bound_after;
 use second::line::{pack, DEVICES};
 use second::plain::{move_claim, table};
-use second::random::{plan, wish, Random};
+use second::random::{plan, some_move, wish, Move, Random};
 use second::read::check_packed;
 use second::tally::Tally;
 use second::{Line, Refusal, Verb};
 
 /// A move as the caller sees it: what is lent, and what is asked.
 #[derive(Clone)]
-struct Move {
+struct Asked {
     plan: Vec<u32>,
     sets: Vec<u32>,
-    line: u32,
-    device: u32,
+    to: Move,
 }
 
 /// The outcome of a move: the lists afterwards, and the answer.
@@ -56,7 +55,7 @@ fn edit_by_hand(plan: &[Line], at: usize, device: u8) -> Vec<Line> {
 
 /// What a move of a well-formed plan has to bring, worked out another way: the way is made of the
 /// lines that the moved one is bound to come after, and the edited plan is read afresh.
-fn move_by_hand(asked: &Move) -> Outcome {
+fn move_by_hand(asked: &Asked) -> Outcome {
     let refused = |number: u32, place: usize| {
         let answer = Err(Refusal::at(number, place));
         (asked.plan.clone(), asked.sets.clone(), answer)
@@ -65,19 +64,19 @@ fn move_by_hand(asked: &Move) -> Outcome {
     if asked.sets.len() < plan.len() {
         return refused(11, plan.len());
     }
-    let at = (asked.line as usize).wrapping_sub(1);
+    let at = (asked.to.line as usize).wrapping_sub(1);
     if !plan.get(at).is_some_and(|line| matches!(line.verb, Verb::Take(_))) {
-        return refused(12, asked.line as usize);
+        return refused(12, asked.to.line as usize);
     }
-    if asked.device >= DEVICES {
-        return refused(13, asked.device as usize);
+    if asked.to.device >= DEVICES {
+        return refused(13, asked.to.device as usize);
     }
     let way: Vec<usize> = (0..=at).rev().filter(|&on| bound_after(&plan, on)[at]).collect();
     let stale = |on: &&usize| asked.sets[**on] != stored_join(&plan, &asked.sets, **on);
     if let Some(&on) = way.iter().find(stale) {
         return refused(14, on + 1);
     }
-    let edited = edit_by_hand(&plan, at, asked.device as u8);
+    let edited = edit_by_hand(&plan, at, asked.to.device as u8);
     if let Err(refusal) = check_packed(&pack(&edited)) {
         return refused(refusal.number, refusal.place as usize);
     }
@@ -107,11 +106,11 @@ fn sort_move(tally: &mut Tally, answer: Result<u32, Refusal>, stale: bool) {
 
 /// Compares one move. Where the table was that of the plan, it has to be that of the edited plan
 /// afterwards, worked out afresh. Carries the lists on to the next move.
-fn compare_move(tally: &mut Tally, asked: &mut Move) {
+fn compare_move(tally: &mut Tally, asked: &mut Asked) {
     let before = check_packed(&asked.plan).expect("the plan is well-formed");
     let wanted = move_by_hand(asked);
     let fresh = asked.sets.starts_with(&table(&before));
-    let answer = move_claim(&mut asked.plan, &mut asked.sets, asked.line, asked.device);
+    let answer = move_claim(&mut asked.plan, &mut asked.sets, asked.to.line, asked.to.device);
     let stale = !fresh && answer.is_ok();
     sort_move(tally, answer, stale);
     let outcome = (asked.plan.clone(), asked.sets.clone(), answer);
@@ -123,24 +122,6 @@ fn compare_move(tally: &mut Tally, asked: &mut Move) {
         let sets = asked.sets[..after.len()].to_vec();
         tally.compare(name, &before, table(&after), sets);
     }
-}
-
-/// What is asked of a plan: mostly a take and a device of the plan, at times anything.
-fn ask(random: &mut Random, plan: &[Line]) -> (u32, u32) {
-    let takes: Vec<usize> = (0..plan.len()).filter(|&at| plan[at].takes().is_some()).collect();
-    let line = match random.below(12) {
-        0 => random.below(plan.len() + 3) as u32,
-        1 if random.once_in(4) => random.bits() as u32,
-        _ if takes.is_empty() => 0,
-        _ => random.one_of(&takes) as u32 + 1,
-    };
-    let device = match random.below(12) {
-        0 => random.below(40) as u32,
-        1 if random.once_in(4) => random.bits() as u32,
-        _ if takes.is_empty() => 0,
-        _ => u32::from(plan[random.one_of(&takes)].verb.operand()),
-    };
-    (line, device)
 }
 
 /// Moves, several in a row on one plan, with tables of all sorts: right, longer than the plan, too
@@ -160,9 +141,10 @@ pub fn moves(tally: &mut Tally, random: &mut Random) {
                 sets[place] ^= 1 << random.below(32);
             }
         }
-        let mut asked = Move { plan: pack(&plan), sets, line: 0, device: 0 };
+        let plan = pack(&plan);
+        let mut asked = Asked { plan, sets, to: Move { line: 0, device: 0 } };
         for _ in 0..4 {
-            (asked.line, asked.device) = ask(random, &plan);
+            asked.to = some_move(random, &asked.plan);
             compare_move(tally, &mut asked);
         }
     }

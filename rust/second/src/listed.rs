@@ -1,0 +1,98 @@
+//! The plans of "Plans with their verdicts" of document 01, starred and not, with the answers that
+//! stand there, for tests and comparisons. No reading has a part in it.
+
+use crate::line::Refusal;
+use crate::plain::Order;
+
+/// Plan A.
+pub const A: &str = "1 start 2; 1 take 1; 1 do 7; 2 take 0; 2 take 1; 2 give 1";
+/// Plan B, which comes of moving A.
+pub const B: &str = "1 start 2; 1 take 1; 1 do 7; 2 take 0; 2 take 2; 2 give 2";
+/// Plan C.
+pub const C: &str = "1 start 2; 1 take 0; 1 take 1; 1 give 1; 2 take 1; 2 take 0; 2 give 0";
+/// Plan D.
+pub const D: &str = "1 start 2; 1 take 0; 1 take 1; 1 give 1; 1 give 0; \
+                     2 take 1; 2 take 0; 2 give 0; 2 give 1";
+/// Plan E.
+pub const E: &str = "1 take 0; 1 start 2; 1 give 0; 2 take 0";
+/// Plan F.
+pub const F: &str = "1 take 0; 1 start 2; 2 take 0; 2 give 0";
+/// Plan G.
+pub const G: &str = "1 start 2; 1 take 5; 2 take 5";
+/// Plan H.
+pub const H: &str = "1 start 2; 1 start 3; 1 take 0; 1 take 1; 1 give 1; \
+                     2 take 1; 2 take 2; 2 give 2; 3 take 2; 3 take 0; 3 give 0";
+
+/// A listed plan with its answer.
+pub struct Listed {
+    /// What it is called.
+    pub name: &'static str,
+    /// The plan, written the short way: "1 start 2; 1 take 1".
+    pub plan: String,
+    /// Its order, or its refusal.
+    pub verdict: Result<Order, Refusal>,
+}
+
+/// A plan with its order.
+fn ordered(name: &'static str, plan: &str, lines: impl Into<Vec<u16>>, held: u32) -> Listed {
+    let order = Order { lines: lines.into(), held };
+    Listed { name, plan: plan.to_string(), verdict: Ok(order) }
+}
+
+/// A plan that is refused.
+fn refused(name: &'static str, plan: &str, number: u32, place: u64) -> Listed {
+    Listed { name, plan: plan.to_string(), verdict: Err(Refusal { number, place }) }
+}
+
+/// Each job but the last starts the next one.
+fn chain(jobs: u16) -> String {
+    let starts = (1..jobs).map(|job| format!("{job} start {}; ", job + 1));
+    starts.collect::<String>() + &format!("{jobs} do 0")
+}
+
+/// All listed plans.
+pub fn all() -> Vec<Listed> {
+    let longest = ["1 do 0"; 1_024].join("; ");
+    let upto = |last: u16| (1..=last).collect::<Vec<u16>>();
+    vec![
+        ordered("A", A, [1, 4, 5, 6, 2, 3], 2),
+        ordered("B", B, [1, 4, 5, 6, 2, 3], 2),
+        refused("C", C, 10, 0),
+        ordered("D", D, upto(9), 0),
+        ordered("E", E, upto(4), 1),
+        refused("F", F, 10, 0),
+        refused("G", G, 9, 5),
+        refused("H", H, 10, 0),
+        ordered("I", "", [], 0),
+        ordered("device 31", "1 take 31", [1], 1),
+        refused("device 32", "1 take 32", 2, 1),
+        ordered("line 1,024", &longest, upto(1_024), 0),
+        refused("line 1,025", &format!("{longest}; 1 do 0"), 3, 1_025),
+        ordered("job 64", &chain(64), upto(64), 0),
+        refused("job 65", &format!("{}; 65 do 0", chain(64)), 2, 65),
+        refused("start of job 65", &chain(65), 2, 64),
+        refused("take twice", "1 take 3; 1 take 3", 8, 2),
+    ]
+}
+
+/// The lines of a plan that is written the short way.
+fn lines(short: &str) -> impl Iterator<Item = &str> {
+    short.split(';').map(str::trim).filter(|line| !line.is_empty())
+}
+
+/// Its text: tabs for the blanks, and each line ended.
+pub fn text(short: &str) -> Vec<u8> {
+    lines(short).map(|line| line.replace(' ', "\t") + "\n").collect::<String>().into_bytes()
+}
+
+/// Its packed numbers, made by the formula alone, also where a number is that of no line.
+pub fn packed(short: &str) -> Vec<u32> {
+    let number = |field: &str| field.parse::<u32>().expect("a plan has numbers");
+    let kind = |verb: &str| ["do", "take", "give", "start"].iter().position(|&kind| kind == verb);
+    let packed = |line: &str| {
+        let fields: Vec<&str> = line.split(' ').collect();
+        let kind = kind(fields[1]).expect("a plan has verbs") as u32;
+        number(fields[0]) * 1_024 + kind * 256 + number(fields[2])
+    };
+    lines(short).map(packed).collect()
+}
