@@ -13,10 +13,6 @@ use Rattle.model.specs.declared.Refusal.the-variants.{TakeOfHeld, GiveWithoutTa
 use Rattle.plan.specs.Walk.{Ruled, kept, broken, ruleOf}
 
 module _ (i j k o : ℕ) (l starter : List ℕ) (d : ℕ) where
-  pub do-line : k ≡ 0 → kept (take d l) starter ≡ ruleOf i j k o (take d l) starter
-  unfolding ruleOf
-  do-line e = rw e
-
   pub held-take : k ≡ 1 → true ≡ has o (take d l) → broken (TakeOfHeld (i + 1)) ≡ ruleOf i j k o (take d l) starter
   unfolding ruleOf
   held-take e m = rw (e, ← m, add-one)

@@ -30,8 +30,7 @@ use Rattle.theory.proofs.WellFormed.{no-fault-exactly}
 use Rattle.theory.proofs.Verdict.{accepted-is-legal}
 use Rattle.theory.proofs.Printed.{legal-length, printed-is, printed-fits}
 use Rattle.text.specs.Promises.{ReadsAs}
-use Rattle.verdict.specs.Promises.{JudgesAs}
-use Rattle.verdict.proofs.Outcome.{tests}
+use Rattle.verdict.specs.Promises.{JudgesAs, tests}
 use Rattle.verdict.proofs.Promises.{Judged, refused, accepted, judged}
 use Rattle.screen.specs.Promises.{ShowsAs, ScreensAs, printedAnswer}
 

@@ -1,6 +1,6 @@
 -- The outcomes of the verdict, by what its tests found (01, "Refusal numbers", and "The order handed out").
 use Prim.Native.Nat.{ℕ, _<_, _≤_}
-use mathlib.Core.List.{List, [], _∷_, map}
+use mathlib.Core.List.{List, map}
 use mathlib.Core.Option.{Option, none, some}
 use mathlib.Core.Path.{_≡_, refl, ap}
 use lib.ListN.{length}
@@ -16,12 +16,9 @@ use Rattle.model.specs.Board.{devices}
 use Rattle.model.specs.declared.Refusal.{Refusal}
 use Rattle.model.specs.declared.Refusal.the-variants.{ListTooShort}
 use Rattle.model.specs.declared.VerdictAnswer.{VerdictAnswer}
-use Rattle.verdict.specs.Promises.{JudgesAs}
+use Rattle.verdict.specs.Promises.{JudgesAs, tests}
 
--- the tests of a verdict, and its outcome by what they refused
-abbrev pub tests : List ℕ → List ℕ → Option Refusal
-tests p lent = firstRefusal (fault devices p ∷ tooShort (length lent) (length p) ∷ noOrder devices p ∷ [])
-
+-- the outcome by what the tests refused
 abbrev pub outcome : List ℕ → List ℕ → Option Refusal → VerdictOutcome
 outcome p lent o = verdictBy o (heldAtEnd devices p) (map lineNumber (handed p)) lent
 

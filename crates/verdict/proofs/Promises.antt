@@ -29,9 +29,10 @@ use Rattle.theory.proofs.Places.{when}
 use Rattle.theory.proofs.WellFormed.{fault-exactly}
 use Rattle.theory.proofs.Printed.{broken-bounds}
 use Rattle.theory.specs.Verdict.{NoOrder}
+use Rattle.theory.proofs.Answers.{none-refuses}
 use Rattle.theory.proofs.Verdict.{accepted-is-legal, refused-exactly, legal-order-exactly, no-legal-order}
-use Rattle.verdict.specs.Promises.{JudgesAs, Apart, OnceEach, Ordered}
-use Rattle.verdict.proofs.Outcome.{tests, outcome}
+use Rattle.verdict.specs.Promises.{JudgesAs, tests, Apart, OnceEach, Ordered}
+use Rattle.verdict.proofs.Outcome.{outcome}
 use Rattle.verdict.proofs.Tight.{one-outcome}
 
 -- ---- a legal order has each line once
@@ -54,13 +55,6 @@ legal-once-each p o legal = record {
 }
 
 -- ---- what the tests found
-
-passed : (a b c : Option Refusal) → firstRefusal (a ∷ b ∷ c ∷ []) ≡ none → (a ≡ none) × (b ≡ none) × (c ≡ none)
-unfolding firstRefusal
-passed none none none e = (refl, refl, refl)
-passed (some r) b c e = absurd (Option·none-ne-some r (sym e))
-passed none (some r) c e = absurd (Option·none-ne-some r (sym e))
-passed none none (some r) e = absurd (Option·none-ne-some r (sym e))
 
 -- an outcome: the tests refused and the list is as it was, or the order handed out stands in front
 pub data Judged (p lent : List ℕ) : VerdictAnswer → List ℕ → Type 0 where
@@ -85,14 +79,15 @@ judged p lent a left j =
 
 -- ---- the promises
 
--- a refusal leaves the list as it was
+-- a refusal is that of the first listed test that refuses, and leaves the list as it was
 pub refused-leaves : (p lent : List ℕ) (r : Refusal) (left : List ℕ)
-    → JudgesAs p lent (VerdictAnswer.Refused r) left → left ≡ lent
+    → JudgesAs p lent (VerdictAnswer.Refused r) left → (tests p lent ≡ some r) × (left ≡ lent)
 refused-leaves p lent r left j =
     go (VerdictAnswer.Refused r) left refl (judged p lent (VerdictAnswer.Refused r) left j)
   where
-    go : (a : VerdictAnswer) (l : List ℕ) → a ≡ VerdictAnswer.Refused r → Judged p lent a l → l ≡ lent
-    go a l e (refused s h) = refl
+    go : (a : VerdictAnswer) (l : List ℕ) → a ≡ VerdictAnswer.Refused r → Judged p lent a l
+        → (tests p lent ≡ some r) × (l ≡ lent)
+    go a l e (refused s h) = let z : s ≡ r = cc in (h ∙ ap {B = Option Refusal} some z, refl)
     go a l e (accepted h) = let z : _≡_ {A = ℕ} 0 1 = cc in absurd (omega arith)
 
 -- what is handed out is a legal order of each line once
@@ -104,8 +99,8 @@ order-is-legal p lent n left j = go (VerdictAnswer.Held n) left refl (judged p l
     go : (a : VerdictAnswer) (l : List ℕ) → a ≡ VerdictAnswer.Held n → Judged p lent a l → Ordered p lent n l
     go a l e (refused s h) = let z : _≡_ {A = ℕ} 0 1 = cc in absurd (omega arith)
     go a l e (accepted h) =
-        let t = passed (fault devices p) (tooShort (length lent) (length p)) (noOrder devices p) h in
-        let legal = accepted-is-legal devices p (t .0) (t .2) in
+        let t = none-refuses (fault devices p ∷ tooShort (length lent) (length p) ∷ noOrder devices p ∷ []) h in
+        let legal = accepted-is-legal devices p (t 0) (t 2) in
         let z : n ≡ heldAtEnd devices p = cc in
         record {
           order = handed p;
