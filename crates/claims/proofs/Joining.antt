@@ -1,5 +1,5 @@
--- A line's claim set by the first lines of two jobs, its own and, for a start, the started one: what the code keeps in
--- an array of one set a job. And the own claim, as the code works it out.
+-- A line's claim set by the first lines of two jobs, its own and, for a start, the started one (01, "Claims and rows"):
+-- what the code keeps in an array of one set a job. And the own claim, as the code works it out.
 use Prim.Native.Nat.{ℕ, suc}
 use mathlib.Core.Bool.{Bool, true, false, cond}
 use mathlib.Core.List.{List, [], _∷_, _++_, map}
@@ -7,13 +7,13 @@ use mathlib.Core.Path.{_≡_, refl, sym, _∙_, ap}
 use lib.Bits.{or-zero-l, or-zero-r}
 use lib.Dec.{eqb}
 use lib.ListN.{getD, drop}
-use borrow.Author.Tests.{lt-ltb}
 use Rattle.model.specs.Sets.{empty, only, union, unionOf}
 use Rattle.sets.specs.Only.{onlyOf}
 use Rattle.model.specs.Line.{job, operand, isTake, isStart, isLine, at, firstLine}
 use Rattle.model.specs.Mate.{takesAt, deviceAt}
 use Rattle.model.specs.Claims.{successors, own, joined, beyond}
 use Rattle.theory.proofs.Line.{device-line}
+use Rattle.sets.proofs.Members.{only-of}
 
 -- ---- unions with the empty set
 
@@ -48,8 +48,7 @@ setOf t ls j = joined t (firstLine j ls)
 joined-both : (t xs ys : List ℕ) → AtMostOne xs → joined t (xs ++ ys) ≡ union (joined t xs) (joined t ys)
 unfolding joined unionOf
 joined-both t [] ys no = sym (none-union (joined t ys))
-joined-both t (x ∷ []) ys (one o) =
-    ap (λ (s : ℕ). union s (joined t ys)) (sym (union-none (getD t o 0)))
+joined-both t (x ∷ []) ys (one o) = ap (λ (s : ℕ). union s (joined t ys)) (sym (union-none (getD t o 0)))
 
 joined-if : (t xs : List ℕ) (b : Bool) → joined t (cond b xs []) ≡ cond b (joined t xs) empty
 unfolding joined unionOf
@@ -63,31 +62,17 @@ pub beyond-is : (p t : List ℕ) (i : ℕ)
     (cond (isStart (at p i)) (setOf (drop (suc i) t) (drop (suc i) p) (operand (at p i))) empty)
 unfolding beyond successors
 beyond-is p t i =
+    let l = at p i in
+    let ls = drop (suc i) p in
+    let u = drop (suc i) t in
     joined-both u (firstLine (job l) ls) (cond (isStart l) (firstLine (operand l) ls) []) (at-most-one (job l) ls)
     ∙ ap (union (joined u (firstLine (job l) ls))) (joined-if u (firstLine (operand l) ls) (isStart l))
-  where
-    l : ℕ
-    l = at p i
-
-    ls : List ℕ
-    ls = drop (suc i) p
-
-    u : List ℕ
-    u = drop (suc i) t
 
 -- ---- the sets of first lines with one line more in front
 
-first-here : (l : ℕ) (ls : List ℕ) (j : ℕ) → eqb (job l) j ≡ true → firstLine j (l ∷ ls) ≡ 0 ∷ []
-unfolding firstLine
-first-here l ls j e = rw (e, firstLine)
-
-first-there : (l : ℕ) (ls : List ℕ) (j : ℕ) → eqb (job l) j ≡ false → firstLine j (l ∷ ls) ≡ map suc (firstLine j ls)
-unfolding firstLine
-first-there l ls j e = rw (e, firstLine)
-
 pub set-here : (v l : ℕ) (t ls : List ℕ) (j : ℕ) → eqb (job l) j ≡ true → setOf (v ∷ t) (l ∷ ls) j ≡ v
-unfolding joined unionOf
-set-here v l t ls j e = ap (joined (v ∷ t)) (first-here l ls j e) ∙ union-none v
+unfolding joined unionOf firstLine
+set-here v l t ls j e = rw (firstLine, e) (union-none v)
 
 shifted : (v : ℕ) (t xs : List ℕ) → joined (v ∷ t) (map suc xs) ≡ joined t xs
 unfolding joined unionOf
@@ -95,17 +80,17 @@ shifted v t [] = refl
 shifted v t (x ∷ xs) = ap (union (getD t x 0)) (shifted v t xs)
 
 pub set-there : (v l : ℕ) (t ls : List ℕ) (j : ℕ) → eqb (job l) j ≡ false → setOf (v ∷ t) (l ∷ ls) j ≡ setOf t ls j
-set-there v l t ls j e = ap (joined (v ∷ t)) (first-there l ls j e) ∙ shifted v t (firstLine j ls)
+unfolding firstLine
+set-there v l t ls j e = rw (firstLine, e) (shifted v t (firstLine j ls))
 
--- ---- the own claim
+-- ---- the own claim, as the code works it out from the line alone
 
--- as the code works it out from the line alone
 pub own-is : (D : ℕ) (p : List ℕ) (i : ℕ) → isLine D (at p i) ≡ true
     → cond (isTake (at p i)) (onlyOf D (operand (at p i))) empty ≡ own p i
-unfolding own takesAt deviceAt onlyOf
+unfolding own takesAt deviceAt
 own-is D p i h = go (isTake (at p i)) refl
   where
     go : (b : Bool) → isTake (at p i) ≡ b
         → cond b (onlyOf D (operand (at p i))) empty ≡ cond b (only (operand (at p i))) empty
     go false e = refl
-    go true e = rw (lt-ltb (operand (at p i)) D (device-line D (at p i) h (rw e)))
+    go true e = only-of D (operand (at p i)) (device-line D (at p i) h (rw e))

@@ -1,7 +1,5 @@
--- The promise is tight, and what follows from it; then the laws that the proofs of the code cite.
-pub mod Tight
-pub mod Promises
+-- The laws that the proofs of `claims` and of the rooms above cite.
 pub mod Joining
-pub mod Firsts
-pub mod Passed
+pub mod Claimed
+pub mod Written
 pub mod Outcome

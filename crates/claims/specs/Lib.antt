@@ -1,2 +1,2 @@
--- What the contracts of this room cite beside the definitions of `model`.
-pub mod Promises
+-- What the contracts of this room cite beside the definitions of `model` and the promises.
+pub mod Claim

@@ -1,69 +1,73 @@
 // The table of claims (01, "Claims and rows"): one set a line, worked out in one pass from the end.
+use board::Set;
 use model::Refusal;
 use model::TableAnswer;
 use plan::Checked;
 ghost use mathlib.Core.Path.{_≡_};
-ghost use mathlib.Core.Bool.{true, cond};
+ghost use mathlib.Core.Bool.{true};
 ghost use Prim.Native.Nat.{ℕ, _≤_, _<_};
 ghost use lib.ListN.{length};
 ghost use Rattle.model.specs.Lists.{over};
-ghost use Rattle.model.specs.Sets.{empty};
-ghost use Rattle.sets.specs.Only.{onlyOf};
-ghost use Rattle.model.specs.Line.{operand, isTake, isLine, at};
+ghost use Rattle.model.specs.Line.{isLine, at};
 ghost use Rattle.model.specs.Claims.{table};
 ghost use Rattle.model.specs.Board.{devices};
-ghost use Rattle.claims.specs.Promises.{begunOf, claimOf, TablesAs};
+ghost use Rattle.claims.specs.Claim.{ownOf, claimWith, begunOf, claimOf};
+ghost use Rattle.promises.specs.Table.{TablesAs};
+
+// A list with an entry for each number that an operand can be has so many. A job's entry is that of its number, so
+// that what a line starts is found without a test.
+pub const EACH_OPERAND: usize = 256;
 
 // A line's own claim: its device, if it is a take.
-pub fn own(l: u32) -> u32
-    ensures { λ r. ⌜ r ≡ cond (isTake l) (onlyOf devices (operand l)) empty ⌝ }
+pub fn own(l: u32) -> Set
+    ensures { λ r. ⌜ r ≡ ownOf l ⌝ }
 {
-    if l / 256 % 4 == 1 {
-        return sets::only(l % 256);
-    }
-    0
-}
-
-// Of a start, what the started job claims: `first` has the set of each job's first line, of the lines passed so far,
-// and a place for each number that an operand has, so that none lies past it.
-fn begun(l: u32, first: &[u32; 256]) -> u32
-    ensures { λ r. ⌜ r ≡ begunOf l (now (first .entry)) ⌝ }
-{
-    if l / 256 % 4 == 3 {
-        let t = (l % 256) as usize;
-        return first[t];
-    }
-    0
+    sets::only_if(line::is_take(l), line::operand(l))
 }
 
 // A line's claim set: its own claim, joined with what its job claims after it and with what a started job claims.
-pub fn claim(l: u32, next: u32, first: &[u32; 256]) -> u32
-    ensures { λ r. ⌜ r ≡ claimOf l next (now (first .entry)) ⌝ }
+pub fn joined(l: u32, next: Set, begun: Set) -> Set
+    ensures { λ r. ⌜ r ≡ claimWith l next begun ⌝ }
 {
-    sets::union(own(l), sets::union(next, begun(l, first)))
+    sets::union(own(l), sets::union(next, begun))
+}
+
+// Of a start, what the started job claims: `claimed` has for each job the claim set of the first of its lines that
+// the pass from the end has met.
+fn begun(l: u32, claimed: &[Set; EACH_OPERAND]) -> Set
+    ensures { λ r. ⌜ r ≡ begunOf l (now (claimed .entry)) ⌝ }
+{
+    let started = claimed[line::operand(l) as usize];
+    sets::choose(line::is_start(l), started, sets::NONE)
+}
+
+// A line's claim set, by what each job claims, of the lines that the pass has met.
+pub fn claim(l: u32, next: Set, claimed: &[Set; EACH_OPERAND]) -> Set
+    ensures { λ r. ⌜ r ≡ claimOf l next (now (claimed .entry)) ⌝ }
+{
+    joined(l, next, begun(l, claimed))
 }
 
 // The table, from the plan's end, into the front of the lent list.
-fn fill(plan: &[u32], sets: &mut [u32])
+fn fill(plan: &[u32], sets: &mut [Set])
     requires { ⌜ ((k : ℕ) → k < length (now plan) → isLine devices (at (now plan) k) ≡ true)
         × (length (now plan) ≤ length (now sets)) ⌝ }
     ensures { λ r. ⌜ now (sets .exit) ≡ over (table (now (plan .entry))) (now (sets .entry)) ⌝ }
 {
-    let mut first = [0u32; 256];
+    let mut claimed = [sets::NONE; EACH_OPERAND];
     let mut i = plan.len();
     while 0 < i {
         i -= 1;
         let l = plan[i];
-        let j = (l / 1024) as usize;
-        let next = first[j];
-        let s = claim(l, next, &first);
+        let j = line::job(l) as usize;
+        let s = claim(l, claimed[j], &claimed);
         sets[i] = s;
-        first[j] = s;
+        claimed[j] = s;
     }
 }
 
 // The table of a plan's claims, into the front of the lent list; a refusal (2 to 8, 11) leaves the list as it was.
-pub fn table(plan: &[u32], sets: &mut [u32]) -> TableAnswer
+pub fn table(plan: &[u32], sets: &mut [Set]) -> TableAnswer
     ensures { λ r. ⌜ TablesAs (now (plan .entry)) (now (sets .entry)) r (now (sets .exit)) ⌝ }
 {
     if let Checked::Refused(r) = plan::fault(plan) {

@@ -8,7 +8,10 @@ use lib.ListN.{length, replicate}
 use Rattle.model.specs.Answers.{tableValues, verdictValues, moveValues}
 use Rattle.model.specs.Line.{pack}
 use Rattle.model.specs.Claims.{table}
-use Rattle.model.specs.Entries.{TableOutcome, VerdictOutcome, MoveOutcome, tabling, judging, moving}
+use Rattle.model.specs.declared.TableAnswer.{TableAnswer}
+use Rattle.model.specs.declared.VerdictAnswer.{VerdictAnswer}
+use Rattle.model.specs.declared.MoveAnswer.{MoveAnswer}
+use Rattle.model.specs.Entries.{Outcome, Lent, tabling, judging, moving}
 use Rattle.model.specs.Board.{devices}
 
 infix 90 _does_
@@ -16,23 +19,23 @@ infix 90 _takes_
 infix 90 _gives_
 infix 90 _starts_
 -- lines, written as 01 writes them
-_does_ : ℕ → ℕ → ℕ
+unfoldable pub _does_ : ℕ → ℕ → ℕ
 unfolding pack
 j does code = pack j 0 code
 
-_takes_ : ℕ → ℕ → ℕ
+unfoldable pub _takes_ : ℕ → ℕ → ℕ
 unfolding pack
 j takes d = pack j 1 d
 
-_gives_ : ℕ → ℕ → ℕ
+unfoldable pub _gives_ : ℕ → ℕ → ℕ
 unfolding pack
 j gives d = pack j 2 d
 
-_starts_ : ℕ → ℕ → ℕ
+unfoldable pub _starts_ : ℕ → ℕ → ℕ
 unfolding pack
 j starts k = pack j 3 k
 
-pub planA : List ℕ
+unfoldable pub planA : List ℕ
 unfolding _does_ _takes_ _gives_ _starts_
 planA = 1 starts 2 ∷ 1 takes 1 ∷ 1 does 7 ∷ 2 takes 0 ∷ 2 takes 1 ∷ 2 gives 1 ∷ []
 
@@ -50,7 +53,7 @@ unfolding _takes_ _gives_ _starts_
 planD =
     1 starts 2 ∷ 1 takes 0 ∷ 1 takes 1 ∷ 1 gives 1 ∷ 1 gives 0 ∷ 2 takes 1 ∷ 2 takes 0 ∷ 2 gives 0 ∷ 2 gives 1 ∷ []
 
-pub planE : List ℕ
+unfoldable pub planE : List ℕ
 unfolding _takes_ _gives_ _starts_
 planE = 1 takes 0 ∷ 1 starts 2 ∷ 1 gives 0 ∷ 2 takes 0 ∷ []
 
@@ -62,7 +65,7 @@ pub planG : List ℕ
 unfolding _takes_ _starts_
 planG = 1 starts 2 ∷ 1 takes 5 ∷ 2 takes 5 ∷ []
 
-pub planH : List ℕ
+unfoldable pub planH : List ℕ
 unfolding _takes_ _gives_ _starts_
 planH =
     1 starts 2 ∷ 1 starts 3 ∷ 1 takes 0 ∷ 1 takes 1 ∷ 1 gives 1
@@ -74,29 +77,31 @@ planI = []
 
 -- What an entry makes of a plan. The lent lists are one place longer than needed and filled with 99, which no case
 -- has, so that a row also shows what a refusal leaves and what stays past the last entry.
-pub lent : List ℕ → List ℕ
+unfoldable pub lent : List ℕ → List ℕ
 lent p = replicate (length p + 1) 99
 
-pub tabled : List ℕ → List (List ℕ)
+unfoldable pub tabled : List ℕ → List (List ℕ)
 unfolding tabling lent
-tabled p = let o : TableOutcome = tabling devices p (lent p) in tableValues (o .answer) ∷ o .sets ∷ []
+tabled p =
+    let o : Outcome TableAnswer (List ℕ) = tabling devices p (lent p) in tableValues (o .answer) ∷ o .left ∷ []
 
-pub judged : List ℕ → List (List ℕ)
+unfoldable pub judged : List ℕ → List (List ℕ)
 unfolding judging lent
-judged p = let o : VerdictOutcome = judging devices p (lent p) in verdictValues (o .answer) ∷ o .order ∷ []
+judged p =
+    let o : Outcome VerdictAnswer (List ℕ) = judging devices p (lent p) in verdictValues (o .answer) ∷ o .left ∷ []
 
 -- of a plan with its own table
-pub moved : List ℕ → ℕ → ℕ → List (List ℕ)
+unfoldable pub moved : List ℕ → ℕ → ℕ → List (List ℕ)
 unfolding moving table
 moved p line device =
-    let o : MoveOutcome = moving devices p (table p ++ (99 ∷ [])) line device in
-    moveValues (o .answer) ∷ o .plan ∷ o .sets ∷ []
+    let o : Outcome MoveAnswer Lent = moving devices p (table p ++ (99 ∷ [])) line device in
+    moveValues (o .answer) ∷ o .left .plan ∷ o .left .sets ∷ []
 
 -- what 01 says: an order and how many devices stay held; or a refusal
-pub accepted : ℕ → List ℕ → List (List ℕ)
+unfoldable pub accepted : ℕ → List ℕ → List (List ℕ)
 accepted stillHeld order = (0 ∷ stillHeld ∷ []) ∷ (order ++ (99 ∷ [])) ∷ []
 
-pub refused : ℕ → ℕ → List ℕ → List (List ℕ)
+unfoldable pub refused : ℕ → ℕ → List ℕ → List (List ℕ)
 unfolding lent
 refused number place p = (number ∷ place ∷ []) ∷ lent p ∷ []
 

@@ -22,90 +22,64 @@ use Rattle.model.specs.declared.TableAnswer.{TableAnswer}
 use Rattle.model.specs.declared.VerdictAnswer.{VerdictAnswer}
 use Rattle.model.specs.declared.MoveAnswer.{MoveAnswer}
 
+-- What an entry answers, and what stands in the lent lists when it returns.
+pub record Outcome (A L : Type 0) : Type 0 where
+  pub answer : A
+  pub left : L
+
+-- An entry whose tests refuse answers so, and leaves what was lent; otherwise it answers and leaves what is new.
+unfoldable pub outcome : {A L : Type 0} → (Refusal → A) → Option Refusal → A → L → L → Outcome A L
+outcome refused none answer new lent = record { answer = answer; left = new }
+outcome refused (some r) answer new lent = record { answer = refused r; left = lent }
+
 -- The line reader writes to nothing that is lent; its outcome is `Text.nextLine`. The screens' entry stands in
 -- `Printed`.
-
--- Reading: a text into a lent list of packed numbers.
-pub record ReadOutcome : Type 0 where
-  pub answer : ReadAnswer
-  pub plan : List ℕ
 
 -- the fault of a text, if it has one: 1, then those of the plan that it spells
 unfoldable pub textFault : ℕ → List ℕ → Option Refusal
 unfolding firstRefusal refuseIf fault spelt
 textFault D text = firstRefusal (refuseIf (ltb maxBytes (length text)) TextTooLong ∷ fault D (spelt D text) ∷ [])
 
-unfoldable pub readBy : Option Refusal → List ℕ → List ℕ → ReadOutcome
-unfolding over
-readBy none plan lent = record { answer = ReadAnswer.Lines (length plan); plan = over plan lent }
-readBy (some r) plan lent = record { answer = ReadAnswer.Refused r; plan = lent }
-
-unfoldable pub reading : ℕ → List ℕ → List ℕ → ReadOutcome
-unfolding readBy firstRefusal textFault tooShort spelt
+-- Reading: a text into a lent list of packed numbers.
+unfoldable pub reading : ℕ → List ℕ → List ℕ → Outcome ReadAnswer (List ℕ)
+unfolding outcome firstRefusal textFault tooShort spelt over
 reading D text lent =
     let plan : List ℕ = spelt D text in
-    readBy (firstRefusal (textFault D text ∷ tooShort (length lent) (length plan) ∷ [])) plan lent
+    outcome ReadAnswer.Refused (firstRefusal (textFault D text ∷ tooShort (length lent) (length plan) ∷ []))
+    (ReadAnswer.Lines (length plan)) (over plan lent) lent
 
 -- Writing: a packed plan into a lent buffer of bytes.
-pub record WriteOutcome : Type 0 where
-  pub answer : WriteAnswer
-  pub text : List ℕ
-
-unfoldable pub writeBy : Option Refusal → List ℕ → List ℕ → WriteOutcome
-unfolding over
-writeBy none text lent = record { answer = WriteAnswer.Bytes (length text); text = over text lent }
-writeBy (some r) text lent = record { answer = WriteAnswer.Refused r; text = lent }
-
-unfoldable pub writing : ℕ → List ℕ → List ℕ → WriteOutcome
-unfolding writeBy firstRefusal fault tooShort textOf
+unfoldable pub writing : ℕ → List ℕ → List ℕ → Outcome WriteAnswer (List ℕ)
+unfolding outcome firstRefusal fault tooShort textOf over
 writing D p lent =
     let text : List ℕ = textOf p in
-    writeBy (firstRefusal (fault D p ∷ tooShort (length lent) (length text) ∷ [])) text lent
+    outcome WriteAnswer.Refused (firstRefusal (fault D p ∷ tooShort (length lent) (length text) ∷ []))
+    (WriteAnswer.Bytes (length text)) (over text lent) lent
 
 -- The table of claims, into a lent list of sets.
-pub record TableOutcome : Type 0 where
-  pub answer : TableAnswer
-  pub sets : List ℕ
-
-unfoldable pub tableBy : Option Refusal → List ℕ → List ℕ → TableOutcome
-unfolding over
-tableBy none sets lent = record { answer = TableAnswer.Lines (length sets); sets = over sets lent }
-tableBy (some r) sets lent = record { answer = TableAnswer.Refused r; sets = lent }
-
-unfoldable pub tabling : ℕ → List ℕ → List ℕ → TableOutcome
-unfolding tableBy firstRefusal fault tooShort table
-tabling D p lent = tableBy (firstRefusal (fault D p ∷ tooShort (length lent) (length p) ∷ [])) (table p) lent
+unfoldable pub tabling : ℕ → List ℕ → List ℕ → Outcome TableAnswer (List ℕ)
+unfolding outcome firstRefusal fault tooShort table over
+tabling D p lent =
+    outcome TableAnswer.Refused (firstRefusal (fault D p ∷ tooShort (length lent) (length p) ∷ []))
+    (TableAnswer.Lines (length p)) (over (table p) lent) lent
 
 -- The verdict, with the order's line numbers in a lent list.
-pub record VerdictOutcome : Type 0 where
-  pub answer : VerdictAnswer
-  pub order : List ℕ
-
-unfoldable pub verdictBy : Option Refusal → ℕ → List ℕ → List ℕ → VerdictOutcome
-unfolding over
-verdictBy none stillHeld order lent = record { answer = VerdictAnswer.Held stillHeld; order = over order lent }
-verdictBy (some r) stillHeld order lent = record { answer = VerdictAnswer.Refused r; order = lent }
-
-unfoldable pub judging : ℕ → List ℕ → List ℕ → VerdictOutcome
-unfolding verdictBy firstRefusal fault tooShort noOrder heldAtEnd handed lineNumber
+unfoldable pub judging : ℕ → List ℕ → List ℕ → Outcome VerdictAnswer (List ℕ)
+unfolding outcome firstRefusal fault tooShort noOrder heldAtEnd handed lineNumber over
 judging D p lent =
-    verdictBy (firstRefusal (fault D p ∷ tooShort (length lent) (length p) ∷ noOrder D p ∷ []))
-    (heldAtEnd D p) (map lineNumber (handed p)) lent
+    outcome VerdictAnswer.Refused (firstRefusal (fault D p ∷ tooShort (length lent) (length p) ∷ noOrder D p ∷ []))
+    (VerdictAnswer.Held (heldAtEnd D p)) (over (map lineNumber (handed p)) lent) lent
 
 -- The move: plan and table are lent, and both are rewritten.
-pub record MoveOutcome : Type 0 where
-  pub answer : MoveAnswer
+pub record Lent : Type 0 where
   pub plan : List ℕ
   pub sets : List ℕ
 
-unfoldable pub moveBy : Option Refusal → List ℕ → List ℕ → ℕ → ℕ → MoveOutcome
-unfolding edited rewritten way changed
-moveBy none p t i device =
+unfoldable pub moving : ℕ → List ℕ → List ℕ → ℕ → ℕ → Outcome MoveAnswer Lent
+unfolding outcome moveRefusal askedAt edited rewritten way changed
+moving D p t line device =
+    let i : ℕ = askedAt line in
     let plan : List ℕ = edited p i device in
     let sets : List ℕ = rewritten plan t (way p i) in
-    record { answer = MoveAnswer.Changed (changed p t sets); plan = plan; sets = sets }
-moveBy (some r) p t i device = record { answer = MoveAnswer.Refused r; plan = p; sets = t }
-
-unfoldable pub moving : ℕ → List ℕ → List ℕ → ℕ → ℕ → MoveOutcome
-unfolding moveBy moveRefusal askedAt
-moving D p t line device = moveBy (moveRefusal D p t line device) p t (askedAt line) device
+    outcome MoveAnswer.Refused (moveRefusal D p t line device)
+    (MoveAnswer.Changed (changed p t sets)) (record { plan = plan; sets = sets }) (record { plan = p; sets = t })

@@ -6,7 +6,7 @@ use mathlib.Core.Option.{Option, none, some}
 use lib.Dec.{ltb}
 use lib.ListN.{length}
 use Rattle.model.specs.Lists.{over}
-use Rattle.model.specs.Answers.{numberOf, placeOf, firstRefusal}
+use Rattle.model.specs.Answers.{refusalValues, firstRefusal}
 use Rattle.model.specs.Line.{lineNumber}
 use Rattle.model.specs.Text.{decimal, tabbed, spelt}
 use Rattle.model.specs.Handed.{handed}
@@ -21,16 +21,20 @@ orderWord = 111 ∷ 114 ∷ 100 ∷ 101 ∷ 114 ∷ []
 unfoldable pub refusedWord : List ℕ
 refusedWord = 114 ∷ 101 ∷ 102 ∷ 117 ∷ 115 ∷ 101 ∷ 100 ∷ []
 
+-- a line of a word and numbers
+unfoldable pub printedLine : List ℕ → List ℕ → List ℕ
+unfolding tabbed decimal
+printedLine word values = tabbed (word ∷ map decimal values)
+
 unfoldable pub printedRefusal : Refusal → List ℕ
-unfolding tabbed refusedWord decimal
-printedRefusal r = tabbed (refusedWord ∷ decimal (numberOf r) ∷ decimal (placeOf r) ∷ [])
+unfolding printedLine refusedWord
+printedRefusal r = printedLine refusedWord (refusalValues r)
 
 -- first how many lines and how many devices stay held, then the order, a number to a line
 unfoldable pub printedOrder : List ℕ → ℕ → List ℕ
-unfolding tabbed orderWord decimal flatMap
+unfolding printedLine orderWord tabbed decimal flatMap
 printedOrder order stillHeld =
-    tabbed (orderWord ∷ decimal (length order) ∷ decimal stillHeld ∷ []) ++ flatMap
-    (λ n. tabbed (decimal n ∷ [])) order
+    printedLine orderWord (length order ∷ stillHeld ∷ []) ++ flatMap (λ n. tabbed (decimal n ∷ [])) order
 
 unfoldable pub printedBy : Option Refusal → List ℕ → ℕ → List ℕ
 unfolding printedOrder printedRefusal

@@ -66,19 +66,28 @@ unfolding job
 inSequence [] l = eqb (job l) 1
 inSequence (q ∷ b) l = eqb (job l) (job q) || eqb (job l) (suc (job q))
 
-unfoldable pub lineFault : ℕ → List ℕ → ℕ → Option Refusal
-unfolding firstRefusal refuseIf lineNumber isLine inSequence isStart isGive isTake operand job any starts has heldBy
-    isLast
-lineFault D b l =
+-- the verb's own rule: 5, as far as the lines before tell; 7; 8
+unfoldable pub verbFault : List ℕ → ℕ → Option Refusal
+unfolding firstRefusal refuseIf lineNumber isStart isGive isTake operand job any starts has heldBy isLast
+verbFault b l =
     let n : ℕ = lineNumber (length b) in
     let held : List ℕ = heldBy (job l) b in
+    firstRefusal
+    (refuseIf (isStart l && (leb (operand l) (job l) || any (λ q. starts q (operand l)) b)) (BadStart n)
+    ∷ refuseIf (isGive l && not (isLast (operand l) held)) (GiveWithoutTake n)
+    ∷ refuseIf (isTake l && has (operand l) held) (TakeOfHeld n)
+    ∷ [])
+
+-- 3, 2, 4, then the verb's own
+unfoldable pub lineFault : ℕ → List ℕ → ℕ → Option Refusal
+unfolding firstRefusal refuseIf lineNumber isLine inSequence verbFault
+lineFault D b l =
+    let n : ℕ = lineNumber (length b) in
     firstRefusal
     (refuseIf (leb maxLines (length b)) TooManyLines
     ∷ refuseIf (not (isLine D l)) (Malformed n)
     ∷ refuseIf (not (inSequence b l)) (JobOutOfSequence n)
-    ∷ refuseIf (isStart l && (leb (operand l) (job l) || any (λ q. starts q (operand l)) b)) (BadStart n)
-    ∷ refuseIf (isGive l && not (isLast (operand l) held)) (GiveWithoutTake n)
-    ∷ refuseIf (isTake l && has (operand l) held) (TakeOfHeld n)
+    ∷ verbFault b l
     ∷ [])
 
 -- the fault of the first line that has one, of lines that stand after some others

@@ -1,14 +1,31 @@
--- The edited plan has the same first lines, starts and way as the plan: a scan of the plan serves the edited one.
+-- What the scan of a plan leaves; and that the edited plan has the same first lines, starts and way, so that the scan
+-- serves it too, and as many lines, so that the same sets are counted.
 use Prim.Native.Nat.{ℕ, zero, suc}
 use mathlib.Core.Bool.{Bool}
 use mathlib.Core.List.{List, map}
+use mathlib.Core.Option.{Option, none}
 use mathlib.Core.Path.{_≡_, refl, _∙_, ap, fun-ext}
 use lib.ListN.{length}
 use Rattle.model.specs.Lists.{upFrom, positions, firstOf}
 use Rattle.model.specs.Line.{job, starts, at, maxJob}
-use Rattle.model.specs.Move.{wayIn, way}
+use Rattle.model.specs.Board.{devices}
+use Rattle.model.specs.WellFormed.{fault}
+use Rattle.model.specs.Move.{wayIn, way, changed}
+use Rattle.model.specs.declared.Refusal.{Refusal}
+use Rattle.plan.specs.Ends.{leftBy, ScansAs}
 use Rattle.plan.specs.Jobs.{numberOfFirst, numberOfFound, firstLines, starters}
+use Rattle.plan.specs.declared.Checked.{Checked}
 use Rattle.theory.proofs.Edited.{Alike, same-first, same-starts}
+use Rattle.theory.proofs.WellFormed.{no-fault-exactly}
+use Rattle.way.specs.Known.{Scanned}
+
+pub is-scanned : (p first starter : List ℕ) (answer : Checked) (first′ starter′ : List ℕ)
+    → ScansAs p first starter answer first′ starter′ → fault devices p ≡ none → Scanned p first′ starter′
+is-scanned p first starter answer first′ starter′ s e = record {
+  wellFormed = no-fault-exactly devices p .0 e;
+  firsts = s .firsts ∙ ap (λ (o : Option Refusal). leftBy o (firstLines p) first) e;
+  starts = s .starts ∙ ap (λ (o : Option Refusal). leftBy o (starters p) starter) e;
+}
 
 module _ (p q : List ℕ) (a : Alike p q) where
   pub same-firsts : firstLines q ≡ firstLines p
@@ -32,3 +49,7 @@ module _ (p q : List ℕ) (a : Alike p q) where
   pub same-way : (i : ℕ) → way q i ≡ way p i
   unfolding way
   same-way i = ap (λ (j : ℕ). wayIn q j (suc i)) (a .jobs i) ∙ same-wayIn (job (at p i)) (suc i)
+
+  pub same-changed : (old new : List ℕ) → changed q old new ≡ changed p old new
+  unfolding changed positions
+  same-changed old new = rw (a .long)

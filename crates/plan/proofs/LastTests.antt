@@ -1,83 +1,139 @@
--- How the tests after the last line go from job to job.
-use mathlib.Core.Path.{_≡_}
-use mathlib.Core.Bool.{true, false, not, _&&_}
+-- How the tests after the last line go from job to job, and what they find.
+use mathlib.Core.Path.{_≡_, refl, sym}
+use mathlib.Core.Bool.{Bool, true, false, cond, not, _&&_, _||_}
 use mathlib.Core.List.{List}
-use Prim.Native.Nat.{ℕ, suc, _+_, _-_, _≤_, _<_}
+use mathlib.Core.Logic.{_⊎_, inl, inr}
+use Prim.Native.Nat.{ℕ, suc, _+_, _≤_, _<_}
 use native.Mathlib.Numerals.{add-one}
 use native.Mathlib.Omega.{arith}
-use lib.Dec.{eqb}
+use lib.Dec.{eqb, ltb}
 use lib.ListN.{getD}
-use borrow.Author.Tests.{ne-eqb, lt-ltb, le-ltb}
+use borrow.Author.Tests.{eqb-true, eqb-false, eq-eqb, ne-eqb, ltb-true, ltb-false, not-true}
+use Rattle.model.specs.Line.{maxJob}
+use Rattle.theory.proofs.Tests.{test, and-split, and-second, or-split, or-neither}
 use Rattle.model.specs.declared.Refusal.the-variants.{BadStart, NeverStarted}
-use Rattle.plan.specs.Ends.{lowerOf, emptyFrom, neverFrom, endsBy, endsOf}
+use Rattle.plan.specs.Ends.{Empty, Unstarted, lowerOf, earlierOf, EndsAs, empty, never, neither}
 use Rattle.plan.specs.declared.Checked.{Checked}
+use Rattle.plan.proofs.Tables.{up-to}
 
--- which of the two is the lower
-module _ (low first starter : ℕ) where
-  pub has-lines : (first ≡ 0 → ⊥) → low ≡ lowerOf low first starter
-  unfolding lowerOf
-  has-lines n = rw (ne-eqb first 0 n)
+-- the lowest line that starts one of the jobs below j that have no lines; 0 is no line
+pub data Low (first starter : List ℕ) (j : ℕ) : ℕ → Type 0 where
+  nothing : ((k : ℕ) → k < j → Empty first starter k → ⊥) → Low first starter j 0
+  found : (k : ℕ) → Empty first starter k
+      → ((m : ℕ) → m < j → Empty first starter m → getD starter k 0 ≤ getD starter m 0)
+      → Low first starter j (getD starter k 0)
 
-  pub not-started : first ≡ 0 → starter ≡ 0 → low ≡ lowerOf low first starter
-  unfolding lowerOf
-  not-started e q = rw (e, q)
+-- the first line of the lowest of the jobs below j that start nowhere
+pub data Never (first starter : List ℕ) (j : ℕ) : ℕ → Type 0 where
+  nothing : ((k : ℕ) → k < j → Unstarted first starter k → ⊥) → Never first starter j 0
+  found : (k : ℕ) → Unstarted first starter k → ((m : ℕ) → m < k → Unstarted first starter m → ⊥)
+      → Never first starter j (getD first k 0)
 
-  pub first-found : first ≡ 0 → (starter ≡ 0 → ⊥) → low ≡ 0 → starter ≡ lowerOf low first starter
-  unfolding lowerOf
-  first-found e n z = rw (e, ne-eqb starter 0 n, z)
+-- no job comes before job 2
+pub low-start : (first starter : List ℕ) → Low first starter 2 0
+low-start first starter = nothing (λ k b e. omega (arith, e .low))
 
-  pub lower-found : first ≡ 0 → (starter ≡ 0 → ⊥) → (low ≡ 0 → ⊥) → starter < low → starter ≡ lowerOf low first starter
-  unfolding lowerOf
-  lower-found e n m h = rw (e, ne-eqb starter 0 n, ne-eqb low 0 m, lt-ltb starter low h)
+pub never-start : (first starter : List ℕ) → Never first starter 2 0
+never-start first starter = nothing (λ k b u. omega (arith, u .low))
 
-  pub not-lower : first ≡ 0 → (starter ≡ 0 → ⊥) → (low ≡ 0 → ⊥) → low ≤ starter → low ≡ lowerOf low first starter
-  unfolding lowerOf
-  not-lower e n m h = rw (e, ne-eqb starter 0 n, ne-eqb low 0 m, le-ltb starter low h)
+module _ (first starter : List ℕ) (j : ℕ) (l : 2 ≤ j) (h : j ≤ maxJob) where
+  abbrev f : ℕ
+  f = getD first j 0
 
--- from job j on, up to job n
-module _ (first starter : List ℕ) (n j : ℕ) where
-  left : j < n → n - j ≡ suc (n - (j + 1))
-  left h = omega arith
+  abbrev s : ℕ
+  s = getD starter j 0
 
-  pub empty-on : (low : ℕ) → j < n
-      → emptyFrom first starter low j (n - j)
-      ≡ emptyFrom first starter (lowerOf low (getD first j 0) (getD starter j 0)) (j + 1) (n - (j + 1))
-  unfolding emptyFrom
-  empty-on low h = rw (left h, add-one)
+  abbrev better : ℕ → Bool
+  better m = eqb f 0 && not (eqb s 0) && (eqb m 0 || ltb s m)
 
-  pub empty-end : (low : ℕ) → n ≤ j → emptyFrom first starter low j (n - j) ≡ low
-  unfolding emptyFrom
-  empty-end low h = let z : n - j ≡ 0 = omega arith in rw z
-
-  pub never-here : j < n → (not (eqb (getD first j 0) 0) && eqb (getD starter j 0) 0) ≡ true
-      → neverFrom first starter j (n - j) ≡ getD first j 0
-  unfolding neverFrom
-  never-here h t = rw (left h) (rw (t, neverFrom))
-
-  pub never-on : j < n → (not (eqb (getD first j 0) 0) && eqb (getD starter j 0) 0) ≡ false
-      → neverFrom first starter j (n - j) ≡ neverFrom first starter (j + 1) (n - (j + 1))
-  unfolding neverFrom
-  never-on h t = rw (left h, add-one) (go (n - suc j))
+  -- better than m: it starts, has no lines, and its starter is the lower; and where it is not
+  is-better : (m : ℕ) → better m ≡ true → Empty first starter j × ((m ≡ 0) ⊎ (s < m))
+  is-better m t =
+      let a = and-split (eqb f 0 && not (eqb s 0)) (eqb m 0 || ltb s m) t in
+      let b = and-split (eqb f 0) (not (eqb s 0)) (a .0) in
+      let n = eqb-false s 0 (not-true (eqb s 0) (b .1)) in (
+        record { low = l; high = h; lineless = eqb-true f 0 (b .0); started = omega arith },
+        which (or-split (eqb m 0) (ltb s m) (a .1)),
+      )
     where
-      go : (m : ℕ) → neverFrom first starter j (suc m) ≡ neverFrom first starter (suc j) m
-      go m = rw (t, neverFrom)
+      which : (eqb m 0 ≡ true) ⊎ (ltb s m ≡ true) → (m ≡ 0) ⊎ (s < m)
+      which (inl e) = inl (eqb-true m 0 e)
+      which (inr e) = inr (ltb-true s m e)
 
-  pub never-end : n ≤ j → neverFrom first starter j (n - j) ≡ 0
-  unfolding neverFrom
-  never-end h = let z : n - j ≡ 0 = omega arith in rw z
+  no-better : (m : ℕ) → better m ≡ false → Empty first starter j → (m ≡ 0 → ⊥) × (m ≤ s)
+  no-better m t e =
+      let r = or-neither (eqb m 0) (ltb s m)
+      (rw (e .lineless, ne-eqb s 0 (λ z. omega (arith, e .started))) at t) in
+      (eqb-false m 0 (r .0), ltb-false s m (r .1))
 
--- the three ends
+  -- job j comes up
+  pub low-on : (m : ℕ) → Low first starter j m → Low first starter (j + 1) (lowerOf m f s)
+  low-on m (nothing none) = rw add-one (go (test (better 0)))
+    where
+      go : (better 0 ≡ true) ⊎ (better 0 ≡ false) → Low first starter (suc j) (lowerOf 0 f s)
+      go (inl t) =
+          rw t
+          (found j (is-better 0 t .0)
+          (up-to (λ k. Empty first starter k → s ≤ getD starter k 0) j (λ e. omega arith)
+          (λ k b e. absurd (none k b e))))
+      go (inr t) = rw t (nothing (up-to (λ k. Empty first starter k → ⊥) j (λ e. no-better 0 t e .0 refl) none))
+  low-on m (found k e least) = rw add-one (go (test (better m)))
+    where
+      go : (better m ≡ true) ⊎ (better m ≡ false) → Low first starter (suc j) (lowerOf m f s)
+      go (inl t) =
+          rw t
+          (found j (is-better m t .0)
+          (up-to (λ i. Empty first starter i → s ≤ getD starter i 0) j (λ z. omega arith)
+          (λ i b z. lower (is-better m t .1) (least i b z))))
+        where
+          lower : (m ≡ 0) ⊎ (s < m) → {n : ℕ} → m ≤ n → s ≤ n
+          lower (inl q) c = absurd (omega (arith, e .started))
+          lower (inr q) c = omega arith
+      go (inr t) =
+          rw t
+          (found k e (up-to (λ i. Empty first starter i → getD starter k 0 ≤ getD starter i 0) j
+          (λ z. no-better (getD starter k 0) t z .1) least))
+
+  pub never-on : (m : ℕ) → Never first starter j m → Never first starter (j + 1) (earlierOf m f s)
+  never-on m (found k u low) = rw (add-one, ne-eqb (getD first k 0) 0 (λ z. omega (arith, u .lined))) (found k u low)
+  never-on m (nothing none) = rw add-one (go (test (eqb s 0)) (test (eqb f 0)))
+    where
+      go : (eqb s 0 ≡ true) ⊎ (eqb s 0 ≡ false) → (eqb f 0 ≡ true) ⊎ (eqb f 0 ≡ false)
+          → Never first starter (suc j) (earlierOf 0 f s)
+      go (inl t) (inl z) =
+          rw (t, eqb-true f 0 z)
+          (nothing (up-to (λ k. Unstarted first starter k → ⊥) j (λ u. omega (arith, u .lined, eqb-true f 0 z)) none))
+      go (inl t) (inr z) =
+          let n = eqb-false f 0 z in
+          rw t
+          (found j (record { low = l; high = h; lined = omega arith; startless = eqb-true s 0 t }) none)
+      go (inr t) z =
+          rw t (nothing (up-to (λ k. Unstarted first starter k → ⊥) j (λ u. eqb-false s 0 t (u .startless)) none))
+
+-- all jobs have come up
 module _ (first starter : List ℕ) where
-  pub empty-ends : (m : ℕ) → m ≡ emptyFrom first starter 0 0 65 → (m ≡ 0 → ⊥)
-      → Checked.Refused (BadStart m) ≡ endsOf first starter
-  unfolding endsOf endsBy
-  empty-ends m e n = rw (← e, ne-eqb m 0 n)
+  pub told-5 : (m : ℕ) → Low first starter (suc maxJob) m → (m ≡ 0 → ⊥)
+      → EndsAs first starter (Checked.Refused (BadStart m))
+  told-5 m (nothing none) n = absurd (n refl)
+  told-5 m (found k e least) n = empty k e (λ i z. least i (omega (arith, z .high)) z)
 
-  module _ (m k : ℕ) (e : m ≡ emptyFrom first starter 0 0 65) (f : k ≡ neverFrom first starter 2 63) (z : m ≡ 0) where
-    pub never-ends : (k ≡ 0 → ⊥) → Checked.Refused (NeverStarted k) ≡ endsOf first starter
-    unfolding endsOf endsBy
-    never-ends n = rw (← e, ← f, z, ne-eqb k 0 n)
+  no-5 : (m : ℕ) → Low first starter (suc maxJob) m → m ≡ 0 → (k : ℕ) → Empty first starter k → ⊥
+  no-5 m (nothing none) q k e = none k (omega (arith, e .high)) e
+  no-5 m (found i z least) q k e = omega (arith, z .started)
 
-    pub all-ends : k ≡ 0 → Checked.Fine ≡ endsOf first starter
-    unfolding endsOf endsBy
-    all-ends n = rw (← e, ← f, z, n)
+  module _ (m n : ℕ) (low : Low first starter (suc maxJob) m) (q : m ≡ 0) where
+    pub told-6 : Never first starter (suc maxJob) n → (n ≡ 0 → ⊥)
+        → EndsAs first starter (Checked.Refused (NeverStarted n))
+    told-6 v z = go n v z
+      where
+        go : (n : ℕ) → Never first starter (suc maxJob) n → (n ≡ 0 → ⊥)
+            → EndsAs first starter (Checked.Refused (NeverStarted n))
+        go n (nothing none) z = absurd (z refl)
+        go n (found k u lowest) z = never (no-5 m low q) k u lowest
+
+    pub told-none : Never first starter (suc maxJob) n → n ≡ 0 → EndsAs first starter Checked.Fine
+    told-none v z = neither (no-5 m low q) (go n v z)
+      where
+        go : (n : ℕ) → Never first starter (suc maxJob) n → n ≡ 0 → (k : ℕ) → Unstarted first starter k → ⊥
+        go n (nothing none) z k u = none k (omega (arith, u .high)) u
+        go n (found i w lowest) z k u = omega (arith, w .lined)

@@ -1,16 +1,11 @@
 -- The laws that the proofs of `plan` share.
 pub mod Tight
-pub mod Lines
-pub mod Rules
-pub mod Flips
+pub mod Answers
 pub mod Stacks
 pub mod Steps
-pub mod Held
 pub mod Tables
-pub mod Sim
-pub mod Whole
+pub mod Stands
+pub mod Walks
 pub mod LastTests
 pub mod LastFaults
 pub mod Scans
-pub mod Mates
-pub mod Told

@@ -4,67 +4,56 @@ use mathlib.Core.List.{List, []}
 use mathlib.Core.Option.{Option, none, some}
 use Prim.Native.Nat.{ℕ}
 use native.Mathlib.Omega.{arith}
+use lib.ListN.{length}
 use Rattle.model.specs.Board.{devices}
 use Rattle.model.specs.Answers.{firstRefusal}
 use Rattle.model.specs.WellFormed.{firstFault, fault}
 use Rattle.model.specs.declared.Refusal.{Refusal}
 use Rattle.plan.specs.Checked.{checked}
 use Rattle.plan.specs.Jobs.{firstLines, starters}
-use Rattle.plan.specs.Walk.{walkFrom, walkBy}
-use Rattle.plan.specs.Ends.{endsOf, leftBy, ScansAs}
+use Rattle.plan.specs.Tables.{Tables}
+use Rattle.plan.specs.Walk.{Walked}
+use Rattle.plan.specs.Ends.{EndsAs, Found, leftBy, ScansAs}
 use Rattle.plan.specs.declared.Checked.{Checked}
-use Rattle.plan.proofs.Whole.{none-yet, Ended, Answered, refused, allFine, answered}
+use Rattle.plan.proofs.Answers.{told, untold}
 use Rattle.plan.proofs.LastFaults.{ends-find}
-use Rattle.plan.proofs.Told.{told, untold}
+use Rattle.plan.proofs.Tables.{firsts-are, starters-are}
 
 module _ (p first starter : List ℕ) where
-  -- a fault leaves both tables
-  scans-refused : (r : Refusal) → fault devices p ≡ some r → ScansAs p first starter (Checked.Refused r) first starter
-  scans-refused r e = record {
-    answers = ap checked (sym e);
-    firsts = ap (λ (x : Option Refusal). leftBy x (firstLines p) first) (sym e);
-    starts = cc;
-  }
+  -- a line is refused
+  pub at-a-line : (f s : List ℕ) (r : Refusal) → Walked p (Checked.Refused r) f s → Found p (Checked.Refused r)
+      first starter
+  unfolding fault firstRefusal
+  at-a-line f s r w =
+      let e = told (firstFault devices [] p) r (w .answers) in record {
+        answers = rw e;
+        tables = λ z. let v : _≡_ {A = ℕ} 0 1 = cc in absurd (omega arith);
+      }
 
-  scans-fine : (f s : List ℕ) → fault devices p ≡ none → f ≡ firstLines p → s ≡ starters p
-      → ScansAs p first starter Checked.Fine f s
-  scans-fine f s e a b = record {
-    answers = ap checked (sym e);
-    firsts = a ∙ ap (λ (x : Option Refusal). leftBy x (firstLines p) first) (sym e);
-    starts = cc;
-  }
+  -- no line is
+  pub past-the-lines : (r : Checked) → Walked p Checked.Fine first starter → EndsAs first starter r
+      → Found p r first starter
+  past-the-lines r w e =
+      let t = w .tables refl in record {
+        answers = ends-find devices p first starter t r e (untold (firstFault devices [] p) (w .answers));
+        tables = λ z. (firsts-are devices p first starter t, starters-are devices p first starter t);
+      }
 
-  module _ (f s : List ℕ) (w : Checked) (walked : walkBy w f s ≡ walkFrom devices 0 0 [] none-yet none-yet p) where
-    -- a line has a fault
-    pub at-a-line : (r : Refusal) → w ≡ Checked.Refused r → ScansAs p first starter (Checked.Refused r) first starter
-    unfolding fault firstRefusal
-    at-a-line r e = go w (firstFault devices [] p) refl e (answered devices p f s w walked)
-      where
-        go : (w : Checked) (x : Option Refusal) → firstFault devices [] p ≡ x → w ≡ Checked.Refused r
-            → Answered devices p f s w x
-            → ScansAs p first starter (Checked.Refused r) first starter
-        go (Checked.Refused q) (some y) z e (refused t) = let v : q ≡ r = cc in scans-refused r (rw (z, v))
-        go Checked.Fine x z e a = let v : _≡_ {A = ℕ} 0 1 = cc in absurd (omega arith)
+  -- what is left in the lent tables
+  pub scan-refused : (f s : List ℕ) (r : Refusal) → Found p (Checked.Refused r) f s
+      → ScansAs p first starter (Checked.Refused r) first starter
+  scan-refused f s r w =
+      let e = told (fault devices p) r (w .answers) in record {
+        answers = w .answers;
+        firsts = ap (λ (x : Option Refusal). leftBy x (firstLines p) first) (sym e);
+        starts = cc;
+      }
 
-    module _ (fine : w ≡ Checked.Fine) where
-      ended : (firstFault devices [] p ≡ none) × Ended devices p f s
-      ended = go w (firstFault devices [] p) refl fine (answered devices p f s w walked)
-        where
-          go : (w : Checked) (x : Option Refusal) → firstFault devices [] p ≡ x → w ≡ Checked.Fine
-              → Answered devices p f s w x
-              → (firstFault devices [] p ≡ none) × Ended devices p f s
-          go (Checked.Refused q) x z e a = let v : _≡_ {A = ℕ} 0 1 = cc in absurd (omega arith)
-          go Checked.Fine none z e (allFine t) = (z, t)
-
-      module _ (x : Checked) (ends : x ≡ endsOf f s) where
-        found : x ≡ checked (fault devices p)
-        found = ends ∙ ends-find devices p f s (ended .1) (ended .0)
-
-        -- the last tests refuse
-        pub after-the-lines : (r : Refusal) → x ≡ Checked.Refused r
-            → ScansAs p first starter (Checked.Refused r) first starter
-        after-the-lines r e = scans-refused r (told (fault devices p) r (sym e ∙ found))
-
-        -- nothing is broken
-        pub sound : x ≡ Checked.Fine → ScansAs p first starter Checked.Fine f s
-        sound e = scans-fine f s (untold (fault devices p) (sym e ∙ found)) (ended .1 .firsts) (ended .1 .starts)
+  pub scan-fine : (f s : List ℕ) → Found p Checked.Fine f s → ScansAs p first starter Checked.Fine f s
+  scan-fine f s w =
+      let e = untold (fault devices p) (w .answers) in
+      let t = w .tables refl in record {
+        answers = w .answers;
+        firsts = t .0 ∙ ap (λ (x : Option Refusal). leftBy x (firstLines p) first) (sym e);
+        starts = t .1 ∙ ap (λ (x : Option Refusal). leftBy x (starters p) starter) (sym e);
+      }

@@ -1,279 +1,236 @@
 -- The stack and the set of the devices held: what a do, a take and a give leave of them, and which case of `ruleOf`
 -- the code's one test picks.
-use Prim.Native.Nat.{ℕ, zero, suc, _+_, _-_, _%_, _≤_, _<_}
+use Prim.Native.Nat.{ℕ, zero, suc, _+_, _-_, _≤_, _<_}
 use mathlib.Core.Bool.{Bool, true, false, cond, not, _&&_, _||_}
-use mathlib.Core.List.{List, [], _∷_, _++_}
+use mathlib.Core.List.{List, [], _∷_, tail}
 use mathlib.Core.Logic.{_⊎_, inl, inr}
 use mathlib.Core.Path.{_≡_, refl, sym, _∙_, ap}
 use native.Mathlib.Numerals.{add-one}
 use native.Mathlib.Omega.{arith}
-use lib.Bits.{bitXor}
 use lib.Dec.{eqb}
-use lib.ListN.{length, getD, take, drop, set, length-set, length-drop}
-use lib.Seq.{take-suc, take-suc-set, take-set-le, drop-set-add, getD-drop, getD-set-same, getD-set-other}
-use borrow.Author.Tests.{eqb-true, eqb-false, not-true, not-false}
+use lib.ListN.{length, getD, set, length-set}
+use lib.Seq.{getD-set-same, getD-set-other}
+use borrow.Author.Tests.{eqb-true, eqb-false, eq-eqb, ne-eqb, not-true, not-false}
 use Rattle.model.specs.Board.{devices}
-use Rattle.model.specs.Lists.{has, upFrom}
-use Rattle.model.specs.Sets.{empty, only, member}
+use Rattle.model.specs.Line.{operand, isTake, isGive, isStart, isLine, lineNumber}
+use Rattle.model.specs.Lists.{has}
+use Rattle.model.specs.Sets.{empty, member}
+use Rattle.model.specs.WellFormed.{isLast}
 use Rattle.model.specs.declared.Refusal.the-variants.{TakeOfHeld, GiveWithoutTake}
-use Rattle.theory.proofs.Tests.{clash, le-or-lt}
-use Rattle.theory.proofs.Lists.{has-head, has-right, those-length}
-use Rattle.theory.proofs.Claims.{length-upFrom}
+use Rattle.line.proofs.Ranges.{or-none}
+use Rattle.sets.specs.Both.{differ}
+use Rattle.sets.specs.Only.{onlyOf}
+use Rattle.sets.proofs.Members.{member-turned, differ-empty}
+use Rattle.theory.proofs.Line.{device-line, take-no-give}
+use Rattle.theory.proofs.Lists.{has-head, left, left-one, left-every, among}
 use Rattle.theory.proofs.Sets.{member-empty}
-use Rattle.plan.specs.Walk.{Ruled, kept, broken, ruleOf, heldIn, Holding}
-use Rattle.plan.proofs.Lines.{or-none}
-use Rattle.plan.proofs.Flips.{member-flip, with-one, without-one, none-counted, put-in, taken-out}
-use Rattle.plan.proofs.Rules.{held-take, new-take, empty-give, right-give, wrong-give}
+use Rattle.theory.proofs.Tests.{clash, test, falsely, tests-agree, or-left, or-right}
+use Rattle.plan.specs.Walk.{on, bad, ruleOf, heldIn, Once, bare, more, Holding, breaks, depthAfter, setAfter}
 
--- a device's number is its remainder
-same-device : (o : ℕ) → o < devices → o % 32 ≡ o
-same-device o b = omega arith
+-- ---- no more devices than the board has
 
--- no device held
-pub none-held : (stack : List ℕ) → length stack ≡ devices + 2 → getD stack 0 0 ≡ devices → Holding 0 0 stack
-unfolding has empty
-none-held stack l f = record {
-  long = l;
-  floor = f;
-  same = λ d h. member-empty d;
-  once = λ e h. absurd (omega arith);
-  many = none-counted devices;
-}
+other-has : (k d : ℕ) (ds : List ℕ) → (k ≡ d → ⊥) → has k ds ≡ has k (d ∷ ds)
+unfolding has
+other-has k d ds n = rw (ne-eqb k d n)
 
--- what a job holds, or nothing: b says which
+-- what is in the list and what is not make up the board
+counted : (D : ℕ) (ds : List ℕ) → Once D ds → left (among ds) D + length ds ≡ D
+counted D [] bare = omega (arith, left-every D)
+counted D (d ∷ ds) (more e es b n o) =
+    omega (arith, counted D ds o, left-one (among ds) (among (d ∷ ds)) d n (has-head d ds) (λ k. other-has k d ds) D b)
+
+length-held : (depth : ℕ) (stack : List ℕ) → length (heldIn depth stack) ≡ depth
+unfolding heldIn
+length-held zero stack = refl
+length-held (suc depth) stack = ap suc (length-held depth stack)
+
+pub few : (depth held : ℕ) (stack : List ℕ) → Holding depth held stack → depth ≤ devices
+few depth held stack h =
+    omega (arith, counted devices (heldIn depth stack) (h .once), length-held depth stack)
+
+-- ---- what is held
+
+pub none-held : (stack : List ℕ) → length stack ≡ devices + 2 → getD stack 0 0 ≡ devices → Holding 0 empty stack
+unfolding heldIn has
+none-held stack l f = record { long = l; floor = f; once = bare; same = λ d h. member-empty d }
+
+-- of the job before, or nothing: b says which
 pub held-or-none : (depth held : ℕ) (stack : List ℕ) → Holding depth held stack → (b : Bool)
-    → Holding (cond b depth 0) (cond b held 0) stack
+    → Holding (cond b depth 0) (cond b held empty) stack
 held-or-none depth held stack h true = h
 held-or-none depth held stack h false = none-held stack (h .long) (h .floor)
 
--- no more devices than the board has
-pub few : (depth held : ℕ) (stack : List ℕ) → Holding depth held stack → depth ≤ devices
-few depth held stack h =
-    omega (arith, h .many, those-length (member held) (upFrom 0 devices), length-upFrom 0 devices)
+-- a device put in, and taken out
+module _ (d o : ℕ) (ds : List ℕ) (new : has o ds ≡ false) where
+  put-in : cond (eqb o d) (not (has d ds)) (has d ds) ≡ has d (o ∷ ds)
+  unfolding has
+  put-in = go (test (eqb o d))
+    where
+      go : (eqb o d ≡ true) ⊎ (eqb o d ≡ false) → cond (eqb o d) (not (has d ds)) (has d ds) ≡ (eqb d o || has d ds)
+      go (inl q) = let p = eqb-true o d q in let z : has d ds ≡ false = rw p at new in
+          rw (q, eq-eqb d o (sym p), z)
+      go (inr q) = rw (q, ne-eqb d o (λ p. eqb-false o d q (sym p)))
+
+  taken-out : cond (eqb o d) (not (has d (o ∷ ds))) (has d (o ∷ ds)) ≡ has d ds
+  taken-out = go (test (eqb o d)) put-in
+    where
+      go : (eqb o d ≡ true) ⊎ (eqb o d ≡ false) → cond (eqb o d) (not (has d ds)) (has d ds) ≡ has d (o ∷ ds)
+          → cond (eqb o d) (not (has d (o ∷ ds))) (has d (o ∷ ds)) ≡ has d ds
+      go (inl q) e = let z : has d ds ≡ false = rw (eqb-true o d q) at new in rw (q, ← e, q, z)
+      go (inr q) e = rw (q, ← e, q)
+
+-- ---- a store above what is held
+
+module _ (stack : List ℕ) (o : ℕ) where
+  below : (e depth : ℕ) → e ≤ depth → heldIn e (set stack (suc depth) o) ≡ heldIn e stack
+  unfolding heldIn
+  below zero depth k = refl
+  below (suc e) depth k =
+      rw (getD-set-other stack (suc depth) (suc e) o 0 (λ q. omega arith), below e depth (omega arith))
+
+  pushed : (depth : ℕ) → suc depth < length stack → heldIn (suc depth) (set stack (suc depth) o) ≡ o ∷ heldIn depth
+      stack
+  unfolding heldIn
+  pushed depth h = rw (getD-set-same stack (suc depth) o 0 h, below depth depth (omega arith))
 
 module _ (depth held o : ℕ) (stack : List ℕ) (h : Holding depth held stack) where
-  above : drop 1 (set stack (depth + 1) o) ≡ set (drop 1 stack) depth o
-  above =
-      ap (λ (n : ℕ). drop 1 (set stack n o)) (let q : depth + 1 ≡ 1 + depth = omega arith in q)
-      ∙ drop-set-add 1 stack depth o
+  pub fits : suc depth < length stack
+  fits = omega (arith, h .long, few depth held stack h)
 
-  fits : depth < length (drop 1 stack)
-  fits = omega (arith, length-drop 1 stack, h .long, few depth held stack h)
-
-  below : (e : ℕ) → e ≤ depth → heldIn e (set stack (depth + 1) o) ≡ heldIn e stack
-  below e k = ap (take e) above ∙ take-set-le e (drop 1 stack) depth o k
-
-  still-once : (e : ℕ) → e < depth
-      → has (getD (drop 1 (set stack (depth + 1) o)) e 0) (heldIn e (set stack (depth + 1) o)) ≡ false
-  still-once e k =
-      ap (λ (l : List ℕ). has (getD l e 0) (heldIn e (set stack (depth + 1) o))) above
-      ∙ ap (λ (x : ℕ). has x (heldIn e (set stack (depth + 1) o)))
-      (getD-set-other (drop 1 stack) depth e o 0 (λ q. omega arith))
-      ∙ ap (has (getD (drop 1 stack) e 0)) (below e (omega arith))
-      ∙ h .once e k
-
-  still-long : length (set stack (depth + 1) o) ≡ 34
-  still-long = length-set stack (depth + 1) o ∙ h .long
-
-  still-floor : getD (set stack (depth + 1) o) 0 0 ≡ devices
-  still-floor = getD-set-other stack (depth + 1) 0 o 0 (λ q. omega arith) ∙ h .floor
-
-  after-do : Holding depth held (set stack (depth + 1) o)
-  after-do = record {
-    long = still-long;
-    floor = still-floor;
-    same = λ d k. h .same d k ∙ ap (has d) (sym (below depth (omega arith)));
-    once = still-once;
-    many = h .many;
+  stored : (depth′ held′ : ℕ) → Once devices (heldIn depth′ (set stack (suc depth) o))
+      → ((d : ℕ) → d < devices → member held′ d ≡ has d (heldIn depth′ (set stack (suc depth) o)))
+      → Holding depth′ held′ (set stack (suc depth) o)
+  stored depth′ held′ once same = record {
+    long = length-set stack (suc depth) o ∙ h .long;
+    floor = getD-set-other stack (suc depth) 0 o 0 (λ q. omega arith) ∙ h .floor;
+    once = once;
+    same = same;
   }
 
-  pushed : heldIn (depth + 1) (set stack (depth + 1) o) ≡ heldIn depth stack ++ (o ∷ [])
-  pushed = ap (take (depth + 1)) above ∙ rw (add-one, take-suc-set (drop 1 stack) depth o fits)
+  after-do : Holding depth held (set stack (suc depth) o)
+  after-do =
+      stored depth held (rw (below stack o depth depth (omega arith)) (h .once))
+      (λ d k. rw (below stack o depth depth (omega arith)) (h .same d k))
 
-  after-take : o < devices → member held o ≡ false
-      → Holding (depth + 1) (bitXor held (only o)) (set stack (depth + 1) o)
-  after-take b m = record {
-    long = still-long;
-    floor = still-floor;
-    same = λ d k. member-flip held o d
-        ∙ with-one d o (heldIn depth stack) (member held d) new (h .same d k)
-        ∙ ap (has d) (sym pushed);
-    once = λ e k. go e (le-or-lt depth e) k;
-    many = put-in devices held o depth b m (h .many);
-  }
-    where
-      new : has o (heldIn depth stack) ≡ false
-      new = sym (h .same o b) ∙ m
+  after-take : o < devices → has o (heldIn depth stack) ≡ false
+      → Holding (suc depth) (differ held (onlyOf devices o)) (set stack (suc depth) o)
+  after-take b new =
+      stored (suc depth) (differ held (onlyOf devices o))
+      (rw (pushed stack o depth fits) (more o (heldIn depth stack) b new (h .once)))
+      (λ d k. rw (pushed stack o depth fits)
+      (member-turned devices held o d k ∙ rw (h .same d k) (put-in d o (heldIn depth stack) new)))
 
-      go : (e : ℕ) → (depth ≤ e) ⊎ (e < depth) → e < depth + 1
-          → has (getD (drop 1 (set stack (depth + 1) o)) e 0) (heldIn e (set stack (depth + 1) o)) ≡ false
-      go e (inr k) l = still-once e k
-      go e (inl k) l =
-          let q : e ≡ depth = omega arith in
-          rw q
-          (ap (λ (l : List ℕ). has (getD l depth 0) (heldIn depth (set stack (depth + 1) o))) above
-          ∙ ap (λ (x : ℕ). has x (heldIn depth (set stack (depth + 1) o)))
-          (getD-set-same (drop 1 stack) depth o 0 fits)
-          ∙ ap (has o) (below depth (omega arith))
-          ∙ new)
+after-give : (depth held o : ℕ) (stack : List ℕ) → Holding (suc depth) held stack → getD stack (suc depth) 0 ≡ o
+    → Holding depth (differ held (onlyOf devices o)) (set stack (suc (suc depth)) o)
+unfolding heldIn
+after-give depth held o stack h t = go (heldIn depth stack) refl (rw t at (h .once)) (rw t at (h .same))
+  where
+    go : (ds : List ℕ) → heldIn depth stack ≡ ds → Once devices (o ∷ ds)
+        → ((d : ℕ) → d < devices → member held d ≡ has d (o ∷ ds))
+        → Holding depth (differ held (onlyOf devices o)) (set stack (suc (suc depth)) o)
+    go ds e (more d es b new once) same =
+        let r : heldIn depth (set stack (suc (suc depth)) o) ≡ ds =
+        below stack o depth (suc depth) (omega arith) ∙ e in
+        stored (suc depth) held o stack h depth (differ held (onlyOf devices o)) (rw r once)
+        (λ d k. rw r (member-turned devices held o d k ∙ rw (same d k) (taken-out d o ds new)))
 
-  module _ (some : 1 ≤ depth) where
-    top : getD (drop 1 stack) (depth - 1) 0 ≡ getD stack depth 0
-    top =
-        getD-drop 1 stack (depth - 1) 0
-        ∙ ap (λ (n : ℕ). getD stack n 0) (let q : 1 + (depth - 1) ≡ depth = omega arith in q)
+gave : (depth held o : ℕ) (stack : List ℕ) → Holding depth held stack → isLast o (heldIn depth stack) ≡ true
+    → (heldIn (depth - 1) (set stack (suc depth) o) ≡ tail (heldIn depth stack))
+    × Holding (depth - 1) (differ held (onlyOf devices o)) (set stack (suc depth) o)
+unfolding heldIn isLast
+gave zero held o stack h e = clash false e refl
+gave (suc depth) held o stack h e =
+    let q : suc depth - 1 ≡ depth = omega arith in (
+      rw q (below stack o depth (suc depth) (omega arith)),
+      rw q (after-give depth held o stack h (sym (eqb-true o (getD stack (suc depth) 0) e))),
+    )
 
-    after-give : o < devices → getD stack depth 0 ≡ o
-        → Holding (depth - 1) (bitXor held (only o)) (set stack (depth + 1) o)
-    after-give b t = record {
-      long = still-long;
-      floor = still-floor;
-      same = λ d k. member-flip held o d
-          ∙ without-one d o (heldIn (depth - 1) stack) (member held d) other (h .same d k ∙ ap (has d) popped)
-          ∙ ap (has d) (sym (below (depth - 1) (omega arith)));
-      once = λ e k. still-once e (omega arith);
-      many = taken-out devices held o depth b m (h .many);
-    }
+-- ---- the code's one test
+
+-- the latest, at the top of the stack; place 0 has no device's number
+is-latest : (depth held o : ℕ) (stack : List ℕ) → Holding depth held stack → o < devices
+    → eqb (getD stack depth 0) o ≡ isLast o (heldIn depth stack)
+unfolding isLast heldIn
+is-latest zero held o stack h b = ne-eqb (getD stack 0 0) o (λ q. omega (arith, h .floor))
+is-latest (suc depth) held o stack h b =
+    tests-agree (eqb (getD stack (suc depth) 0) o) (eqb o (getD stack (suc depth) 0))
+    (λ e. eq-eqb o (getD stack (suc depth) 0) (sym (eqb-true (getD stack (suc depth) 0) o e)))
+    (λ e. eq-eqb (getD stack (suc depth) 0) o (sym (eqb-true o (getD stack (suc depth) 0) e)))
+
+module _ (n depth held : ℕ) (stack : List ℕ) (h : Holding depth held stack) (line : isLine devices n ≡ true) where
+  tested : Bool
+  tested = breaks n held (getD stack depth 0)
+
+  -- the test of a take, and of a give
+  by-take : isTake n ≡ true → (operand n < devices) × (tested ≡ has (operand n) (heldIn depth stack))
+  unfolding tested
+  by-take e =
+      let b : operand n < devices = device-line devices n line (or-left (isTake n) (isGive n) e) in
+      (b, rw (e, take-no-give n e) (or-none (member held (operand n)) ∙ h .same (operand n) b))
+
+  by-give : isTake n ≡ false → isGive n ≡ true
+      → (operand n < devices) × (tested ≡ not (isLast (operand n) (heldIn depth stack)))
+  unfolding tested
+  by-give e g =
+      let b : operand n < devices = device-line devices n line (or-right (isTake n) (isGive n) g) in
+      (b, rw (e, g) (ap not (is-latest depth held (operand n) stack h b)))
+
+  by-other : isTake n ≡ false → isGive n ≡ false → tested ≡ false
+  unfolding tested
+  by-other e g = rw (e, g)
+
+  module _ (t : breaks n held (getD stack depth 0) ≡ true) (i : ℕ) where
+    pub taken-again : isTake n ≡ true → (first starter : List ℕ)
+        → bad (TakeOfHeld (i + 1)) ≡ ruleOf i n (heldIn depth stack) first starter
+    unfolding ruleOf lineNumber tested
+    taken-again e first starter = let m = sym (by-take e .1) ∙ t in rw (e, m, add-one)
+
+    pub wrongly-given : isTake n ≡ false → (first starter : List ℕ)
+        → bad (GiveWithoutTake (i + 1)) ≡ ruleOf i n (heldIn depth stack) first starter
+    unfolding ruleOf lineNumber tested
+    wrongly-given e first starter = go (test (isGive n))
       where
-        popped : heldIn depth stack ≡ heldIn (depth - 1) stack ++ (o ∷ [])
-        popped =
-            ap (λ (n : ℕ). heldIn n stack) (let q : depth ≡ suc (depth - 1) = omega arith in q)
-            ∙ take-suc (drop 1 stack) (depth - 1) 0 (omega (arith, fits))
-            ∙ ap (λ (x : ℕ). heldIn (depth - 1) stack ++ (x ∷ [])) (top ∙ t)
+        go : (isGive n ≡ true) ⊎ (isGive n ≡ false)
+            → bad (GiveWithoutTake (i + 1)) ≡ ruleOf i n (heldIn depth stack) first starter
+        go (inl g) = let m = not-true (isLast (operand n) (heldIn depth stack)) (sym (by-give e g .1) ∙ t) in
+            rw (e, g, m, add-one)
+        go (inr g) = clash tested t (by-other e g)
 
-        m : member held o ≡ true
-        m = h .same o b ∙ ap (has o) popped ∙ has-right o (heldIn (depth - 1) stack) (o ∷ []) (has-head o [])
+  module _ (t : breaks n held (getD stack depth 0) ≡ false) where
+    given : isTake n ≡ false → isGive n ≡ true → isLast (operand n) (heldIn depth stack) ≡ true
+    unfolding tested
+    given e g = not-false (isLast (operand n) (heldIn depth stack)) (sym (by-give e g .1) ∙ t)
 
-        other : has o (heldIn (depth - 1) stack) ≡ false
-        other =
-            ap (λ (x : ℕ). has x (heldIn (depth - 1) stack)) (sym (top ∙ t)) ∙ h .once (depth - 1) (omega arith)
-
--- ---- the code's one test, by the kind
-
--- a take of a device that is held, or a give of another than the latest
-abbrev pub breaks : ℕ → ℕ → ℕ → ℕ → List ℕ → Bool
-breaks k o depth held stack =
-    (eqb k 1 && member held (o % 32)) || (eqb k 2 && not (eqb (getD stack depth 0) o))
-
--- the depth and the set after a line of kind k that breaks nothing
-abbrev pub depthAfter : ℕ → ℕ → ℕ
-depthAfter k depth = cond (eqb k 1) (depth + 1) (cond (eqb k 2) (depth - 1) depth)
-
-abbrev pub setAfter : ℕ → ℕ → ℕ → ℕ
-setAfter k o held = cond (eqb k 1 || eqb k 2) (bitXor held (only (o % 32))) held
-
--- the place below the first device is no device's
-pub deep : (depth held o : ℕ) (stack : List ℕ) → Holding depth held stack → o < devices → getD stack depth 0 ≡ o
-    → 1 ≤ depth
-deep zero held o stack h b t = absurd (omega (arith, h .floor))
-deep (suc depth) held o stack h b t = omega arith
-
-module _ (i j o depth held : ℕ) (stack starter : List ℕ) (h : Holding depth held stack) where
-  is-held : o < devices → has o (heldIn depth stack) ≡ member held (o % 32)
-  is-held b = sym (h .same o b) ∙ ap (member held) (sym (same-device o b))
-
-  broken-take : o < devices → member held (o % 32) ≡ true
-      → broken (TakeOfHeld (i + 1)) ≡ ruleOf i j 1 o (heldIn depth stack) starter
-  broken-take b m = held-take i j 1 o (drop 1 stack) starter depth refl (sym (is-held b ∙ m))
-
-  broken-give : (getD stack depth 0 ≡ o → ⊥)
-      → broken (GiveWithoutTake (i + 1)) ≡ ruleOf i j 2 o (heldIn depth stack) starter
-  broken-give t = go (le-or-lt 1 depth)
-    where
-      go : (1 ≤ depth) ⊎ (depth < 1) → broken (GiveWithoutTake (i + 1)) ≡ ruleOf i j 2 o (heldIn depth stack) starter
-      go (inl s) =
-          wrong-give i j o (drop 1 stack) starter depth s (omega (arith, fits depth held o stack h))
-          (λ q. t (sym (top depth held o stack h s) ∙ q))
-      go (inr s) = empty-give i j o (drop 1 stack) starter depth (omega arith)
-
-  kept-do : kept (heldIn depth (set stack (depth + 1) o)) starter ≡ ruleOf i j 0 o (heldIn depth stack) starter
-  unfolding ruleOf
-  kept-do = ap {B = Ruled} (λ xs. kept xs starter) (below depth held o stack h depth (omega arith))
-
-  kept-take : o < devices → member held (o % 32) ≡ false
-      → kept (heldIn (depth + 1) (set stack (depth + 1) o)) starter ≡ ruleOf i j 1 o (heldIn depth stack) starter
-  kept-take b m =
-      ap {B = Ruled} (λ l. kept (take (depth + 1) l) starter) (above depth held o stack h)
-      ∙ new-take i j 1 o (drop 1 stack) starter depth refl (sym (is-held b ∙ m)) (fits depth held o stack h)
-
-  kept-give : 1 ≤ depth → getD stack depth 0 ≡ o
-      → kept (heldIn (depth - 1) (set stack (depth + 1) o)) starter ≡ ruleOf i j 2 o (heldIn depth stack) starter
-  kept-give s t =
-      ap {B = Ruled} (λ xs. kept xs starter) (below depth held o stack h (depth - 1) (omega arith))
-      ∙ right-give i j o (drop 1 stack) starter depth s (omega (arith, fits depth held o stack h))
-      (top depth held o stack h s ∙ t)
-
--- a device's number where the kind wants one
-abbrev pub Handled : ℕ → ℕ → Type 0
-Handled k o = (1 ≤ k) → o < devices
-
-module _ (i j k o depth held : ℕ) (stack : List ℕ) (h : Holding depth held stack) (three : k < 3)
-    (b : Handled k o) where
-  pub again : breaks k o depth held stack ≡ true → eqb k 1 ≡ true → (starter : List ℕ)
-      → broken (TakeOfHeld (i + 1)) ≡ ruleOf i j k o (heldIn depth stack) starter
-  again t e starter = go k (eqb-true k 1 e) b t
-    where
-      go : (k : ℕ) → k ≡ 1 → Handled k o → breaks k o depth held stack ≡ true
-          → broken (TakeOfHeld (i + 1)) ≡ ruleOf i j k o (heldIn depth stack) starter
-      go zero q b t = absurd (omega arith)
-      go (suc zero) q b t =
-          broken-take i j o depth held stack starter h (b (omega arith)) (sym (or-none (member held (o % 32))) ∙ t)
-      go (suc (suc k)) q b t = absurd (omega arith)
-
-  pub unmatched : breaks k o depth held stack ≡ true → eqb k 1 ≡ false → (starter : List ℕ)
-      → broken (GiveWithoutTake (i + 1)) ≡ ruleOf i j k o (heldIn depth stack) starter
-  unmatched t e starter = go k three (eqb-false k 1 e) t
-    where
-      go : (k : ℕ) → k < 3 → (k ≡ 1 → ⊥) → breaks k o depth held stack ≡ true
-          → broken (GiveWithoutTake (i + 1)) ≡ ruleOf i j k o (heldIn depth stack) starter
-      go zero l n t = clash false t refl
-      go (suc zero) l n t = absurd (n refl)
-      go (suc (suc zero)) l n t =
-          broken-give i j o depth held stack starter h
-          (eqb-false (getD stack depth 0) o (not-true (eqb (getD stack depth 0) o) t))
-      go (suc (suc (suc k))) l n t = absurd (omega arith)
-
-  module _ (t : breaks k o depth held stack ≡ false) where
-    pub given-deep : eqb k 2 ≡ true → 1 ≤ depth
-    given-deep e = go k (eqb-true k 2 e) b t
+    pub given-deep : isGive n ≡ true → 1 ≤ depth
+    unfolding isLast heldIn
+    given-deep g = go depth (given (falsely (isTake n) (λ e. clash (isGive n) g (take-no-give n e))) g)
       where
-        go : (k : ℕ) → k ≡ 2 → Handled k o → breaks k o depth held stack ≡ false → 1 ≤ depth
-        go zero q b t = absurd (omega arith)
-        go (suc zero) q b t = absurd (omega arith)
-        go (suc (suc zero)) q b t =
-            deep depth held o stack h (b (omega arith))
-            (eqb-true (getD stack depth 0) o (not-false (eqb (getD stack depth 0) o) t))
-        go (suc (suc (suc k))) q b t = absurd (omega arith)
+        go : (depth : ℕ) → isLast (operand n) (heldIn depth stack) ≡ true → 1 ≤ depth
+        go zero e = clash false e refl
+        go (suc depth) e = omega arith
 
-    -- a line that breaks nothing leads to this depth and this set
-    abbrev Leads : ℕ → ℕ → ℕ → Type 0
-    Leads k d w =
-        ((starter : List ℕ)
-        → kept (heldIn d (set stack (depth + 1) o)) starter ≡ ruleOf i j k o (heldIn depth stack) starter)
-        × Holding d w (set stack (depth + 1) o)
-
-    leads : Leads k (depthAfter k depth) (setAfter k o held)
-    leads = go k three b t
+    pub led : (i : ℕ) → isStart n ≡ false → (first starter : List ℕ)
+        → on (heldIn (depthAfter n depth) (set stack (depth + 1) (operand n))) first starter
+        ≡ ruleOf i n (heldIn depth stack) first starter
+    unfolding ruleOf tested
+    led i s first starter = go (test (isTake n)) (test (isGive n))
       where
-        go : (k : ℕ) → k < 3 → Handled k o → breaks k o depth held stack ≡ false
-            → Leads k (depthAfter k depth) (setAfter k o held)
-        go zero l b t = (λ starter. kept-do i j o depth held stack starter h, after-do depth held o stack h)
-        go (suc zero) l b t =
-            let d = b (omega arith) in
-            let m : member held (o % 32) ≡ false = sym (or-none (member held (o % 32))) ∙ t in
-            let n : member held o ≡ false = sym (ap (member held) (same-device o d)) ∙ m in (
-              λ starter. kept-take i j o depth held stack starter h d m,
-              rw (same-device o d) (after-take depth held o stack h d n),
-            )
-        go (suc (suc zero)) l b t =
-            let d = b (omega arith) in
-            let q : getD stack depth 0 ≡ o =
-            eqb-true (getD stack depth 0) o (not-false (eqb (getD stack depth 0) o) t) in
-            let s : 1 ≤ depth = deep depth held o stack h d q in (
-              λ starter. kept-give i j o depth held stack starter h s q,
-              rw (same-device o d) (after-give depth held o stack h s d q),
-            )
-        go (suc (suc (suc k))) l b t = absurd (omega arith)
+        go : (isTake n ≡ true) ⊎ (isTake n ≡ false) → (isGive n ≡ true) ⊎ (isGive n ≡ false)
+            → on (heldIn (depthAfter n depth) (set stack (depth + 1) (operand n))) first starter
+            ≡ ruleOf i n (heldIn depth stack) first starter
+        go (inl e) g = let m = sym (by-take e .1) ∙ t in
+            rw (e, m, add-one, pushed stack (operand n) depth (fits depth held (operand n) stack h))
+        go (inr e) (inl g) = let m = given e g in
+            rw (e, g, m, add-one, gave depth held (operand n) stack h m .0)
+        go (inr e) (inr g) = rw (e, g, s, add-one, below stack (operand n) depth depth (omega arith))
 
-    pub goes-on : (d w : ℕ) → d ≡ depthAfter k depth → w ≡ setAfter k o held → Leads k d w
-    goes-on d w p q = rw (p, q) leads
+    pub holds : Holding (depthAfter n depth) (setAfter n held) (set stack (depth + 1) (operand n))
+    unfolding tested
+    holds = go (test (isTake n)) (test (isGive n))
+      where
+        go : (isTake n ≡ true) ⊎ (isTake n ≡ false) → (isGive n ≡ true) ⊎ (isGive n ≡ false)
+            → Holding (depthAfter n depth) (setAfter n held) (set stack (depth + 1) (operand n))
+        go (inl e) g =
+            rw (e, add-one) (after-take depth held (operand n) stack h (by-take e .0) (sym (by-take e .1) ∙ t))
+        go (inr e) (inl g) = rw (e, g, add-one) (gave depth held (operand n) stack h (given e g) .1)
+        go (inr e) (inr g) = rw (e, g, add-one, differ-empty held) (after-do depth held (operand n) stack h)

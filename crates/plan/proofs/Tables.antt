@@ -1,115 +1,158 @@
--- The tables of first lines and starters, entry by entry: each is the first line so far that passes a test, and one
--- line more changes it only where there was none.
+-- The tables of first lines and starters, entry by entry: one line more changes an entry only where there was none.
 use mathlib.Core.Path.{_≡_, refl, ap, sym, _∙_}
-use mathlib.Core.Bool.{Bool, true, false}
-use mathlib.Core.Option.{Option, none, some}
-use Prim.Native.Nat.{ℕ, zero, suc, _+_, _<_}
+use mathlib.Core.Bool.{Bool, true, false, not}
+use mathlib.Core.List.{List, [], _∷_, headD, map}
+use mathlib.Core.Logic.{_⊎_, inl, inr}
+use Prim.Native.Nat.{ℕ, zero, suc, _+_, _≤_, _<_}
 use native.Mathlib.Omega.{arith}
-use Rattle.model.specs.Lists.{upFrom, firstOf}
-use Rattle.model.specs.Line.{lineNumber}
-use Rattle.plan.specs.Jobs.{numberOfFound}
-use Rattle.theory.proofs.Tests.{clash, no-some}
-use Rattle.theory.proofs.Lists.{Answer, first-answer, first-is-lowest, has-upFrom, upFrom-has}
+use lib.Dec.{eqb}
+use lib.ListN.{length, getD, set, length-map}
+use lib.Seq.{getD-set-same, getD-set-other, ext-getD}
+use borrow.Author.Tests.{eqb-true, eqb-false, ne-eqb}
+use Rattle.model.specs.Line.{job, starts, at, lineNumber, firstLine, maxJob}
+use mathlib.Core.Option.{Option, none, some}
+use Rattle.model.specs.Lists.{upFrom, positions, any, firstOf}
+use Rattle.model.specs.WellFormed.{before}
+use Rattle.theory.proofs.Tests.{clash, test, falsely, le-or-lt}
+use Rattle.theory.proofs.WellFormed.{any-before, before-any, any-line, line-any}
+use Rattle.theory.proofs.Lists.{Answer, first-answer, has-upFrom, first-is-lowest}
+use Rattle.plan.specs.Jobs.{numberOfFirst, numberOfFound, firstLines, starters}
+use Rattle.theory.proofs.Claims.{length-upFrom, getD-upFrom}
+use Rattle.plan.specs.Tables.{First, nothing, found, Tables}
 
--- the number of the first line below i that passes, 0 where there is none
-unfoldable pub firstNumber : (ℕ → Bool) → ℕ → ℕ
-unfolding numberOfFound
-firstNumber f i = numberOfFound (firstOf f (upFrom 0 i))
-
--- ---- one number more
-
-more-found : (f : ℕ → Bool) (a n k : ℕ) → firstOf f (upFrom a n) ≡ some k → firstOf f (upFrom a (suc n)) ≡ some k
-unfolding firstOf upFrom
-more-found f a zero k e = no-some e
-more-found f a (suc n) k e = go (f a) e (more-found f (suc a) n k)
+-- what holds below i, and at i, holds below the next
+pub up-to : (P : ℕ → Type 0) (i : ℕ) → P i → ((k : ℕ) → k < i → P k) → (k : ℕ) → k < suc i → P k
+up-to P i here f k h = go (test (eqb k i))
   where
-    go : (b : Bool) → elim b [ true ↦ some a | false ↦ firstOf f (upFrom (suc a) n) ] ≡ some k
-        → (firstOf f (upFrom (suc a) n) ≡ some k → firstOf f (upFrom (suc a) (suc n)) ≡ some k)
-        → elim b [ true ↦ some a | false ↦ firstOf f (upFrom (suc a) (suc n)) ] ≡ some k
-    go true e ih = e
-    go false e ih = ih e
+    go : (eqb k i ≡ true) ⊎ (eqb k i ≡ false) → P k
+    go (inl e) = rw (eqb-true k i e) here
+    go (inr e) = let n = eqb-false k i e in f k (omega arith)
 
--- a number, if it passes
-pick : (ℕ → Bool) → ℕ → Option ℕ
-pick f k = elim (f k) [ true ↦ some k | false ↦ none ]
+module _ (f : ℕ → Bool) (p : List ℕ) (i : ℕ) where
+  -- one line more
+  pub stays : (m : ℕ) → f (at p i) ≡ false → First f p i m → First f p (suc i) m
+  stays m e (nothing h) = nothing (up-to (λ k. f (at p k) ≡ false) i e h)
+  stays m e (found k b t low) = found k (omega arith) t low
 
-more-none : (f : ℕ → Bool) (a n : ℕ) → firstOf f (upFrom a n) ≡ none → firstOf f (upFrom a (suc n)) ≡ pick f (a + n)
-unfolding firstOf upFrom pick
-more-none f a zero e = let q : a ≡ a + 0 = omega arith in ap (λ (x : ℕ). pick f x) q
-more-none f a (suc n) e = go (f a) e (more-none f (suc a) n)
+  pub kept : (m : ℕ) → (m ≡ 0 → ⊥) → First f p i m → First f p (suc i) m
+  kept m n (nothing h) = absurd (n refl)
+  kept m n (found k b t low) = found k (omega arith) t low
+
+  pub new : (m : ℕ) → f (at p i) ≡ true → m ≡ 0 → First f p i m → First f p (suc i) (suc i)
+  new m t z (nothing h) = found i (omega arith) t h
+  new m t z (found k b u low) = absurd (omega arith)
+
+  -- where a line passes, the entry is no later line's; where none does, there is no entry
+  pub at-most : (m k : ℕ) → First f p i m → k < i → f (at p k) ≡ true → (1 ≤ m) × (m ≤ suc k)
+  at-most m k (nothing h) b t = clash (f (at p k)) t (h k b)
+  at-most m k (found j c u low) b t = go (le-or-lt j k)
+    where
+      go : (j ≤ k) ⊎ (k < j) → (1 ≤ suc j) × (suc j ≤ suc k)
+      go (inl h) = (omega arith, omega arith)
+      go (inr h) = clash (f (at p k)) t (low k h)
+
+  pub unfound : (m : ℕ) → First f p i m → ((k : ℕ) → k < i → f (at p k) ≡ false) → m ≡ 0
+  unfound m (nothing h) g = refl
+  unfound m (found k b t low) g = clash (f (at p k)) t (g k b)
+
+  pub any-found : (m : ℕ) → First f p i m → any f (before p i) ≡ not (eqb m 0)
+  any-found m (nothing h) =
+      falsely (any f (before p i)) (λ e. let r = any-before f p i e in clash (f (at p (r .0))) (r .2) (h (r .0) (r .1)))
+  any-found m (found k b t low) = rw (ne-eqb (suc k) 0 (λ q. omega arith)) (before-any f p i k b t)
+
+-- a table with one entry stored anew
+pub stored : (f : ℕ → ℕ → Bool) (p : List ℕ) (i : ℕ) (t : List ℕ) (o v : ℕ) → length t ≡ suc maxJob → o ≤ maxJob
+    → ((j : ℕ) → j ≤ maxJob → First (f j) p i (getD t j 0)) → First (f o) p (suc i) v
+    → ((j : ℕ) → (o ≡ j → ⊥) → f j (at p i) ≡ false) → (j : ℕ) → j ≤ maxJob → First (f j) p (suc i) (getD (set t o
+    v) j 0)
+stored f p i t o v l b old here other j h = go (test (eqb o j))
   where
-    go : (b : Bool) → _≡_ {A = Option ℕ} (elim b [ true ↦ some a | false ↦ firstOf f (upFrom (suc a) n) ]) none
-        → (firstOf f (upFrom (suc a) n) ≡ none → firstOf f (upFrom (suc a) (suc n)) ≡ pick f (suc a + n))
-        → elim b [ true ↦ some a | false ↦ firstOf f (upFrom (suc a) (suc n)) ] ≡ pick f (a + suc n)
-    go true e ih = no-some (sym e)
-    go false e ih = ih e ∙ ap (pick f) (let q : suc a + n ≡ a + suc n = omega arith in q)
+    go : (eqb o j ≡ true) ⊎ (eqb o j ≡ false) → First (f j) p (suc i) (getD (set t o v) j 0)
+    go (inl e) = rw (← eqb-true o j e) (rw (getD-set-same t o v 0 (omega arith)) here)
+    go (inr e) =
+        let n = eqb-false o j e in
+        rw (getD-set-other t o j v 0 (λ q. n (sym q))) (stays (f j) p i (getD t j 0) (other j n) (old j h))
 
--- where the line at i does not pass, or one before it does, the number stays
-pub number-stays : (f : ℕ → Bool) (i : ℕ) → f i ≡ false → firstNumber f (suc i) ≡ firstNumber f i
-unfolding firstNumber pick
-number-stays f i h = go (firstOf f (upFrom 0 i)) refl
+-- ---- past the last line
+
+-- some line passes exactly if the table has an entry
+pub any-in : (f : ℕ → Bool) (p : List ℕ) (m : ℕ) → First f p (length p) m → any f p ≡ not (eqb m 0)
+any-in f p m (nothing h) =
+    falsely (any f p) (λ e. let r = any-line f p e in clash (f (at p (r .0))) (r .2) (h (r .0) (r .1)))
+any-in f p m (found k b t low) = rw (ne-eqb (suc k) 0 (λ q. omega arith)) (line-any f p k b t)
+
+-- a search that finds nothing
+pub first-none : (f : ℕ → Bool) (a n : ℕ) → ((k : ℕ) → a ≤ k → k < a + n → f k ≡ false) → firstOf f (upFrom a n) ≡ none
+first-none f a n h = go (firstOf f (upFrom a n)) (first-answer f (upFrom a n))
   where
-    at-i : f (0 + i) ≡ false
-    at-i = ap f (let q : 0 + i ≡ i = omega arith in q) ∙ h
+    go : (o : Option ℕ) → Answer f (upFrom a n) o → o ≡ none
+    go none e = refl
+    go (some i) e = let r = has-upFrom a n i (e .0) in clash (f i) (e .1) (h i (r .0) (r .1))
 
-    go : (o : Option ℕ) → firstOf f (upFrom 0 i) ≡ o
-        → numberOfFound (firstOf f (upFrom 0 (suc i))) ≡ numberOfFound (firstOf f (upFrom 0 i))
-    go (some k) e = ap numberOfFound (more-found f 0 i k e ∙ sym e)
-    go none e = ap numberOfFound (more-none f 0 i e ∙ (rw (at-i, pick)) ∙ sym e)
+-- the first line of a job
+none-later : (xs : List ℕ) → numberOfFirst xs ≡ 0 → numberOfFirst (map suc xs) ≡ 0
+unfolding numberOfFirst lineNumber
+none-later [] e = refl
+none-later (x ∷ xs) e = absurd (omega arith)
 
-pub number-new : (f : ℕ → Bool) (i : ℕ) → f i ≡ true → firstNumber f i ≡ 0 → firstNumber f (suc i) ≡ lineNumber i
-unfolding firstNumber pick numberOfFound lineNumber
-number-new f i h z = go (firstOf f (upFrom 0 i)) refl z
+one-later : (xs : List ℕ) (k : ℕ) → numberOfFirst xs ≡ suc k → numberOfFirst (map suc xs) ≡ suc (suc k)
+unfolding numberOfFirst lineNumber
+one-later [] k e = absurd (omega arith)
+one-later (x ∷ xs) k e = ap suc e
+
+pub first-line : (j : ℕ) (p : List ℕ) (m : ℕ) → First (λ l. eqb (job l) j) p (length p) m → numberOfFirst (firstLine
+    j p) ≡ m
+unfolding firstLine numberOfFirst lineNumber
+first-line j [] m (nothing h) = refl
+first-line j [] m (found k b t low) = absurd (omega arith)
+first-line j (l ∷ ls) m v = go (eqb (job l) j) refl m v (first-line j ls)
   where
-    q : 0 + i ≡ i
-    q = omega arith
+    go : (b : Bool) → eqb (job l) j ≡ b → (m : ℕ) → First (λ l. eqb (job l) j) (l ∷ ls) (suc (length ls)) m
+        → ((m : ℕ) → First (λ l. eqb (job l) j) ls (length ls) m → numberOfFirst (firstLine j ls) ≡ m)
+        → numberOfFirst (elim b [ true ↦ 0 ∷ [] | false ↦ map suc (firstLine j ls) ]) ≡ m
+    go true e m (nothing h) ih = clash (eqb (job l) j) e (h 0 (omega arith))
+    go true e m (found zero b t low) ih = refl
+    go true e m (found (suc k) b t low) ih = clash (eqb (job l) j) e (low 0 (omega arith))
+    go false e m (nothing h) ih = none-later (firstLine j ls) (ih 0 (nothing (λ k b. h (suc k) (omega arith))))
+    go false e m (found zero b t low) ih = clash (eqb (job l) j) t e
+    go false e m (found (suc k) b t low) ih =
+        one-later (firstLine j ls) k (ih (suc k) (found k (omega arith) t (λ i c. low (suc i) (omega arith))))
 
-    go : (o : Option ℕ) → firstOf f (upFrom 0 i) ≡ o → numberOfFound o ≡ 0
-        → numberOfFound (firstOf f (upFrom 0 (suc i))) ≡ suc i
-    go (some k) e z = absurd (omega arith)
-    go none e z =
-        let r : pick f i ≡ some i = rw (h, pick) in
-        ap numberOfFound (more-none f 0 i e ∙ ap (pick f) q ∙ r)
-
-pub number-kept : (f : ℕ → Bool) (i k : ℕ) → k < i → f k ≡ true → firstNumber f (suc i) ≡ firstNumber f i
-unfolding firstNumber
-number-kept f i k h t = go (firstOf f (upFrom 0 i)) refl (first-answer f (upFrom 0 i))
+pub first-number : (j : ℕ) (p : List ℕ) (m : ℕ) → First (λ l. eqb (job l) j) p (length p) m → 1 ≤ m
+    → lineNumber (headD (firstLine j p) 0) ≡ m
+unfolding numberOfFirst headD
+first-number j p m v h = go (firstLine j p) (first-line j p m v)
   where
-    go : (o : Option ℕ) → firstOf f (upFrom 0 i) ≡ o → Answer f (upFrom 0 i) o
-        → numberOfFound (firstOf f (upFrom 0 (suc i))) ≡ numberOfFound (firstOf f (upFrom 0 i))
-    go (some m) e a = ap numberOfFound (more-found f 0 i m e ∙ sym e)
-    go none e a = clash (f k) t (a k (upFrom-has 0 i k (omega arith) (omega arith)))
+    go : (xs : List ℕ) → numberOfFirst xs ≡ m → lineNumber (headD xs 0) ≡ m
+    go [] e = absurd (omega arith)
+    go (x ∷ xs) e = e
 
--- 0 exactly if no line so far passes
-pub number-none : (f : ℕ → Bool) (i k : ℕ) → firstNumber f i ≡ 0 → k < i → f k ≡ false
-unfolding firstNumber numberOfFound lineNumber
-number-none f i k z h = go (firstOf f (upFrom 0 i)) refl (first-answer f (upFrom 0 i)) z
-  where
-    go : (o : Option ℕ) → firstOf f (upFrom 0 i) ≡ o → Answer f (upFrom 0 i) o → numberOfFound o ≡ 0 → f k ≡ false
-    go (some m) e a z = absurd (omega arith)
-    go none e a z = a k (upFrom-has 0 i k (omega arith) (omega arith))
+-- the line that starts a job
+first-found : (f : ℕ → Bool) (p : List ℕ) (m : ℕ) → First f p (length p) m
+    → numberOfFound (firstOf (λ i. f (at p i)) (positions p)) ≡ m
+unfolding positions numberOfFound lineNumber
+first-found f p m (nothing h) =
+    ap numberOfFound (first-none (λ i. f (at p i)) 0 (length p) (λ k a b. h k (omega arith)))
+first-found f p m (found k b t low) =
+    ap numberOfFound (first-is-lowest (λ i. f (at p i)) 0 (length p) k (omega arith) (omega arith) t (λ i a c. low i c))
 
-pub none-number : (f : ℕ → Bool) (i : ℕ) → ((k : ℕ) → k < i → f k ≡ false) → firstNumber f i ≡ 0
-unfolding firstNumber numberOfFound
-none-number f i h = go (firstOf f (upFrom 0 i)) refl (first-answer f (upFrom 0 i))
-  where
-    go : (o : Option ℕ) → firstOf f (upFrom 0 i) ≡ o → Answer f (upFrom 0 i) o
-        → numberOfFound (firstOf f (upFrom 0 i)) ≡ 0
-    go none e a = ap numberOfFound e
-    go (some m) e a = clash (f m) (a .1) (h m (omega (arith, has-upFrom 0 i m (a .0) .1)))
+-- entry by entry, a table is the one that a map over the jobs makes
+table-is : (g : ℕ → ℕ) (t : List ℕ) → length t ≡ suc maxJob → ((j : ℕ) → j ≤ maxJob → g j ≡ getD t j 0)
+    → t ≡ map g (upFrom 0 (suc maxJob))
+table-is g t n f =
+    ext-getD 0 t (map g (upFrom 0 (suc maxJob)))
+    (n ∙ sym (length-map (upFrom 0 (suc maxJob)) g ∙ length-upFrom 0 (suc maxJob)))
+    (λ j h. sym (getD-upFrom g 0 (suc maxJob) j (omega arith) ∙ ap g (omega arith) ∙ f j (omega arith)))
 
--- else the number is that of the lowest line that passes
-pub number-found : (f : ℕ → Bool) (n : ℕ) → (firstNumber f n ≡ 0 → ⊥)
-    → (i : ℕ) × (i < n) × (f i ≡ true) × (firstNumber f n ≡ lineNumber i)
-unfolding firstNumber numberOfFound
-number-found f n z = go (firstOf f (upFrom 0 n)) refl (first-answer f (upFrom 0 n))
-  where
-    go : (o : Option ℕ) → firstOf f (upFrom 0 n) ≡ o → Answer f (upFrom 0 n) o
-        → (i : ℕ) × (i < n) × (f i ≡ true) × (numberOfFound (firstOf f (upFrom 0 n)) ≡ lineNumber i)
-    go none e a = absurd (z (ap numberOfFound e))
-    go (some i) e a = (i, omega (arith, has-upFrom 0 n i (a .0) .1), a .1, ap numberOfFound e)
+module _ (D : ℕ) (p first starter : List ℕ) (t : Tables D p (length p) first starter) where
+  pub firsts-are : first ≡ firstLines p
+  unfolding firstLines
+  firsts-are =
+      table-is (λ j. numberOfFirst (firstLine j p)) first (t .first-long)
+      (λ j h. first-line j p (getD first j 0) (t .firsts j h))
 
-pub number-is : (f : ℕ → Bool) (n i : ℕ) → i < n → f i ≡ true → ((k : ℕ) → k < i → f k ≡ false)
-    → firstNumber f n ≡ lineNumber i
-unfolding firstNumber numberOfFound
-number-is f n i h t low = ap numberOfFound (first-is-lowest f 0 n i (omega arith) (omega arith) t (λ k a b. low k b))
+  pub starters-are : starter ≡ starters p
+  unfolding starters
+  starters-are =
+      table-is (λ j. numberOfFound (firstOf (λ i. starts (at p i) j) (positions p))) starter (t .starter-long)
+      (λ j h. first-found (λ l. starts l j) p (getD starter j 0) (t .starters j h))

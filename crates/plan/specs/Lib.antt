@@ -1,5 +1,6 @@
 -- What the contracts of `plan` cite beside `model`.
 pub mod Checked
 pub mod Jobs
+pub mod Tables
 pub mod Walk
 pub mod Ends

@@ -1,18 +1,19 @@
 // The entries for callers in C and Rust. Each hands on what it was lent and makes the answer one number of 64 bits:
 // what a success counts, or a refusal's number times 2^32 plus its place (01, "Refusal numbers").
+use board::Set;
 use model::MoveAnswer;
 use model::ReadAnswer;
 use model::TableAnswer;
 use model::VerdictAnswer;
 use model::WriteAnswer;
-ghost use Rattle.port.specs.Promises.{ReadsForC, WritesForC, TablesForC, JudgesForC, MovesForC};
+ghost use Rattle.promises.specs.ForC.{ReadsForC, WritesForC, TablesForC, JudgesForC, MovesForC};
 
 // A text into a lent list of packed numbers: the number of lines.
 #[no_mangle]
 pub extern "C" fn gimmerskip_read(text: &[u8], plan: &mut [u32]) -> u64
     ensures { λ r. ⌜ ReadsForC (now (text .entry)) (now (plan .entry)) r (now (plan .exit)) ⌝ }
 {
-    match text::read(text, plan) {
+    match reading::read(text, plan) {
         ReadAnswer::Lines(n) => n as u64,
         ReadAnswer::Refused(r) => refusals::in_one(r),
     }
@@ -23,7 +24,7 @@ pub extern "C" fn gimmerskip_read(text: &[u8], plan: &mut [u32]) -> u64
 pub extern "C" fn gimmerskip_write(plan: &[u32], text: &mut [u8]) -> u64
     ensures { λ r. ⌜ WritesForC (now (plan .entry)) (now (text .entry)) r (now (text .exit)) ⌝ }
 {
-    match text::write(plan, text) {
+    match writing::write(plan, text) {
         WriteAnswer::Bytes(n) => n as u64,
         WriteAnswer::Refused(r) => refusals::in_one(r),
     }
@@ -31,7 +32,7 @@ pub extern "C" fn gimmerskip_write(plan: &[u32], text: &mut [u8]) -> u64
 
 // The table of a packed plan's claims into a lent list of sets: the number of lines.
 #[no_mangle]
-pub extern "C" fn gimmerskip_table(plan: &[u32], sets: &mut [u32]) -> u64
+pub extern "C" fn gimmerskip_table(plan: &[u32], sets: &mut [Set]) -> u64
     ensures { λ r. ⌜ TablesForC (now (plan .entry)) (now (sets .entry)) r (now (sets .exit)) ⌝ }
 {
     match claims::table(plan, sets) {
@@ -54,7 +55,7 @@ pub extern "C" fn gimmerskip_verdict(plan: &[u32], order: &mut [u16]) -> u64
 // The claim of a line, by its number from 1, moved to a device, in the lent plan and table: the number of sets that
 // are not what they were.
 #[no_mangle]
-pub extern "C" fn gimmerskip_move(plan: &mut [u32], sets: &mut [u32], line: u32, device: u32) -> u64
+pub extern "C" fn gimmerskip_move(plan: &mut [u32], sets: &mut [Set], line: u32, device: u32) -> u64
     ensures { λ r. ⌜ MovesForC (now (plan .entry)) (now (sets .entry)) line device r (now (plan .exit))
         (now (sets .exit)) ⌝ }
 {

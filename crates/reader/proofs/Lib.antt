@@ -1,3 +1,2 @@
--- `Tight` is what the crate shows of its promises; the other is the law that its entry's proof cites.
+-- What the crate shows of its promises: each leaves one outcome per input.
 pub mod Tight
-pub mod HandedOn

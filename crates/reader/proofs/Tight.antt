@@ -7,7 +7,6 @@ use denote.Ref.{RefT, now}
 use Rattle.model.specs.Board.{devices}
 use Rattle.model.specs.Text.{lineFrom}
 use Rattle.model.specs.declared.LineAnswer.{LineAnswer}
-use Rattle.reader.specs.Promises.{HandsOutForC}
 use Rattle.reader.specs.declared.Reader.{Reader}
 
 same-reader : (a b : Reader) → a .text ≡ b .text → a .offset ≡ b .offset → a ≡ b
@@ -30,6 +29,3 @@ one-next r a b p q = cc
 pub one-line : (text : List ℕ) (offset : ℕ) (a b : LineAnswer) → a ≡ lineFrom devices text offset
     → b ≡ lineFrom devices text offset → a ≡ b
 one-line text offset a b p q = cc
-
-pub one-number : (text : List ℕ) (offset a b : ℕ) → HandsOutForC text offset a → HandsOutForC text offset b → a ≡ b
-one-number text offset a b p q = cc

@@ -1,12 +1,12 @@
 // The line reader as one thin struct of the lent text and an offset (01, "Language forms in the code": lines are handed
 // out one after another from the lent text). It has no count of lines: the newlines before the offset give it, and then
-// the reader that stands at a cursor, of the crate `text`, makes the step.
+// the reader that stands at a cursor, of the crate `lines`, makes the step.
 use model::Cursor;
 use model::LineAnswer;
 ghost use mathlib.Core.Path.{_≡_};
 ghost use Rattle.model.specs.Board.{devices};
 ghost use Rattle.model.specs.Text.{newlinesBefore, lineFrom};
-ghost use Rattle.reader.specs.Promises.{HandsOutForC};
+ghost use Rattle.promises.specs.ForC.{HandsOutForC};
 
 // ---- the step, on a plain text
 
@@ -20,7 +20,7 @@ fn newlines_before(text: &[u8], offset: usize) -> usize
         if i == offset {
             return lines;
         }
-        if text[i] == 10 {
+        if text[i] == b'\n' {
             lines += 1;
         }
         i += 1;
@@ -33,7 +33,7 @@ fn line_from(text: &[u8], offset: usize) -> LineAnswer
     ensures { λ r. ⌜ r ≡ lineFrom devices (now (text .entry)) offset ⌝ }
 {
     let lines = newlines_before(text, offset);
-    text::next_line(text, Cursor { offset, lines })
+    lines::next_line(text, Cursor { offset, lines })
 }
 
 // ---- the struct, and what is done with it

@@ -1,8 +1,12 @@
 // Number and place of a refusal (01, "Refusal numbers"), for what is printed and for callers in other languages.
+use board::MOST_LINES;
 use model::Refusal;
 ghost use mathlib.Core.Path.{_≡_};
 ghost use Rattle.model.specs.Answers.{numberOf, placeOf, refusalValues};
 ghost use Rattle.refusals.specs.InOne.{inOne};
+
+// The place of a line too many.
+const LINE_TOO_MANY: u32 = MOST_LINES as u32 + 1;
 
 // The refusal's number.
 pub fn number(r: Refusal) -> u32
@@ -33,7 +37,7 @@ pub fn place(r: Refusal) -> u32
     match r {
         Refusal::TextTooLong => 0,
         Refusal::Malformed(line) => line,
-        Refusal::TooManyLines => 1025,
+        Refusal::TooManyLines => LINE_TOO_MANY,
         Refusal::JobOutOfSequence(line) => line,
         Refusal::BadStart(line) => line,
         Refusal::NeverStarted(line) => line,
@@ -46,6 +50,13 @@ pub fn place(r: Refusal) -> u32
         Refusal::NoSuchDevice(asked) => asked,
         Refusal::StaleTable(line) => line,
     }
+}
+
+// Both as a list, in the order in which they are printed.
+pub fn values(r: Refusal) -> [u32; 2]
+    ensures { λ v. ⌜ v ≡ refusalValues r ⌝ }
+{
+    [number(r), place(r)]
 }
 
 // Both in one number: the refusal's number in the upper half, its place in the lower.

@@ -4,14 +4,14 @@ use Prim.Native.Nat.{ℕ, zero, suc, _<_}
 use mathlib.Core.Bool.{Bool, true, false, _&&_, _||_}
 use mathlib.Core.List.{List}
 use mathlib.Core.Logic.{_⊎_, inl, inr}
-use mathlib.Core.Path.{_≡_, sym, _∙_}
+use mathlib.Core.Path.{_≡_}
 use native.Mathlib.Omega.{arith}
 use lib.Dec.{eqb}
 use lib.ListN.{length, getD}
 use borrow.Author.Tests.{eqb-true, eqb-false}
 use Rattle.model.specs.Sets.{member}
 use Rattle.model.specs.Rows.{Leads, once, more, leadsBack}
-use Rattle.theory.proofs.Tests.{clash, test, or-split, or-left, or-right, and-split, and-both}
+use Rattle.theory.proofs.Tests.{test, tests-agree, or-split, or-left, or-right, and-split, and-both}
 use Rattle.theory.proofs.Rows.{leads-back-exactly, leads-below}
 
 -- d leads to e by way of devices below k alone
@@ -20,23 +20,31 @@ through zero rs d e = member (getD rs d 0) e
 through (suc k) rs d e = through k rs d e || (through k rs d k && through k rs k e)
 
 module _ (rs : List ℕ) where
-  -- what is led to is led to by a test
+  -- how a device is led to, once k is taken up
+  parts : (k d e : ℕ) → through (suc k) rs d e ≡ true
+      → (through k rs d e ≡ true) ⊎ ((through k rs d k ≡ true) × (through k rs k e ≡ true))
+  unfolding through
+  parts k d e h = go (or-split (through k rs d e) (through k rs d k && through k rs k e) h)
+    where
+      go : (through k rs d e ≡ true) ⊎ ((through k rs d k && through k rs k e) ≡ true)
+          → (through k rs d e ≡ true) ⊎ ((through k rs d k ≡ true) × (through k rs k e ≡ true))
+      go (inl a) = inl a
+      go (inr a) = inr (and-split (through k rs d k) (through k rs k e) a)
+
+  -- what the test passes is led to
   leads-join : (d x e : ℕ) → Leads rs d x → Leads rs x e → Leads rs d e
   leads-join d x e (once a b m) l = more a b e m l
   leads-join d x e (more a b c m k) l = more a b e m (leads-join b c e k l)
 
-  pub through-leads : (k d e : ℕ) → through k rs d e ≡ true → Leads rs d e
+  through-leads : (k d e : ℕ) → through k rs d e ≡ true → Leads rs d e
   unfolding through
   through-leads zero d e h = once d e h
-  through-leads (suc k) d e h =
-      go (or-split (through k rs d e) (through k rs d k && through k rs k e) h) (through-leads k)
+  through-leads (suc k) d e h = go (parts k d e h) (through-leads k)
     where
-      go : (through k rs d e ≡ true) ⊎ ((through k rs d k && through k rs k e) ≡ true)
+      go : (through k rs d e ≡ true) ⊎ ((through k rs d k ≡ true) × (through k rs k e ≡ true))
           → ((d e : ℕ) → through k rs d e ≡ true → Leads rs d e) → Leads rs d e
       go (inl a) ih = ih d e a
-      go (inr a) ih =
-          let s = and-split (through k rs d k) (through k rs k e) a in
-          leads-join d k e (ih d k (s .0)) (ih k e (s .1))
+      go (inr a) ih = leads-join d k e (ih d k (a .0)) (ih k e (a .1))
 
   -- with more devices taken up no less is led to
   grows : (k d e : ℕ) → through k rs d e ≡ true → through (suc k) rs d e ≡ true
@@ -48,17 +56,6 @@ module _ (rs : List ℕ) where
   by-way k d e a b =
       or-right (through k rs d e) (through k rs d k && through k rs k e)
       (and-both (through k rs d k) (through k rs k e) a b)
-
-  -- how a device is led to, once k is taken up
-  parts : (k d e : ℕ) → through (suc k) rs d e ≡ true
-      → (through k rs d e ≡ true) ⊎ ((through k rs d k ≡ true) × (through k rs k e ≡ true))
-  unfolding through
-  parts k d e h = go (or-split (through k rs d e) (through k rs d k && through k rs k e) h)
-    where
-      go : (through k rs d e ≡ true) ⊎ ((through k rs d k && through k rs k e) ≡ true)
-          → (through k rs d e ≡ true) ⊎ ((through k rs d k ≡ true) × (through k rs k e ≡ true))
-      go (inl a) = inl a
-      go (inr a) = inr (and-split (through k rs d k) (through k rs k e) a)
 
   -- taking k up changes nothing on the ways to k and from k
   to-itself : (k d : ℕ) → through (suc k) rs d k ≡ true → through k rs d k ≡ true
@@ -103,20 +100,14 @@ module _ (rs : List ℕ) where
   first-step zero d e m = m
   first-step (suc k) d e m = grows k d e (first-step k d e m)
 
-  pub leads-through : (d e : ℕ) → Leads rs d e → through (length rs) rs d e ≡ true
+  leads-through : (d e : ℕ) → Leads rs d e → through (length rs) rs d e ≡ true
   leads-through d e (once a b m) = first-step (length rs) a b m
   leads-through d e (more a b c m l) =
       joins (length rs) a b c (leads-below rs b c l) (first-step (length rs) a b m) (leads-through b c l)
 
   -- The theorem: with every device taken up, a device leads to itself by this test exactly if it leads back.
   pub through-back : (d : ℕ) → through (length rs) rs d d ≡ leadsBack rs d
-  through-back d = go (test (through (length rs) rs d d)) (test (leadsBack rs d))
-    where
-      go : (through (length rs) rs d d ≡ true) ⊎ (through (length rs) rs d d ≡ false)
-          → (leadsBack rs d ≡ true) ⊎ (leadsBack rs d ≡ false) → through (length rs) rs d d ≡ leadsBack rs d
-      go (inl a) (inl b) = a ∙ sym b
-      go (inl a) (inr b) =
-          clash (leadsBack rs d) (leads-back-exactly rs d .1 (through-leads (length rs) d d a)) b
-      go (inr a) (inl b) =
-          clash (through (length rs) rs d d) (leads-through d d (leads-back-exactly rs d .0 b)) a
-      go (inr a) (inr b) = a ∙ sym b
+  through-back d =
+      tests-agree (through (length rs) rs d d) (leadsBack rs d)
+      (λ e. leads-back-exactly rs d .1 (through-leads (length rs) d d e))
+      (λ e. leads-through d d (leads-back-exactly rs d .0 e))

@@ -8,6 +8,7 @@ use lib.ListN.{length, getD, length-map, List·getD-map}
 use Rattle.model.specs.Sets.{empty, union, member}
 use Rattle.model.specs.Rows.{leadsBack}
 use Rattle.theory.proofs.Sets.{member-empty, member-union}
+use Rattle.line.proofs.Ranges.{or-none}
 use Rattle.rows.specs.Where.{devicesWhere, circlesOf}
 use Rattle.rows.specs.Square.{ledBy, swept, closed, inOwnRow}
 use Rattle.rows.proofs.Where.{where-same}
@@ -18,13 +19,9 @@ member-led : (k t row e : ℕ) → member (ledBy k t row) e ≡ (member row e ||
 unfolding ledBy
 member-led k t row e = go (member row k)
   where
-    or-false : (b : Bool) → b ≡ (b || false)
-    or-false true = refl
-    or-false false = refl
-
     go : (b : Bool) → member (cond b (union row t) row) e ≡ (member row e || (b && member t e))
     go true = member-union row t e
-    go false = or-false (member row e)
+    go false = sym (or-none (member row e))
 
 -- a row after a sweep; past the board there is none
 none-led : (k t : ℕ) → ledBy k t 0 ≡ 0

@@ -1,69 +1,106 @@
--- The walk back over a plan without a fault (01, "Claims and rows"): where it stands the flags, the rows, the claim
--- sets and the two sets are those of the lines from there on.
-use Prim.Native.Nat.{ℕ, _-_, _<_, _≤_}
-use mathlib.Core.Bool.{true}
+-- The walk back over a plan without a fault (01, "Claims and rows"): where it stands the two sets, the rows, the flags
+-- and the table are those of the lines from there on.
+use Prim.Native.Nat.{ℕ, suc, _<_}
+use mathlib.Core.Bool.{Bool, true, false, cond}
 use mathlib.Core.List.{List}
 use mathlib.Core.Option.{none}
-use mathlib.Core.Path.{_≡_}
+use mathlib.Core.Path.{_≡_, refl, sym, _∙_}
 use native.Mathlib.Omega.{arith}
-use lib.ListN.{length, set, replicate}
+use lib.ListN.{length, set, replicate, length-set, length-replicate, getD-replicate, List·getD-eq-default}
+use mir.Val.{boolByte}
 use Rattle.model.specs.Board.{devices}
-use Rattle.model.specs.Line.{job, operand, isLine, at, maxLines}
+use Rattle.model.specs.Line.{isTake, isLine, at, maxLines}
+use Rattle.model.specs.Mate.{takesAt, lastingAt}
 use Rattle.model.specs.WellFormed.{fault}
-use Rattle.rows.specs.declared.Held.{Held}
-use Rattle.rows.specs.Lasting.{lastingFlag, wantedBefore, wantedAfter, lastsFlag}
-use Rattle.rows.specs.Holds.{CountedOn, GatheredOn, WalkedAs}
-use Rattle.rows.proofs.Wanted.{Marked, none-marked, after-small, flag-made, one-marked, all-marked}
-use Rattle.rows.proofs.Counted.{Counted, none-counted, one-counted, all-counted}
-use Rattle.rows.proofs.Gathered.{few-lines, line-at, flagged-small, Gathered, none-gathered, one-gathered}
-use Rattle.rows.proofs.Gathered.{all-gathered}
+use Rattle.theory.proofs.WellFormed.{no-fault-exactly}
+use Rattle.claims.specs.Claim.{operands, tableIn}
+use Rattle.claims.proofs.Written.{EndOf, end-on, end-whole, none-written, one-written}
+use Rattle.rows.specs.declared.Passed.{Passed}
+use Rattle.rows.specs.Lasting.{lastingFlag, lastingFlags}
+use Rattle.rows.specs.Holds.{PassedOn, JoinedOn, WalkedAs}
+use Rattle.rows.proofs.Filled.{length-entries}
+use Rattle.rows.proofs.Wanted.{flag-at}
+use Rattle.rows.proofs.Counted.{Counted, none-counted, lasts-made, counted-on, all-counted}
+use Rattle.rows.proofs.RowsFrom.{lasting-takes, RowsFrom, none-from, set-made, from-on, all-from}
 
-pub record Walked (p rs flags sets : List ℕ) (h : Held) (j w i : ℕ) : Type 0 where
-  pub marked : Marked p flags j w i
-  pub gathered : Gathered p rs sets i
-  pub counted : Counted p (h .held) (h .twice) i
+pub record Walked (p lent rs flags table claimed : List ℕ) (passed : Passed) (i : ℕ) : Type 0 where
+  pub counted : Counted p passed i
+  pub rowsFrom : RowsFrom p rs claimed i
+  pub flagged : EndOf (lastingFlags p) flags i
+  pub written : EndOf (tableIn p lent) table i
+  pub same : length table ≡ length lent
 
-pub none-walked : (p : List ℕ)
-    → Walked p (replicate devices 0) (replicate maxLines 0) (replicate 256 0) (record { held = 0; twice = 0 }) 0 0
-    (length p)
-none-walked p = record { marked = none-marked p; gathered = none-gathered p; counted = none-counted p }
+-- ---- the flags
 
--- one line further back: what the walk makes of the line, and where it then stands
-module _ {p rs flags sets : List ℕ} {h : Held} {j w i : ℕ} (fine : fault devices p ≡ none) (more : 0 < i)
-    (m : Walked p rs flags sets h j w i) where
-  pub in-plan : i - 1 < length p
-  in-plan = omega (arith, m .gathered .at-most)
+length-flags : (p : List ℕ) → length (lastingFlags p) ≡ maxLines
+unfolding lastingFlags
+length-flags p = length-entries (lastingFlag p) 0 0 maxLines
 
-  pub in-board : i - 1 < maxLines
-  in-board = omega (arith, in-plan, few-lines p fine)
+none-flagged : (p : List ℕ) → EndOf (lastingFlags p) (replicate maxLines 0) (length p)
+unfolding lastingFlag lastingAt takesAt isTake
+none-flagged p = record {
+  long = length-replicate {A = ℕ} maxLines 0 ∙ sym (length-flags p);
+  is = λ k h b.
+      let on-board : k < maxLines = omega (arith, length-flags p) in
+      let past : at p k ≡ 0 = List·getD-eq-default p 0 h in
+      getD-replicate {A = ℕ} maxLines k 0 0 on-board ∙ sym (flag-at p (lastingFlags p) k refl on-board ∙ rw past);
+}
 
-  pub is-line : isLine devices (at p (i - 1)) ≡ true
-  is-line = line-at p fine (i - 1) in-plan
+one-flagged : (p flags : List ℕ) (k : ℕ) (b : Bool) → b ≡ lastingAt p k → EndOf (lastingFlags p) flags (suc k)
+    → EndOf (lastingFlags p) (set flags k (boolByte b)) k
+unfolding lastingFlag
+one-flagged p flags k b e m =
+    end-on (lastingFlags p) flags k (boolByte b)
+    (λ h. byte b ∙ rw e (sym (flag-at p (lastingFlags p) k refl (omega (arith, length-flags p))))) m
+  where
+    byte : (b : Bool) → boolByte b ≡ cond b 1 0
+    byte true = refl
+    byte false = refl
 
-  module _ {a v : ℕ} (ea : a ≡ wantedAfter (at p (i - 1)) j w) (ev : v ≡ lastsFlag (at p (i - 1)) a) where
-    made : v ≡ lastingFlag p (i - 1)
-    made = flag-made p flags j w i a v more (m .marked) ea ev
+-- ---- the walk
 
-    pub few-wanted : a ≤ maxLines
-    few-wanted = after-small p flags j w i (at p (i - 1)) a (few-lines p fine) (m .marked) ea
+pub none-walked : (p lent : List ℕ)
+    → Walked p lent (replicate devices 0) (replicate maxLines 0) lent (replicate operands 0)
+    (record { job = 0; wanted = 0; lasts = false; held = 0; twice = 0 }) (length p)
+none-walked p lent = record {
+  counted = none-counted p;
+  rowsFrom = none-from p;
+  flagged = none-flagged p;
+  written = none-written p lent;
+  same = refl;
+}
 
-    pub on-board : v ≡ 1 → operand (at p (i - 1)) < devices
-    on-board = flagged-small p (i - 1) v fine in-plan made
+-- one line further back
+module _ {p lent rs flags table claimed : List ℕ} {old new : Passed} {k : ℕ} (fine : fault devices p ≡ none)
+    (m : Walked p lent rs flags table claimed old (suc k)) (n : PassedOn new old (at p k)) where
+  pub is-line : isLine devices (at p k) ≡ true
+  is-line = no-fault-exactly devices p .0 fine .lines k (m .counted .inPlan)
 
-    pub one-walked : {x : ℕ} {h′ : Held} {rs′ sets′ : List ℕ} → x ≡ wantedBefore (at p (i - 1)) a
-        → CountedOn h′ h (at p (i - 1)) v → GatheredOn (at p (i - 1)) v rs sets rs′ sets′
-        → Walked p rs′ (set flags (i - 1) v) sets′ h′ (job (at p (i - 1))) x (i - 1)
-    one-walked {x} {h′} {rs′} {sets′} ex n g = record {
-      marked = one-marked p flags j w i a v x more (few-lines p fine) (m .marked) ea ev ex;
-      gathered = one-gathered p rs sets rs′ sets′ i v more fine (m .gathered) made g;
-      counted = one-counted p h h′ i v more (m .counted) made n;
-    }
+  lasts-here : new .lasts ≡ lastingAt p k
+  lasts-here = lasts-made p old new k (m .counted) n
+
+  pub is-take : new .lasts ≡ true → isTake (at p k) ≡ true
+  is-take e = lasting-takes p k (sym lasts-here ∙ e)
+
+  pub one-walked : {rs′ claimed′ : List ℕ} {s : ℕ} → JoinedOn (at p k) (new .lasts) rs claimed s rs′ claimed′
+      → Walked p lent rs′ (set flags k (boolByte (new .lasts))) (set table k s) claimed′ new k
+  one-walked {rs′} {claimed′} {s} j =
+      let i = rw lasts-here at j in
+      let h = m .counted .inPlan in record {
+        counted = counted-on p old new k (m .counted) n;
+        rowsFrom = from-on p rs claimed k (m .rowsFrom) h is-line rs′ claimed′ s i;
+        flagged = one-flagged p flags k (new .lasts) lasts-here (m .flagged);
+        written = one-written p lent table k s h (set-made p rs claimed k (m .rowsFrom) h is-line rs′ claimed′ s i)
+            (m .written);
+        same = length-set table k s ∙ m .same;
+      }
 
 -- at the front all is the plan's
-pub all-walked : {p rs flags sets : List ℕ} {h : Held} {j w i : ℕ} → i ≤ 0 → Walked p rs flags sets h j w i
-    → WalkedAs h p rs flags
-all-walked {p} {rs} {flags} {sets} {h} {j} {w} {i} z m = record {
-  sets = all-counted p h i z (m .counted);
-  rowsAre = all-gathered p rs sets i z (m .gathered);
-  flagsAre = all-marked p flags j w i z (m .marked);
+pub all-walked : {p lent rs flags table claimed : List ℕ} {passed : Passed}
+    → Walked p lent rs flags table claimed passed 0 → WalkedAs p lent passed rs flags table
+all-walked {p} {lent} {rs} {flags} {table} {claimed} {passed} m = record {
+  held = all-counted p passed (m .counted);
+  rowsAre = all-from p rs claimed (m .rowsFrom);
+  flagsAre = end-whole (lastingFlags p) flags (m .flagged);
+  tableIs = end-whole (tableIn p lent) table (m .written);
 }

@@ -1,19 +1,20 @@
 -- Sets of devices by a test, over the number of devices D: their members, that nothing else has these members, what a
 -- search of them finds, and how the code makes one, from its last device on.
 use Prim.Native.Nat.{ℕ, zero, suc, _+_, _-_, _^_, _<_, _≤_}
-use mathlib.Core.Bool.{Bool, true, false}
+use mathlib.Core.Bool.{Bool, true, false, cond}
 use mathlib.Core.List.{List, [], _∷_, map}
-use mathlib.Core.Logic.{_⊎_, inl, inr}
 use mathlib.Core.Option.{Option, some}
 use mathlib.Core.Path.{_≡_, refl, sym, _∙_, ap}
 use native.Mathlib.Omega.{arith}
 use borrow.Author.Tests.{eqb-true, eq-eqb}
 use Rattle.model.specs.Lists.{upFrom, has, those, firstOf}
 use Rattle.model.specs.Sets.{empty, union, unionOf, member}
-use Rattle.theory.proofs.Tests.{clash, test}
+use Rattle.theory.proofs.Tests.{clash, tests-agree}
 use Rattle.theory.proofs.Lists.{has-head, has-tail, has-upFrom, upFrom-has, those-same}
 use Rattle.theory.proofs.Sets.{member-empty, member-only, in-unionOf, unionOf-in, empty-below, only-below, union-below}
 use Rattle.theory.proofs.Sets.{same-members}
+use Rattle.sets.specs.Only.{onlyOf}
+use Rattle.sets.proofs.Members.{only-of}
 use Rattle.rows.specs.Where.{onlyIf, devicesWhere}
 
 -- a device is in the set of one where the test passes and it is that one
@@ -47,16 +48,10 @@ module _ (f : ℕ → Bool) where
   -- the members are those that pass
   pub member-where : (D d : ℕ) → d < D → member (devicesWhere D f) d ≡ f d
   unfolding devicesWhere ones onlyIf
-  member-where D d h = go (f d) refl (test (member (devicesWhere D f) d))
-    where
-      go : (b : Bool) → f d ≡ b → (member (devicesWhere D f) d ≡ true) ⊎ (member (devicesWhere D f) d ≡ false)
-          → member (devicesWhere D f) d ≡ f d
-      go b e (inl m) = m ∙ sym (in-ones 0 D d m)
-      go true e (inr m) =
-          clash (member (devicesWhere D f) d)
-          (unionOf-in ones (upFrom 0 D) d d (upFrom-has 0 D d (omega arith) (omega arith))
-          (rw e (member-only d d ∙ eq-eqb d d refl))) m
-      go false e (inr m) = m ∙ sym e
+  member-where D d h =
+      tests-agree (member (devicesWhere D f) d) (f d) (in-ones 0 D d)
+      (λ e. unionOf-in ones (upFrom 0 D) d d (upFrom-has 0 D d (omega arith) (omega arith))
+      (rw e (member-only d d ∙ eq-eqb d d refl)))
 
   pub where-below : (D : ℕ) → devicesWhere D f < 2 ^ D
   unfolding devicesWhere ones
@@ -76,15 +71,13 @@ first-same : (f g : ℕ → Bool) (xs : List ℕ) → ((k : ℕ) → has k xs �
 unfolding firstOf
 first-same f g [] h = refl
 first-same f g (x ∷ xs) h =
-    go (f x) (g x) (h x (has-head x xs)) (first-same f g xs (λ k m. h k (has-tail k x xs m)))
+    rw (h x (has-head x xs), firstOf) (go (g x) (first-same f g xs (λ k m. h k (has-tail k x xs m))))
   where
-    go : (a b : Bool) → a ≡ b → firstOf f xs ≡ firstOf g xs
-        → _≡_ {A = Option ℕ} (elim a [ true ↦ some x | false ↦ firstOf f xs ])
+    go : (b : Bool) → firstOf f xs ≡ firstOf g xs
+        → _≡_ {A = Option ℕ} (elim b [ true ↦ some x | false ↦ firstOf f xs ])
         (elim b [ true ↦ some x | false ↦ firstOf g xs ])
-    go true true e ih = refl
-    go false false e ih = ih
-    go true false e ih = clash true refl e
-    go false true e ih = clash true refl (sym e)
+    go true ih = refl
+    go false ih = ih
 
 module _ (D : ℕ) (f : ℕ → Bool) where
   member-listed : (d : ℕ) → has d (upFrom 0 D) ≡ true → member (devicesWhere D f) d ≡ f d
@@ -95,6 +88,12 @@ module _ (D : ℕ) (f : ℕ → Bool) where
 
   pub where-those : those (member (devicesWhere D f)) (upFrom 0 D) ≡ those f (upFrom 0 D)
   where-those = those-same (member (devicesWhere D f)) f (upFrom 0 D) member-listed
+
+-- the set of one device that passes, as the code makes it
+pub one-where : (D d : ℕ) (b : Bool) → d < D → cond b (onlyOf D d) empty ≡ onlyIf b d
+unfolding onlyIf
+one-where D d true h = only-of D d h
+one-where D d false h = refl
 
 -- The set made from its last device on: `s` has what passes from device d on.
 

@@ -1,47 +1,56 @@
--- What the walk back over a plan finds, and the outcome of the entry above it (01, "Claims and rows").
+-- What a walk back over a plan finds, and the outcomes of the entries above it (01, "Claims and rows").
 use Prim.Native.Nat.{ℕ}
+use mathlib.Core.Bool.{Bool, cond, _&&_}
 use mathlib.Core.List.{List}
 use mathlib.Core.Option.{Option, none, some}
 use mathlib.Core.Path.{_≡_}
-use lib.Bits.{bitAnd}
+use lib.Dec.{eqb}
 use lib.ListN.{getD, set}
 use Rattle.model.specs.Board.{devices}
-use Rattle.model.specs.Line.{job}
+use Rattle.model.specs.Line.{job, operand, isTake}
 use Rattle.model.specs.Rows.{rows}
-use Rattle.model.specs.Sets.{union}
+use Rattle.model.specs.Sets.{empty, union}
 use Rattle.model.specs.WellFormed.{fault}
 use Rattle.model.specs.declared.Refusal.{Refusal}
 use Rattle.plan.specs.Jobs.{firstLines}
 use Rattle.plan.specs.Ends.{leftBy}
-use Rattle.claims.specs.Promises.{claimOf}
-use Rattle.rows.specs.declared.Held.{Held}
+use Rattle.sets.specs.Only.{onlyOf}
+use Rattle.sets.specs.Both.{both}
+use Rattle.claims.specs.Claim.{claimOf, tableIn}
+use Rattle.rows.specs.declared.Passed.{Passed}
 use Rattle.rows.specs.declared.HoldsAnswer.{HoldsAnswer}
-use Rattle.rows.specs.Lasting.{lastingFlags, heldToEnd, heldTwice, flaggedDevice, rowJoined}
+use Rattle.rows.specs.Lasting.{lastingFlags, heldToEnd, heldTwice, wantedBefore, wantedAfter, rowJoined}
 
 -- the rows of the board's devices
 abbrev pub rowsOf : List ℕ → List ℕ
 rowsOf p = rows devices p
 
+-- One line further back: what is wanted, whether the line lasts, and the two sets with its device if it does; the rows
+-- with what lies beyond it, the line's claim set, and that set as what its job claims.
+pub record PassedOn (r old : Passed) (l : ℕ) : Type 0 where
+  pub jobIs : r .job ≡ job l
+  pub wantedIs : r .wanted ≡ wantedBefore l (wantedAfter l (old .job) (old .wanted))
+  pub lastsIs : r .lasts ≡ (isTake l && eqb (wantedAfter l (old .job) (old .wanted)) 0)
+  pub heldIs : r .held ≡ union (cond (r .lasts) (onlyOf devices (operand l)) empty) (old .held)
+  pub twiceIs : r .twice
+      ≡ union (both (old .held) (cond (r .lasts) (onlyOf devices (operand l)) empty)) (old .twice)
+
+pub record JoinedOn (l : ℕ) (lasts : Bool) (rs claimed : List ℕ) (s : ℕ) (rs′ claimed′ : List ℕ) : Type 0 where
+  pub setIs : s ≡ claimOf l (getD claimed (job l) 0) claimed
+  pub rowsAre : rs′ ≡ rowJoined l lasts (getD claimed (job l) 0) rs
+  pub claimedIs : claimed′ ≡ set claimed (job l) s
+
 -- the two sets are the plan's
-pub record HeldAs (r : Held) (p : List ℕ) : Type 0 where
+pub record HeldAs (r : Passed) (p : List ℕ) : Type 0 where
   pub toEnd : r .held ≡ heldToEnd devices p
   pub twice : r .twice ≡ heldTwice devices p
 
--- One line further back: the two sets with its device, where its flag is 1; the rows with what lies beyond it; and for
--- its job the claim set of what is now the first line.
-pub record CountedOn (r h : Held) (l flag : ℕ) : Type 0 where
-  pub toEnd : r .held ≡ union (flaggedDevice l flag) (h .held)
-  pub twice : r .twice ≡ union (bitAnd (h .held) (flaggedDevice l flag)) (h .twice)
-
-pub record GatheredOn (l flag : ℕ) (rs sets rs′ sets′ : List ℕ) : Type 0 where
-  pub rowsAre : rs′ ≡ rowJoined l flag (getD sets (job l) 0) rs
-  pub setsAre : sets′ ≡ set sets (job l) (claimOf l (getD sets (job l) 0) sets)
-
--- the walk back has the plan's sets, rows and flags
-pub record WalkedAs (r : Held) (p rs flags : List ℕ) : Type 0 where
-  pub sets : HeldAs r p
+-- the walk back has the plan's sets, rows and flags, and as much of its table as was lent room
+pub record WalkedAs (p lent : List ℕ) (r : Passed) (rs flags table : List ℕ) : Type 0 where
+  pub held : HeldAs r p
   pub rowsAre : rs ≡ rowsOf p
   pub flagsAre : flags ≡ lastingFlags p
+  pub tableIs : table ≡ tableIn p lent
 
 -- The holds of a plan: the fault, or the two sets; and each lent list, which a refusal leaves as it was.
 abbrev pub holdsBy : Option Refusal → List ℕ → HoldsAnswer

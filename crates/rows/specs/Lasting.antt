@@ -1,16 +1,14 @@
 -- The lasting takes of a plan (01, "Rules of a well-formed plan" and "Claims and rows"): a flag for each line, the set
 -- of the devices held to the end and the set of those with two lasting takes. Below them the steps of the walk back.
 use Prim.Native.Nat.{ℕ, suc, _-_}
-use mathlib.Core.Bool.{cond, _&&_}
+use mathlib.Core.Bool.{Bool, cond}
 use mathlib.Core.List.{List, map}
 use lib.Dec.{eqb, leb}
 use lib.ListN.{length, getD, set}
-use Rattle.model.specs.Board.{devices}
 use Rattle.model.specs.Lists.{upFrom, positions, any}
 use Rattle.model.specs.Line.{job, operand, isTake, isGive, maxLines}
 use Rattle.model.specs.Mate.{lastingAt, lasting}
-use Rattle.model.specs.Sets.{empty, union}
-use Rattle.sets.specs.Only.{onlyOf}
+use Rattle.model.specs.Sets.{union}
 use Rattle.model.specs.Rows.{lastingTakes}
 use Rattle.rows.specs.Where.{devicesWhere}
 
@@ -44,18 +42,7 @@ unfoldable pub wantedAfter : ℕ → ℕ → ℕ → ℕ
 unfolding job
 wantedAfter l j wanted = cond (eqb (job l) j) wanted 0
 
--- a take that serves no give lasts
-unfoldable pub lastsFlag : ℕ → ℕ → ℕ
-unfolding isTake
-lastsFlag l after = cond (isTake l && eqb after 0) 1 0
-
--- the set of the device of a line, where its flag is 1
-unfoldable pub flaggedDevice : ℕ → ℕ → ℕ
-unfolding onlyOf operand empty
-flaggedDevice l flag = cond (eqb flag 1) (onlyOf devices (operand l)) empty
-
--- the rows with what lies beyond a line joined to the row of its device, where its flag is 1
-unfoldable pub rowJoined : ℕ → ℕ → ℕ → List ℕ → List ℕ
+-- the rows with what lies beyond a line joined to the row of its device, where the line lasts
+unfoldable pub rowJoined : ℕ → Bool → ℕ → List ℕ → List ℕ
 unfolding operand union
-rowJoined l flag next rows =
-    cond (eqb flag 1) (set rows (operand l) (union next (getD rows (operand l) 0))) rows
+rowJoined l lasts next rows = cond lasts (set rows (operand l) (union next (getD rows (operand l) 0))) rows

@@ -1,41 +1,43 @@
 // The devices that stay held, what they wait for, and circles (01, "Claims and rows"): the lasting takes of a plan, its
 // rows, and the devices that lead back to themselves.
+use board::EACH_DEVICE;
+use board::EACH_JOB;
+use board::MOST_LINES;
+use board::Set;
+use claims::EACH_OPERAND;
 use model::Refusal;
 use plan::Checked;
 ghost use mathlib.Core.Path.{_≡_};
 ghost use mathlib.Core.Bool.{true};
 ghost use mathlib.Core.Option.{none};
 ghost use Prim.Native.Nat.{_≤_, _<_};
-ghost use lib.ListN.{length};
+ghost use lib.ListN.{length, set};
 ghost use Rattle.model.specs.Board.{devices};
-ghost use Rattle.model.specs.Line.{operand, isLine, maxLines};
+ghost use Rattle.model.specs.Line.{isTake, isLine, maxLines};
 ghost use Rattle.model.specs.WellFormed.{fault};
-ghost use Rattle.rows.specs.Where.{onlyIf, devicesWhere, circlesOf};
-ghost use Rattle.rows.specs.Lasting.{wantedBefore, wantedAfter, lastsFlag, flaggedDevice, rowJoined};
-ghost use Rattle.rows.specs.Holds.{CountedOn, GatheredOn, WalkedAs, HoldsAs};
+ghost use Rattle.rows.specs.Where.{devicesWhere, circlesOf};
+ghost use Rattle.rows.specs.Lasting.{wantedBefore, rowJoined};
+ghost use Rattle.rows.specs.Holds.{PassedOn, JoinedOn, HeldAs, WalkedAs, HoldsAs, holdsBy};
 ghost use Rattle.rows.specs.Square.{ledBy, swept, closed, inOwnRow};
 
-// The circle search keeps a square of flags, a row of it in a word: it starts as the rows.
+// ---- the circle search: a square of flags, a row of it a set, which starts as the rows
 
 // The row of a device with what device k leads to, where the row has k. The answer is chosen and the caller always
 // stores it, so that the loop over the rows takes several of them at a time.
-fn led(row: u32, through: u32, k: u32) -> u32
+fn led(row: Set, through: Set, k: u32) -> Set
     ensures { λ r. ⌜ r ≡ ledBy k through row ⌝ }
 {
-    if sets::member(row, k) {
-        return sets::union(row, through);
-    }
-    row
+    sets::choose(sets::member(row, k), sets::union(row, through), row)
 }
 
 // One sweep: every device that leads to k leads to what k leads to. The row of k itself is not changed by it.
-fn sweep(square: &mut [u32], k: usize)
+fn sweep(square: &mut [Set], k: usize)
     requires { ⌜ (k < devices) × (length (now square) ≡ devices) ⌝ }
     ensures { λ r. ⌜ now (square .exit) ≡ swept k (now (square .entry)) ⌝ }
 {
     let through = square[k];
     let mut d: usize = 0;
-    while d < 32 {
+    while d < EACH_DEVICE {
         let row = led(square[d], through, k as u32);
         square[d] = row;
         d += 1;
@@ -43,46 +45,34 @@ fn sweep(square: &mut [u32], k: usize)
 }
 
 // The closure: a sweep for each device. The square has as many rows.
-fn close(square: &mut [u32; 32])
+fn close(square: &mut [Set; EACH_DEVICE])
     ensures { λ r. ⌜
         (length (now (square .entry)) ≡ devices) × (now (square .exit) ≡ closed devices (now (square .entry)))
         ⌝ }
 {
     let mut k: usize = 0;
-    while k < 32 {
+    while k < EACH_DEVICE {
         sweep(square, k);
         k += 1;
     }
 }
 
-// The set of one device where a test passed.
-fn only_if(passed: bool, d: u32) -> u32
-    requires { ⌜ d < devices ⌝ }
-    ensures { λ r. ⌜ r ≡ onlyIf passed d ⌝ }
-{
-    if passed {
-        return sets::only(d);
-    }
-    0
-}
-
 // The devices whose own row has them.
-fn diagonal(square: &[u32; 32]) -> u32
+fn diagonal(square: &[Set; EACH_DEVICE]) -> Set
     ensures { λ r. ⌜ r ≡ devicesWhere devices (inOwnRow (now (square .entry))) ⌝ }
 {
-    let mut s: u32 = 0;
-    let mut d: usize = 32;
+    let mut s = sets::NONE;
+    let mut d = EACH_DEVICE;
     while 0 < d {
         d -= 1;
         let back = sets::member(square[d], d as u32);
-        let one = only_if(back, d as u32);
-        s = sets::union(one, s);
+        s = sets::union(sets::only_if(back, d as u32), s);
     }
     s
 }
 
 // The devices that lead back to themselves, for any rows.
-pub fn circles(rows: &[u32; 32]) -> u32
+pub fn circles(rows: &[Set; EACH_DEVICE]) -> Set
     ensures { λ r. ⌜ r ≡ circlesOf (now (rows .entry)) ⌝ }
 {
     let mut square = *rows;
@@ -90,151 +80,175 @@ pub fn circles(rows: &[u32; 32]) -> u32
     diagonal(&square)
 }
 
-// What is wanted before a line, with so many gives wanting their takes after it.
+// ---- one line of a walk back over the plan
+
+// What a walk back knows of the lines that it has passed: the job of the line passed last, how many gives of that job
+// still want their takes, whether that line is a lasting take, and the devices with a lasting take and with two.
+struct Passed {
+    job: u32,
+    wanted: u32,
+    lasts: bool,
+    held: Set,
+    twice: Set,
+}
+
+// What it knows at the plan's end.
+const NONE_PASSED: Passed = Passed {
+    job: 0,
+    wanted: 0,
+    lasts: false,
+    held: sets::NONE,
+    twice: sets::NONE,
+};
+
+// How many gives want their takes before a line, where so many want them after it: a take serves one, if there is one.
 fn wanted_before(l: u32, after: u32) -> u32
     requires { ⌜ after ≤ maxLines ⌝ }
     ensures { λ r. ⌜ r ≡ wantedBefore l after ⌝ }
 {
-    let k = l / 256 % 4;
-    if k == 1 {
-        if after == 0 {
-            return 0;
-        }
-        return after - 1;
-    }
-    if k == 2 {
-        return after + 1;
-    }
-    after
+    let served = after - (0 < after) as u32;
+    let given = line::choose(line::is_give(l), after + 1, after);
+    line::choose(line::is_take(l), served, given)
 }
 
-// What is wanted after a line, with so much wanted from the next line on, which is of the job.
-fn wanted_after(l: u32, job: u32, wanted: u32) -> u32
-    ensures { λ r. ⌜ r ≡ wantedAfter l job wanted ⌝ }
+// One line further back. A take that serves no give lasts; a device that was held already is held twice.
+fn pass_line(passed: Passed, l: u32) -> Passed
+    requires { ⌜ passed .wanted ≤ maxLines ⌝ }
+    ensures { λ r. ⌜ PassedOn r passed l ⌝ }
 {
-    if l / 1024 == job {
-        return wanted;
+    let j = line::job(l);
+    let after = line::choose(j == passed.job, passed.wanted, 0);
+    let lasts = line::is_take(l) & (after == 0);
+    let one = sets::only_if(lasts, line::operand(l));
+    Passed {
+        job: j,
+        wanted: wanted_before(l, after),
+        lasts: lasts,
+        held: sets::union(one, passed.held),
+        twice: sets::union(sets::both(passed.held, one), passed.twice),
     }
-    0
 }
 
-// The flag of a line: a take that serves no give lasts.
-fn lasts(l: u32, after: u32) -> u8
-    ensures { λ r. ⌜ r ≡ lastsFlag l after ⌝ }
+// What lies beyond a lasting take is joined to the row of its device.
+fn join_row(l: u32, lasts: bool, next: Set, rows: &mut [Set; EACH_DEVICE])
+    requires { ⌜ (isLine devices l ≡ true) × (lasts ≡ true → isTake l ≡ true) ⌝ }
+    ensures { λ r. ⌜ now (rows .exit) ≡ rowJoined l lasts next (now (rows .entry)) ⌝ }
 {
-    if l / 256 % 4 == 1 {
-        if after == 0 {
-            return 1;
-        }
-        return 0;
-    }
-    0
-}
-
-// The devices held to the end, and those of them with two lasting takes.
-struct Held {
-    held: u32,
-    twice: u32,
-}
-
-// The set of the device of a line that is flagged.
-fn flagged_device(l: u32, flag: u8) -> u32
-    ensures { λ r. ⌜ r ≡ flaggedDevice l flag ⌝ }
-{
-    if flag == 1 {
-        return sets::only(l % 256);
-    }
-    0
-}
-
-// The two sets with the device of a line that is flagged: one that was held already is held twice.
-fn count_held(h: Held, l: u32, flag: u8) -> Held
-    ensures { λ r. ⌜ CountedOn r h l flag ⌝ }
-{
-    let one = flagged_device(l, flag);
-    let again = h.held & one;
-    Held {
-        held: sets::union(one, h.held),
-        twice: sets::union(again, h.twice),
+    if lasts {
+        let d = line::operand(l) as usize;
+        rows[d] = sets::union(next, rows[d]);
     }
 }
 
-// What lies beyond a flagged line is joined to the row of its device.
-fn join_row(l: u32, flag: u8, next: u32, rows: &mut [u32; 32])
-    requires { ⌜ (flag ≡ 1 → operand l < devices) ⌝ }
-    ensures { λ r. ⌜ now (rows .exit) ≡ rowJoined l flag next (now (rows .entry)) ⌝ }
-{
-    if flag == 1 {
-        let d = (l % 256) as usize;
-        let row = rows[d];
-        rows[d] = sets::union(next, row);
-    }
-}
-
-// The rows with a line, and the claim set of its job's first line so far, which is now this line.
-fn gather(l: u32, flag: u8, rows: &mut [u32; 32], sets: &mut [u32; 256])
-    requires { ⌜ (isLine devices l ≡ true) × (flag ≡ 1 → operand l < devices) ⌝ }
+// The rows with a line, and what its job claims, which is now the line's claim set. The answer is that set.
+fn join_line(
+    l: u32,
+    lasts: bool,
+    rows: &mut [Set; EACH_DEVICE],
+    claimed: &mut [Set; EACH_OPERAND],
+) -> Set
+    requires { ⌜ (isLine devices l ≡ true) × (lasts ≡ true → isTake l ≡ true) ⌝ }
     ensures { λ r. ⌜
-        GatheredOn l flag (now (rows .entry)) (now (sets .entry)) (now (rows .exit)) (now (sets .exit))
+        JoinedOn l lasts (now (rows .entry)) (now (claimed .entry)) r (now (rows .exit)) (now (claimed .exit))
         ⌝ }
 {
-    let j = (l / 1024) as usize;
-    let next = sets[j];
-    join_row(l, flag, next, rows);
-    let s = claims::claim(l, next, sets);
-    sets[j] = s;
+    let j = line::job(l) as usize;
+    let next = claimed[j];
+    join_row(l, lasts, next, rows);
+    let s = claims::claim(l, next, claimed);
+    claimed[j] = s;
+    s
+}
+
+// A set at its place in a lent table, if the table has the place.
+fn store(table: &mut [Set], i: usize, s: Set)
+    ensures { λ r. ⌜ now (table .exit) ≡ set (now (table .entry)) i s ⌝ }
+{
+    if i < table.len() {
+        table[i] = s;
+    }
+}
+
+// ---- the walks
+
+// The walk back for the two sets alone.
+fn count_back(plan: &[u32]) -> Passed
+    requires { ⌜ fault devices (now plan) ≡ none ⌝ }
+    ensures { λ r. ⌜ HeldAs r (now (plan .entry)) ⌝ }
+{
+    let mut passed = NONE_PASSED;
+    let mut i = plan.len();
+    while 0 < i {
+        i -= 1;
+        passed = pass_line(passed, plan[i]);
+    }
+    passed
 }
 
 // The walk back over a plan without a fault: its flags, its rows and the two sets, all in one pass from the plan's end,
-// since a line's flag decides what it adds to the rows and to the sets.
-fn walk_back(plan: &[u32], rows: &mut [u32; 32], lasting: &mut [u8; 1024]) -> Held
+// since whether a line lasts decides what it adds to the rows and to the sets. The plan's table is at hand on the way:
+// a caller that keeps it beside the rows lends a list for it, another lends one without a place.
+fn walk_back(
+    plan: &[u32],
+    rows: &mut [Set; EACH_DEVICE],
+    lasting: &mut [u8; MOST_LINES],
+    table: &mut [Set],
+) -> Passed
     requires { ⌜ fault devices (now plan) ≡ none ⌝ }
-    ensures { λ r. ⌜ WalkedAs r (now (plan .entry)) (now (rows .exit)) (now (lasting .exit)) ⌝ }
+    ensures { λ r. ⌜
+        WalkedAs (now (plan .entry)) (now (table .entry)) r (now (rows .exit)) (now (lasting .exit)) (now (table .exit))
+        ⌝ }
 {
-    *rows = [0u32; 32];
-    *lasting = [0u8; 1024];
-    let mut sets = [0u32; 256];
-    let mut found = Held { held: 0, twice: 0 };
-    let mut job: u32 = 0;
-    let mut wanted: u32 = 0;
+    *rows = [sets::NONE; EACH_DEVICE];
+    *lasting = [0u8; MOST_LINES];
+    let mut claimed = [sets::NONE; EACH_OPERAND];
+    let mut passed = NONE_PASSED;
     let mut i = plan.len();
     while 0 < i {
         i -= 1;
         let l = plan[i];
-        let after = wanted_after(l, job, wanted);
-        let flag = lasts(l, after);
-        lasting[i] = flag;
-        gather(l, flag, rows, &mut sets);
-        found = count_held(found, l, flag);
-        wanted = wanted_before(l, after);
-        job = l / 1024;
+        passed = pass_line(passed, l);
+        lasting[i] = passed.lasts as u8;
+        let s = join_line(l, passed.lasts, rows, &mut claimed);
+        store(table, i, s);
     }
-    found
+    passed
 }
 
 // What the holds of a plan are: the set of the devices held to the end and the set of those with two lasting takes.
 pub enum HoldsAnswer {
-    Made(u32, u32),
+    Made(Set, Set),
     Refused(Refusal),
+}
+
+// The two sets of a plan, tested by 2 to 8, and nothing beside them.
+pub fn held_to_end(plan: &[u32]) -> HoldsAnswer
+    ensures { λ r. ⌜ r ≡ holdsBy (fault devices (now (plan .entry))) (now (plan .entry)) ⌝ }
+{
+    if let Checked::Refused(r) = plan::fault(plan) {
+        return HoldsAnswer::Refused(r);
+    }
+    let made = count_back(plan);
+    HoldsAnswer::Made(made.held, made.twice)
 }
 
 // The holds of a plan, tested by 2 to 8: the two sets, with the first line of each job, the rows, and the flags of the
 // lasting takes in the lent lists.
 pub fn holds(
     plan: &[u32],
-    first: &mut [u32; 65],
-    rows: &mut [u32; 32],
-    lasting: &mut [u8; 1024],
+    first: &mut [u32; EACH_JOB],
+    rows: &mut [Set; EACH_DEVICE],
+    lasting: &mut [u8; MOST_LINES],
 ) -> HoldsAnswer
     ensures { λ r. ⌜
         HoldsAs (now (plan .entry)) (now (first .entry)) (now (rows .entry)) (now (lasting .entry))
         r (now (first .exit)) (now (rows .exit)) (now (lasting .exit))
         ⌝ }
 {
-    let mut starter = [0u32; 65];
+    let mut starter = [0u32; EACH_JOB];
     if let Checked::Refused(r) = plan::scan(plan, first, &mut starter) {
         return HoldsAnswer::Refused(r);
     }
-    let made = walk_back(plan, rows, lasting);
+    let made = walk_back(plan, rows, lasting, &mut []);
     HoldsAnswer::Made(made.held, made.twice)
 }

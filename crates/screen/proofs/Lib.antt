@@ -1,7 +1,4 @@
--- `Tight` and `Promises` are what the crate shows of its promises; the others are the laws that its functions' proofs
--- cite.
-pub mod Tight
-pub mod Promises
-pub mod Pieces
+-- The laws that the functions' proofs cite: the pieces of what is printed, and what is printed for what was read and
+-- judged.
 pub mod Shown
 pub mod Screened

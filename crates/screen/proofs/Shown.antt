@@ -1,83 +1,70 @@
--- 01, "Plans with their verdicts", its last part: bytes shown in a lent buffer, all of them or none.
-use Prim.Native.Nat.{ℕ, _+_, _-_, _≤_, _<_}
-use mathlib.Core.Bool.{Bool, true, false}
-use mathlib.Core.List.{List, _++_}
-use mathlib.Core.Path.{_≡_, refl, sym, _∙_, ap}
+-- 01, "Plans with their verdicts", its last part: a refusal's line and an order, put piece by piece.
+use Prim.Native.Nat.{ℕ, _+_, _≤_, _<_}
+use mathlib.Core.List.{List, [], _∷_, _++_, flatMap}
+use mathlib.Core.Path.{_≡_, refl, _∙_, ap}
 use native.Mathlib.Omega.{arith}
-use lib.Dec.{leb, ltb}
-use lib.ListN.{length, length-append}
-use borrow.Author.Tests.{lt-ltb, le-ltb, ltb-false, leb-true, leb-false}
-use Rattle.model.specs.Answers.{numberOf, placeOf}
-use Rattle.model.specs.Printed.{orderWord, refusedWord, printedOrder, printedRefusal, screenBy}
+use lib.ListN.{length, getD, length-append}
+use Rattle.model.specs.Answers.{refusalValues}
+use Rattle.model.specs.Text.{newline, decimal, tabbed}
+use Rattle.model.specs.Printed.{orderWord, refusedWord, printedLine, printedOrder, printedRefusal}
 use Rattle.model.specs.declared.Refusal.{Refusal}
-use Rattle.text.specs.Made.{Puts}
-use Rattle.text.proofs.Making.{put-then, put-all}
-use Rattle.screen.specs.Lines.{heading, listed}
-use Rattle.screen.specs.Promises.{ShowsAs}
+use Rattle.fields.specs.Puts.{PutsAs, valuesText}
+use Rattle.fields.proofs.Putting.{kept, moves, put-none, put-at-start, put-both}
+use Rattle.fields.proofs.Pieces.{pieces, pieces-all, put-more, printed-line}
+use Rattle.screen.specs.Shows.{ShowsAs}
 
-module _ {bytes lent : List ℕ} where
-  pub shows-none : length lent < length bytes → ShowsAs bytes lent 0 lent
-  unfolding screenBy
-  shows-none h = record {
-    counts = rw (lt-ltb (length lent) (length bytes) h);
-    leaves = rw (lt-ltb (length lent) (length bytes) h);
-  }
+-- an order is its first line and the others
+whole : (order : List ℕ) (held : ℕ)
+    → printedOrder order held
+    ≡ printedLine orderWord (length order ∷ held ∷ []) ++ flatMap (λ n. tabbed (decimal n ∷ [])) order
+unfolding printedOrder
+whole order held = refl
 
-  pub shows-all : {n : ℕ} {left : List ℕ} → length bytes ≤ length lent → Puts bytes 0 lent n left
-      → ShowsAs bytes lent n left
-  unfolding screenBy
-  shows-all h x = record {
-    counts = rw (le-ltb (length lent) (length bytes) h) (omega (arith, x .moved));
-    leaves = rw (le-ltb (length lent) (length bytes) h) (put-all x);
-  }
+-- ---- a refusal
 
--- no more bytes than there is room for
-pub shown-fits : {bytes lent : List ℕ} {n : ℕ} {left : List ℕ} → ShowsAs bytes lent n left → n ≤ length lent
-unfolding screenBy
-shown-fits {bytes} {lent} {n} s = go (ltb (length lent) (length bytes)) refl (s .counts)
-  where
-    go : (t : Bool) → ltb (length lent) (length bytes) ≡ t → n ≡ screenBy t bytes lent .count → n ≤ length lent
-    go true e f = omega arith
-    go false e f = omega (arith, ltb-false (length lent) (length bytes) e)
+shown : {bytes lent : List ℕ} {n : ℕ} {left : List ℕ} → PutsAs bytes 0 lent n left → ShowsAs bytes lent n left
+shown x h = put-at-start x (omega (arith, moves x (omega arith)))
 
--- a refusal: one line of its number a and its place b
-module _ (r : Refusal) (a b : ℕ) (number : a ≡ numberOf r) (place : b ≡ placeOf r) where
-  refusal-line : printedRefusal r ≡ heading refusedWord a b
-  unfolding printedRefusal heading
-  refusal-line = rw (number, place)
+-- a line of a word and numbers
+line : (values : List ℕ) {word old : List ℕ} {p : ℕ} {mid : List ℕ} {q : ℕ} {made : List ℕ} → PutsAs word 0 old p mid
+    → PutsAs (valuesText values) p mid q made → length (printedLine word values) ≤ length old
+    → PutsAs (printedLine word values) 0 old q made
+line values {word} x y h =
+    let e = printed-line values word in rw e (put-both x y (omega (arith, ap length e)))
 
-  pub refusal-none : (lent : List ℕ) (n : ℕ) → n ≡ length (heading refusedWord a b) → length lent < n
-      → ShowsAs (printedRefusal r) lent 0 lent
-  refusal-none lent n e h = rw refusal-line (shows-none (omega arith))
+pub refusal-shown : (r : Refusal) {values old : List ℕ} {p : ℕ} {mid : List ℕ} {q : ℕ} {made : List ℕ}
+    → PutsAs refusedWord 0 old p mid → values ≡ refusalValues r → PutsAs (valuesText values) p mid q made
+    → ShowsAs (printedRefusal r) old q made
+unfolding printedRefusal
+refusal-shown r x e y h = shown (line (refusalValues r) x (rw e at y) h) h
 
-  pub refusal-shown : {lent : List ℕ} {n : ℕ} {left : List ℕ} → length (heading refusedWord a b) ≤ length lent
-      → Puts (heading refusedWord a b) 0 lent n left → ShowsAs (printedRefusal r) lent n left
-  refusal-shown h x = rw refusal-line (shows-all h x)
+-- ---- an order: its first line, and its numbers, one to a line
 
--- an order: a line of n bytes in front, and its numbers
-module _ (order : List ℕ) (held : ℕ) (lent : List ℕ) (n : ℕ) (e : n ≡ length (heading orderWord (length order) held))
-  where
-    order-lines : printedOrder order held ≡ heading orderWord (length order) held ++ listed order
-    unfolding printedOrder heading listed
-    order-lines = refl
+abbrev numberLine : ℕ → List ℕ
+numberLine n = tabbed (decimal n ∷ [])
 
-    order-length : length (printedOrder order held) ≡ n + length (listed order)
-    order-length = ap length order-lines ∙ rw (length-append, sym e)
+-- the first i numbers stand behind a place from which all of them fit
+abbrev pub Listed : List ℕ → ℕ → ℕ → List ℕ → ℕ → List ℕ → Type 0
+Listed order i from old past made =
+    from + length (flatMap numberLine order) ≤ length old → PutsAs (pieces numberLine order i) from old past made
 
-    pub order-none : length lent < n → ShowsAs (printedOrder order held) lent 0 lent
-    order-none h = shows-none (omega (arith, order-length))
+pub listed-none : (order : List ℕ) (from : ℕ) (old : List ℕ) → Listed order 0 from old from old
+unfolding flatMap
+listed-none order from old fits = put-none from old (omega arith)
 
-    -- there is room for the line in front; whether there is for the rest was asked
-    module _ (room : n ≤ length lent) {t : Bool} (asked : t ≡ leb (length (listed order)) (length lent - n)) where
-      pub rest-fits : t ≡ true → n + length (listed order) ≤ length lent
-      rest-fits h = omega (arith, leb-true (length (listed order)) (length lent - n) (sym asked ∙ h))
+module _ (order : List ℕ) (i : ℕ) {old : List ℕ} {p : ℕ} {mid : List ℕ} {q : ℕ} {made : List ℕ} where
+  pub listed-more : {from : ℕ} → i < length order → Listed order i from old p mid
+      → PutsAs (decimal (getD order i 0) ++ (newline ∷ [])) p mid q made → Listed order (i + 1) from old q made
+  unfolding tabbed
+  listed-more h x y fits = put-more numberLine order i h (x fits) fits y
 
-      pub order-long : t ≡ false → ShowsAs (printedOrder order held) lent 0 lent
-      order-long h =
-          shows-none
-          (omega (arith, order-length, leb-false (length (listed order)) (length lent - n) (sym asked ∙ h)))
-
-      pub order-shown : t ≡ true → {p : ℕ} {mid : List ℕ} {q : ℕ} {left : List ℕ}
-          → Puts (heading orderWord (length order) held) 0 lent p mid → Puts (listed order) p mid q left
-          → ShowsAs (printedOrder order held) lent q left
-      order-shown h x y = shows-all (omega (arith, order-length, rest-fits h)) (rw order-lines (put-then x y))
+  pub order-shown : (held : ℕ) {s : ℕ} {left : List ℕ} → length order ≤ i → PutsAs orderWord 0 old p mid
+      → PutsAs (valuesText (length order ∷ held ∷ [])) p mid q made → Listed order i q made s left
+      → ShowsAs (printedOrder order held) old s left
+  order-shown held h x y z fits =
+      let first = printedLine orderWord (length order ∷ held ∷ []) in
+      let all : printedOrder order held ≡ first ++ flatMap numberLine order = whole order held in
+      let room = ap length all ∙ length-append first (flatMap numberLine order) in
+      let f = line (length order ∷ held ∷ []) x y (omega arith) in
+      let g = rw (pieces-all numberLine order i h) at (z (omega (arith, kept f, moves f (omega arith)))) in
+      shown (rw all (put-both f g (omega (arith, ap length all)))) fits

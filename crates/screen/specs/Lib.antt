@@ -1,4 +1,2 @@
--- What the contracts of this crate cite. `Promises` is what its public functions promise; `Lines` are words of its
--- private functions.
-pub mod Lines
-pub mod Promises
+-- A word of the private functions that print. What `print` and the screens' entry promise stands in `promises`.
+pub mod Shows

@@ -1,11 +1,12 @@
 -- The numbers and values that `model` lists for the answers lose nothing: each refusal is known by its number and
 -- place, and each answer by its values. Promises that are stated through them are therefore as tight as if they named
 -- the cases. Last, what the first refusal of an entry's tests says of each of them.
-use Prim.Native.Nat.{ℕ, zero, suc}
+use Prim.Native.Nat.{ℕ, zero, suc, _≤_}
 use mathlib.Core.Bool.{Bool, true, false, not}
 use mathlib.Core.List.{List, [], _∷_}
 use mathlib.Core.Option.{Option, none, some, Option·some-injective, Option·none-ne-some}
 use mathlib.Core.Path.{_≡_, refl, sym, _∙_, ap, ap₂}
+use native.Mathlib.Omega.{arith}
 use lib.ListN.{getD}
 use Rattle.model.specs.Answers.{numberOf, placeOf, refusalValues, lineValues, readValues, writeValues, tableValues}
 use Rattle.model.specs.Answers.{verdictValues, moveValues, refuseIf, refuseAt, firstRefusal}
@@ -59,6 +60,23 @@ refusal-back (ListTooShort needed) = refl
 refusal-back (NotATake asked) = refl
 refusal-back (NoSuchDevice asked) = refl
 refusal-back (StaleTable line) = refl
+
+-- the numbers are 1 to 14
+pub number-range : (r : Refusal) → (1 ≤ numberOf r) × (numberOf r ≤ 14)
+number-range TextTooLong = (omega arith, omega arith)
+number-range (Malformed line) = (omega arith, omega arith)
+number-range TooManyLines = (omega arith, omega arith)
+number-range (JobOutOfSequence line) = (omega arith, omega arith)
+number-range (BadStart line) = (omega arith, omega arith)
+number-range (NeverStarted line) = (omega arith, omega arith)
+number-range (GiveWithoutTake line) = (omega arith, omega arith)
+number-range (TakeOfHeld line) = (omega arith, omega arith)
+number-range (TwoLasting device) = (omega arith, omega arith)
+number-range (LeadsBack device) = (omega arith, omega arith)
+number-range (ListTooShort needed) = (omega arith, omega arith)
+number-range (NotATake asked) = (omega arith, omega arith)
+number-range (NoSuchDevice asked) = (omega arith, omega arith)
+number-range (StaleTable line) = (omega arith, omega arith)
 
 -- a refusal is known by its number and place
 pub one-refusal : (r s : Refusal) → numberOf r ≡ numberOf s → placeOf r ≡ placeOf s → r ≡ s

@@ -15,6 +15,7 @@ use Rattle.model.specs.Sets.{empty, only, union, member}
 use Rattle.model.specs.Line.{operand, isTake, at}
 use Rattle.model.specs.Mate.{takesAt, deviceAt, takes}
 use Rattle.model.specs.Claims.{successors, own, joined, tableOf, table, beyond}
+pub use Rattle.theory.specs.Claims.{claim, Reach, here, step, Reached}
 use Rattle.theory.proofs.Tests.{clash, le-or-lt}
 use Rattle.theory.proofs.Line.{inside}
 use Rattle.theory.proofs.Sets.{member-empty, member-only, in-union, in-left, in-right, in-unionOf, unionOf-in}
@@ -58,10 +59,6 @@ pub length-table : (p : List ℕ) → length (table p) ≡ length p
 unfolding table owns
 length-table p = length-tableOf (owns p) p (length-owns p)
 
--- the claim set of the line at i
-abbrev pub claim : List ℕ → ℕ → ℕ
-claim p i = getD (table p) i 0
-
 -- 01's sentence: its own claim, joined with the claim sets of its successors
 pub claim-is : (p : List ℕ) (i : ℕ) → i < length p → claim p i ≡ union (own p i) (beyond p (table p) i)
 unfolding table beyond owns positions
@@ -96,17 +93,6 @@ unfolding takes
 takes-line p i d h = inside (λ l. isTake l && eqb (operand l) d) p i refl h
 
 -- ---- claims are reached takes
-
--- line j is reached from line i by successors, in none or more steps
-pub data Reach (p : List ℕ) : ℕ → ℕ → Type 0 where
-  here : (i : ℕ) → Reach p i i
-  step : (i o j : ℕ) → has o (successors (at p i) (drop (suc i) p)) ≡ true → Reach p (suc i + o) j → Reach p i j
-
--- a take of d is reached from line i
-pub record Reached (p : List ℕ) (i d : ℕ) : Type 0 where
-  pub j : ℕ
-  pub way : Reach p i j
-  pub taken : takes p j d ≡ true
 
 -- what is claimed past a line is claimed by a successor
 pub in-beyond : (p : List ℕ) (i d : ℕ) → member (beyond p (table p) i) d ≡ true

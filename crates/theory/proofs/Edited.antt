@@ -25,9 +25,10 @@ use Rattle.theory.proofs.Tests.{clash, no-some, test, and-split, and-bo
 use Rattle.theory.proofs.Line.{job-pack, kind-pack, operand-pack, pack-parts, kind-small, start-of}
 use Rattle.theory.proofs.Line.{take-no-give, take-no-start, give-no-start}
 use Rattle.theory.proofs.WellFormed.{take-line}
-use Rattle.theory.proofs.WellFormed.{FollowsOn, heldThere, Sound, FaultView, sound, startsEmpty, unstarted}
-use Rattle.theory.proofs.WellFormed.{BrokenAt, tooMany, malformed, outOfSequence, badStart, badGive, takeOfHeld}
-use Rattle.theory.proofs.WellFormed.{Broken, atLine, noLines, noStart}
+use Rattle.theory.specs.WellFormed.{FollowsOn, heldThere, Sound, startsEmpty, unstarted}
+use Rattle.theory.proofs.WellFormed.{FaultView, sound}
+use Rattle.theory.specs.WellFormed.{BrokenAt, tooMany, malformed, outOfSequence, badStart, badGive, takeOfHeld}
+use Rattle.theory.specs.WellFormed.{Broken, atLine, noLines, noStart}
 use Rattle.theory.proofs.WellFormed.{fault-view, fault-exactly, no-fault-exactly}
 use Rattle.theory.proofs.Mate.{Pair, pair, openTakes, held-open, take-open-at-mate, mate-names-device}
 use Rattle.theory.proofs.Mate.{give-has-take}

@@ -1,13 +1,14 @@
 -- The theorems about the definitions of `model`, in the order in which they build on each other; the one that a user
 -- of a file wants stands last in it. A legal order exists exactly if the verdict is an order: `Verdict`. The round
 -- trips: `Text`. The line reader: `Reader`; by an offset alone: `Offsets`. What is printed fits the screens' buffer:
--- `Printed`. Contracts that are equations leave one outcome: `Tight`.
+-- `Printed`; and some print fills it: `Longest`. Contracts that are equations leave one outcome: `Tight`.
 pub mod Tests
 pub mod Tight
 pub mod Lists
 pub mod Sets
 pub mod Answers
 pub mod Line
+pub mod Held
 pub mod WellFormed
 pub mod Claims
 pub mod Rows
@@ -30,3 +31,4 @@ pub mod Text
 pub mod Reader
 pub mod Offsets
 pub mod Printed
+pub mod Longest

@@ -3,7 +3,7 @@
 use Prim.Native.Nat.{ℕ, zero, suc, _+_, _<_, _≤_}
 use mathlib.Core.Bool.{Bool, true, false, cond, _||_}
 use mathlib.Core.List.{List, [], _∷_, _++_, map}
-use mathlib.Core.Logic.{_⊎_, inl, inr, _≢_}
+use mathlib.Core.Logic.{_⊎_, inl, inr, _≢_, _↔_}
 use mathlib.Core.Option.{Option, none, some, Option·some-injective}
 use mathlib.Core.Path.{_≡_, refl, sym, ap, subst}
 use native.Mathlib.Omega.{arith}
@@ -220,6 +220,20 @@ first-answer f (x ∷ xs) = go (f x) refl (firstOf f xs) (first-answer f xs)
         split : (k : ℕ) → (k ≡ x) ⊎ (has k xs ≡ true) → f k ≡ false
         split k (inl q) = rw q e
         split k (inr n) = ih k n
+
+-- none is found exactly if none passes
+pub none-exactly : (f : ℕ → Bool) (xs : List ℕ) → (firstOf f xs ≡ none) ↔ ((k : ℕ) → has k xs ≡ true → f k ≡ false)
+none-exactly f xs =
+    (λ e. to (firstOf f xs) e (first-answer f xs), λ h. from h (firstOf f xs) refl (first-answer f xs))
+  where
+    to : (o : Option ℕ) → o ≡ none → Answer f xs o → (k : ℕ) → has k xs ≡ true → f k ≡ false
+    to none e a = a
+    to (some i) e a = no-some (sym e)
+
+    from : ((k : ℕ) → has k xs ≡ true → f k ≡ false) → (o : Option ℕ) → firstOf f xs ≡ o → Answer f xs o
+        → firstOf f xs ≡ none
+    from h none e a = e
+    from h (some i) e a = clash (f i) (a .1) (h i (a .0))
 
 -- the first of ascending numbers is the lowest
 pub first-lowest : (f : ℕ → Bool) (i n m : ℕ) → firstOf f (upFrom i n) ≡ some m → (k : ℕ) → i ≤ k → k < m → f k ≡ false

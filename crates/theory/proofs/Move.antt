@@ -5,8 +5,8 @@
 use Prim.Native.Nat.{ℕ, zero, suc, _+_, _<_, _≤_}
 use mathlib.Core.Bool.{Bool, true, false, cond, not}
 use mathlib.Core.List.{List, [], _∷_, _++_}
-use mathlib.Core.Logic.{_⊎_, inl, inr, _≢_}
-use mathlib.Core.Option.{Option, none, some, Option·none-ne-some}
+use mathlib.Core.Logic.{_⊎_, inl, inr, _≢_, _↔_}
+use mathlib.Core.Option.{Option, none, some, Option·none-ne-some, Option·some-injective}
 use mathlib.Core.Path.{_≡_, refl, sym, _∙_, ap, subst}
 use native.Mathlib.Omega.{arith}
 use lib.Dec.{eqb, leb, ltb}
@@ -23,21 +23,23 @@ use Rattle.model.specs.Mate.{deviceAt}
 use Rattle.model.specs.Claims.{successors, own, joined, table, beyond}
 use Rattle.model.specs.Move.{edited, way, rejoined, stale, rewritten, changed, askedAt, isTakeOf, ofNumber}
 use Rattle.model.specs.Move.{moveRefusal}
-use Rattle.model.specs.Entries.{MoveOutcome, moveBy, moving}
+use Rattle.model.specs.Entries.{Outcome, Lent, outcome, moving}
 use Rattle.model.specs.declared.Refusal.{Refusal}
 use Rattle.model.specs.declared.Refusal.the-variants.{ListTooShort, NotATake, NoSuchDevice, StaleTable}
 use Rattle.model.specs.declared.MoveAnswer.{MoveAnswer}
 use Rattle.theory.specs.Move.{Refused, notATake, noSuchDevice, takeOfHeld, differing, Accepted, Step}
-use Rattle.theory.specs.Move.{refused, accepted, Ask, Lent, moved, movedBy, Kept}
-use Rattle.theory.proofs.Tests.{clash, no-some, test, or-left, or-neither}
-use Rattle.theory.proofs.Lists.{has-none, has-head, has-tail, has-cases, Answer, first-answer}
+use Rattle.theory.specs.Move.{refused, accepted, Ask, moved, movedBy, Kept, NearestStale}
+use Rattle.theory.proofs.Tests.{clash, no-some, test, or-left, or-neither, le-or-lt}
+use Rattle.theory.proofs.Lists.{has-none, has-head, has-tail, has-cases, Answer, first-answer, none-exactly}
 use Rattle.theory.proofs.Answers.{all-tests, also, first-each, none-refuses, not-refused, not-found}
 use Rattle.theory.proofs.Line.{device-line}
-use Rattle.theory.proofs.Claims.{claim, claim-is, length-table}
+use Rattle.theory.specs.Claims.{claim}
+use Rattle.theory.proofs.Claims.{claim-is, length-table}
 use Rattle.theory.proofs.WellFormed.{take-line, FaultView, broken, fault-view, broken-number, no-fault-exactly}
 use Rattle.theory.proofs.Successors.{successor-after}
 use Rattle.theory.proofs.Edited.{edit, edited-same, same-successors, own-elsewhere, fault-is-eight, eight-is-all}
-use Rattle.theory.proofs.Way.{Falls, ends, falls, falls-below, way-falls, line-on-way, off-way-stays-off}
+use Rattle.theory.specs.Move.{Falls, ends, falls}
+use Rattle.theory.proofs.Way.{falls-below, way-falls, line-on-way, off-way-stays-off}
 
 -- ---- a table is determined by the joining
 
@@ -99,15 +101,59 @@ module _ (p t : List ℕ) (mine : take (length p) t ≡ table p) where
   -- no line of the way is stale
   pub none-stale : (i : ℕ) → i < length p → firstOf (stale p t) (way p i) ≡ none
   unfolding stale
-  none-stale i h = go (firstOf (stale p t) (way p i)) refl (first-answer (stale p t) (way p i))
-    where
-      go : (o : Option ℕ) → firstOf (stale p t) (way p i) ≡ o → Answer (stale p t) (way p i) o
-          → firstOf (stale p t) (way p i) ≡ none
-      go none e x = e
-      go (some k) e x =
-          clash (stale p t k) (x .1)
-          (rw (eq-eqb (getD t k 0) (rejoined p t k)
-          (own-joined k (omega (arith, falls-below (suc i) k (way p i) (way-falls p i) (x .0))))))
+  none-stale i h =
+      none-exactly (stale p t) (way p i) .1
+      (λ k m. rw (eq-eqb (getD t k 0) (rejoined p t k)
+      (own-joined k (omega (arith, falls-below (suc i) k (way p i) (way-falls p i) m)))))
+
+-- ---- 14
+
+-- the first of falling numbers that passes is the highest, and no higher one passes
+first-highest : (f : ℕ → Bool) (n : ℕ) (xs : List ℕ) → Falls n xs → (k : ℕ) → firstOf f xs ≡ some k → (j : ℕ)
+    → has j xs ≡ true → k < j → f j ≡ false
+unfolding firstOf
+first-highest f n xs (ends m) k e j h lt = no-some e
+first-highest f n xs (falls m x ys g fs) k e j h lt =
+    go (f x) refl e (has-cases j x ys h) (λ q z. first-highest f x ys fs k q j z lt)
+  where
+    go : (b : Bool) → f x ≡ b → elim b [ true ↦ some x | false ↦ firstOf f ys ] ≡ some k
+        → (j ≡ x) ⊎ (has j ys ≡ true) → (firstOf f ys ≡ some k → has j ys ≡ true → f j ≡ false) → f j ≡ false
+    go true q e (inl z) ih = let y : x ≡ k = Option·some-injective x k e in absurd (omega arith)
+    go true q e (inr z) ih =
+        let y : x ≡ k = Option·some-injective x k e in absurd (omega (arith, falls-below x j ys fs z))
+    go false q e (inl z) ih = rw z q
+    go false q e (inr z) ih = ih e z
+
+-- The place of 14 is the nearest stale line on the way, going back, and there is one wherever a line on the way is
+-- stale.
+pub stale-exactly : (p t : List ℕ) (i k : ℕ) → (firstOf (stale p t) (way p i) ≡ some k) ↔ NearestStale p t i k
+stale-exactly p t i k = (λ e. to (firstOf (stale p t) (way p i)) refl e (first-answer (stale p t) (way p i)), from)
+  where
+    to : (o : Option ℕ) → firstOf (stale p t) (way p i) ≡ o → o ≡ some k → Answer (stale p t) (way p i) o
+        → NearestStale p t i k
+    to none q e a = no-some e
+    to (some m) q e a =
+        let z : m ≡ k = Option·some-injective m k e in
+        record {
+          onWay = rw z at (a .0);
+          isStale = rw z at (a .1);
+          nearer = first-highest (stale p t) (suc i) (way p i) (way-falls p i) k (q ∙ e);
+        }
+
+    from : NearestStale p t i k → firstOf (stale p t) (way p i) ≡ some k
+    from s = go (firstOf (stale p t) (way p i)) refl (first-answer (stale p t) (way p i))
+      where
+        go : (o : Option ℕ) → firstOf (stale p t) (way p i) ≡ o → Answer (stale p t) (way p i) o
+            → firstOf (stale p t) (way p i) ≡ some k
+        go none q a = clash (stale p t k) (s .isStale) (a k (s .onWay))
+        go (some m) q a = q ∙ ap {B = Option ℕ} some (one (le-or-lt m k) (le-or-lt k m))
+          where
+            one : (m ≤ k) ⊎ (k < m) → (k ≤ m) ⊎ (m < k) → m ≡ k
+            one (inl b) (inl c) = omega arith
+            one (inr b) c = clash (stale p t m) (a .1) (s .nearer m (a .0) b)
+            one (inl b) (inr c) =
+                clash (stale p t k) (s .isStale)
+                (first-highest (stale p t) (suc i) (way p i) (way-falls p i) m q k (s .onWay) c)
 
 -- ---- the sets rewritten along numbers that fall
 
@@ -243,6 +289,7 @@ refusedBy line device isTake′ noDevice old held =
     ∷ held
     ∷ [])
 
+-- D ≤ 256, since the new device is packed to eight bits
 module _ (D : ℕ) (p t : List ℕ) (line device : ℕ) (w : WellFormed D p) (small : D ≤ 256)
     (mine : take (length p) t ≡ table p) where
   tests-left : moveRefusal D p t line device
@@ -400,18 +447,25 @@ changed-is p t u old new rest x y e h =
 
 -- ---- a move
 
+-- what a move answers and leaves, by what its tests answer
+abbrev pub tested : List ℕ → List ℕ → ℕ → ℕ → Option Refusal → Outcome MoveAnswer Lent
+tested p t i device x =
+    let plan : List ℕ = edited p i device in
+    let sets : List ℕ = rewritten plan t (way p i) in
+    outcome MoveAnswer.Refused x (MoveAnswer.Changed (changed p t sets))
+    (record { plan = plan; sets = sets }) (record { plan = p; sets = t })
+
 module _ (D : ℕ) (p t : List ℕ) (line device : ℕ) (w : WellFormed D p) (small : D ≤ 256)
     (mine : take (length p) t ≡ table p) where
   accepts : isTakeOf p line ≡ true → device < D → fault D (edited p (askedAt line) device) ≡ none
-      → Accepted D p t line device (moveBy none p t (askedAt line) device)
-  unfolding moveBy plan′ sets′
+      → Accepted D p t line device (tested p t (askedAt line) device none)
+  unfolding outcome plan′ sets′
   accepts a b f = record {
     plan = refl;
     long = n;
     noFault = f;
     afresh = new;
     room = length-rewritten q t (way p i);
-    verdict = refl;
     offWay = rewritten-off q t (way p i);
     count = ap MoveAnswer.Changed (changed-is p t (rewritten q t (way p i)) (table p) (table q) (drop (length p) t)
         (whole p t mine) new (length-table p) (length-table q ∙ n));
@@ -435,17 +489,17 @@ module _ (D : ℕ) (p t : List ℕ) (line device : ℕ) (w : WellFormed D p) (sm
   move-accepted h = go (moveRefusal D p t line device) h (test-view D p t line device w small mine)
     where
       go : (x : Option Refusal) → x ≡ none → TestView D p line device x
-          → Accepted D p t line device (moveBy x p t (askedAt line) device)
+          → Accepted D p t line device (tested p t (askedAt line) device x)
       go none e (passes a b f) = accepts a b f
       go (some r) e v = absurd (Option·none-ne-some r (sym e))
 
   -- and any move
   pub move-step : Step D p t line device (moving D p t line device)
-  unfolding moving moveBy
+  unfolding moving outcome
   move-step = go (moveRefusal D p t line device) (test-view D p t line device w small mine)
     where
       go : (x : Option Refusal) → TestView D p line device x
-          → Step D p t line device (moveBy x p t (askedAt line) device)
+          → Step D p t line device (tested p t (askedAt line) device x)
       go none (passes a b f) = accepted (accepts a b f)
       go (some r) (refuses x y) =
           refused (record { refusal = x; reason = y; answer = refl; plan = refl; sets = refl })
@@ -477,11 +531,11 @@ module _ (D : ℕ) (p t : List ℕ) (line device : ℕ) (present : deviceAt p (a
 
   -- where no test refuses, it changes nothing
   pub same-device-stays : moveRefusal D p t line device ≡ none
-      → moving D p t line device ≡ record { answer = MoveAnswer.Changed 0; plan = p; sets = t }
-  unfolding moving moveBy
+      → moving D p t line device ≡ record { answer = MoveAnswer.Changed 0; left = record { plan = p; sets = t } }
+  unfolding moving outcome
   same-device-stays h =
       let v = tests-passed D p t line device h in
-      let f = fresh (firstOf (stale p t) (way p i)) (v .2) (first-answer (stale p t) (way p i)) in
+      let f = none-exactly (stale p t) (way p i) .0 (v .2) in
       rw (
         h,
         same-plan (no-fault-exactly D p .0 (v .0) .rules) (v .1),
@@ -491,11 +545,6 @@ module _ (D : ℕ) (p t : List ℕ) (line device : ℕ) (present : deviceAt p (a
     where
       i : ℕ
       i = askedAt line
-
-      fresh : (o : Option ℕ) → o ≡ none → Answer (stale p t) (way p i) o
-          → (k : ℕ) → has k (way p i) ≡ true → stale p t k ≡ false
-      fresh none e a = a
-      fresh (some k) e a = no-some (sym e)
 
   -- and none does, from a plan without a fault and its own table, where the line is a take
   pub same-device-passes : WellFormed D p → D ≤ 256 → take (length p) t ≡ table p → isTakeOf p line ≡ true
@@ -547,7 +596,7 @@ module _ (D : ℕ) (small : D ≤ 256) where
   unfolding moved
   kept-moved first s a k = go (k .next a)
     where
-      o : MoveOutcome
+      o : Outcome MoveAnswer Lent
       o = moving D (s .plan) (s .sets) (a .line) (a .device)
 
       rest : drop (length (s .plan)) (s .sets) ≡ drop (length (first .plan)) (first .sets)

@@ -1,16 +1,17 @@
 -- The line reader by an offset alone is the line reader with a cursor (01, "The plan as text": lines are handed out one
 -- after another): wherever the second stands, counted from the beginning, its count of lines is that of the newlines
 -- before its offset. For each line that is handed out ends in its only newline.
-use Prim.Native.Nat.{ℕ, zero, suc, _+_, _≤_, _<_}
+use Prim.Native.Nat.{ℕ, zero, suc, _+_, _-_, _≤_, _<_}
 use mathlib.Core.Bool.{Bool, true, false, cond}
 use mathlib.Core.List.{List, [], _∷_, _++_, flatten, getLastD, dropLast}
+use mathlib.Core.Logic.{_⊎_, inl, inr}
 use mathlib.Core.Option.{Option, none, some}
 use mathlib.Core.Path.{_≡_, refl, sym, _∙_, ap, subst}
 use native.Mathlib.Numerals.{add-one}
 use native.Mathlib.Omega.{arith}
 use lib.Dec.{eqb, leb, ltb}
 use lib.ListN.{length, getD, take, drop}
-use lib.Seq.{take-all, take-suc, take-add, take-append-seam, length-take-le}
+use lib.Seq.{take-all, take-suc, take-add, take-append-seam, length-take-le, getD-drop}
 use borrow.Author.Tests.{eq-eqb, ne-eqb, eqb-true, eqb-false}
 use Rattle.model.specs.Line.{lineNumber, maxLines, maxBytes}
 use Rattle.model.specs.Lists.{those}
@@ -19,7 +20,8 @@ use Rattle.model.specs.Text.{fieldsOf, fromFields, newlinesBefore, cursorFrom, 
 use Rattle.model.specs.declared.Refusal.the-variants.{TextTooLong, Malformed, TooManyLines}
 use Rattle.model.specs.declared.Cursor.{Cursor}
 use Rattle.model.specs.declared.LineAnswer.{LineAnswer}
-use Rattle.theory.proofs.Tests.{no-some}
+use Rattle.theory.specs.Text.{PastNewline}
+use Rattle.theory.proofs.Tests.{no-some, le-or-lt}
 use Rattle.theory.proofs.Lists.{those-length}
 use Rattle.theory.proofs.Fields.{flatten-lines}
 
@@ -130,47 +132,111 @@ before-past text o l ls e z =
     let one : newlinesIn l ≡ 1 = subst FirstEnds e (first-ends (drop o text)) z in
     rw (take-add o (length l) text, line) (newlines-append (take o text) l ∙ rw one (omega arith))
 
+-- and that offset is just past the first newline
+FirstPast : List ℕ → List (List ℕ) → Type 0
+FirstPast s [] = Unit {0}
+FirstPast s (l ∷ ls) = getLastD l 0 ≡ newline → PastNewline s 0 (length l)
+
+first-past : (s : List ℕ) → FirstPast s (linesOf s)
+unfolding linesOf getLastD FirstPast
+first-past [] = tt
+first-past (b ∷ s) = go (isNewline b) refl (linesOf s) (first-past s)
+  where
+    go : (t : Bool) → isNewline b ≡ t → (ls : List (List ℕ)) → FirstPast s ls
+        → FirstPast (b ∷ s) (elim t [ true ↦ (b ∷ []) ∷ ls | false ↦ inFront b ls ])
+    go true e ls h = λ z. record {
+      newlineAt = 0;
+      from = omega arith;
+      past = refl;
+      isNewline = eqb-true b newline e;
+      noneBefore = λ i g lt. absurd (omega arith);
+    }
+    go false e [] h = λ z. absurd (eqb-false b newline e z)
+    go false e ([] ∷ ls) h = λ z. absurd (eqb-false b newline e z)
+    go false e ((x ∷ l) ∷ ls) h = λ z. more (h z)
+      where
+        more : PastNewline s 0 (length (x ∷ l)) → PastNewline (b ∷ s) 0 (suc (length (x ∷ l)))
+        more r = record {
+          newlineAt = suc (r .newlineAt);
+          from = omega arith;
+          past = ap suc (r .past);
+          isNewline = r .isNewline;
+          noneBefore = none;
+        }
+          where
+            none : (i : ℕ) → 0 ≤ i → i < suc (r .newlineAt) → getD (b ∷ s) i 0 ≡ newline → ⊥
+            none zero g lt q = eqb-false b newline e q
+            none (suc i) g lt q = r .noneBefore i (omega arith) (omega arith) q
+
+past-newline : (text : List ℕ) (o : ℕ) (l : List ℕ) (ls : List (List ℕ)) → linesOf (drop o text) ≡ l ∷ ls
+    → getLastD l 0 ≡ newline → PastNewline text o (o + length l)
+unfolding FirstPast
+past-newline text o l ls e z =
+    let r = subst (FirstPast (drop o text)) e (first-past (drop o text)) z in
+    record {
+      newlineAt = o + r .newlineAt;
+      from = omega arith;
+      past = omega (arith, r .past);
+      isNewline = sym (getD-drop o text (r .newlineAt) 0) ∙ r .isNewline;
+      noneBefore = λ i g lt q.
+          let y : o + (i - o) ≡ i = omega arith in
+          r .noneBefore (i - o) (omega arith) (omega arith) (getD-drop o text (i - o) 0 ∙ rw y q);
+    }
+
+pub one-past : (text : List ℕ) (o m n : ℕ) → PastNewline text o m → PastNewline text o n → m ≡ n
+one-past text o m n x y = go (le-or-lt (x .newlineAt) (y .newlineAt)) (le-or-lt (y .newlineAt) (x .newlineAt))
+  where
+    go : (x .newlineAt ≤ y .newlineAt) ⊎ (y .newlineAt < x .newlineAt)
+        → (y .newlineAt ≤ x .newlineAt) ⊎ (x .newlineAt < y .newlineAt) → m ≡ n
+    go (inl a) (inl b) = omega (arith, x .past, y .past)
+    go (inl a) (inr b) = absurd (y .noneBefore (x .newlineAt) (x .from) b (x .isNewline))
+    go (inr a) b = absurd (x .noneBefore (y .newlineAt) (y .from) a (y .isNewline))
+
 -- ---- the two readers
 
--- the cursor past a line that is handed out is that at its offset
-abbrev StandsAt : List ℕ → LineAnswer → Type 0
-StandsAt text (LineAnswer.Line n next) = next ≡ cursorFrom text (next .offset)
-StandsAt text (LineAnswer.Refused r) = Unit {0}
-StandsAt text LineAnswer.End = Unit {0}
+-- the cursor past a line that is handed out is that at its offset, just past the line's newline
+abbrev pub StandsAt : List ℕ → ℕ → LineAnswer → Type 0
+StandsAt text o (LineAnswer.Line n next) =
+    (next ≡ cursorFrom text (next .offset)) × PastNewline text o (next .offset)
+StandsAt text o (LineAnswer.Refused r) = Unit {0}
+StandsAt text o LineAnswer.End = Unit {0}
 
 module _ (D : ℕ) (text : List ℕ) (o : ℕ) where
   abbrev here : Cursor
   here = cursorFrom text o
 
-  handed-stands : (ls : List (List ℕ)) → linesOf (drop o text) ≡ ls → StandsAt text (handedLine D here ls)
+  handed-stands : (ls : List (List ℕ)) → linesOf (drop o text) ≡ ls → StandsAt text o (handedLine D here ls)
   unfolding handedLine cursorFrom
   handed-stands [] e = tt
   handed-stands (l ∷ ls) e = go (leb maxLines (here .lines)) (packedLine D l) refl
     where
       go : (many : Bool) (p : Option ℕ) → packedLine D l ≡ p
-          → StandsAt text (cond many (LineAnswer.Refused TooManyLines)
+          → StandsAt text o (cond many (LineAnswer.Refused TooManyLines)
           (elim p [
             | none ↦ LineAnswer.Refused (Malformed (lineNumber (here .lines)))
             | some n ↦ LineAnswer.Line n (record { offset = o + length l; lines = suc (here .lines) })
           ]))
       go true p q = tt
       go false none q = tt
-      go false (some n) q =
-          ap (λ (m : ℕ). record { offset = o + length l; lines = m })
-          (sym (before-past text o l ls e (packed-ends D l n q)))
+      go false (some n) q = (
+        ap (λ (m : ℕ). record { offset = o + length l; lines = m })
+            (sym (before-past text o l ls e (packed-ends D l n q))),
+        past-newline text o l ls e (packed-ends D l n q),
+      )
 
-  next-stands : StandsAt text (nextLine D text here)
+  next-stands : StandsAt text o (nextLine D text here)
   unfolding nextLine cursorFrom
   next-stands = go (ltb maxBytes (length text)) (handed-stands (linesOf (drop o text)) refl)
     where
-      go : (long : Bool) → StandsAt text (handedLine D here (linesOf (drop o text)))
-          → StandsAt text (cond long (LineAnswer.Refused TextTooLong) (handedLine D here (linesOf (drop o text))))
+      go : (long : Bool) → StandsAt text o (handedLine D here (linesOf (drop o text)))
+          → StandsAt text o (cond long (LineAnswer.Refused TextTooLong) (handedLine D here (linesOf (drop o text))))
       go true h = tt
       go false h = h
 
-  after-stands : (a : LineAnswer) → StandsAt text a → cursorAfter here a ≡ cursorFrom text (cursorAfter here a .offset)
+  after-stands : (a : LineAnswer) → StandsAt text o a
+      → cursorAfter here a ≡ cursorFrom text (cursorAfter here a .offset)
   unfolding cursorAfter cursorFrom
-  after-stands (LineAnswer.Line n next) h = h
+  after-stands (LineAnswer.Line n next) h = h .0
   after-stands (LineAnswer.Refused r) h = refl
   after-stands LineAnswer.End h = refl
 
@@ -190,3 +256,8 @@ pub same-line : (D : ℕ) (text : List ℕ) (n : ℕ)
     → lineFrom D text (cursorAt D text n .offset) ≡ nextLine D text (cursorAt D text n)
 unfolding lineFrom
 same-line D text n = ap (nextLine D text) (sym (cursor-from D text n))
+
+-- and past a line that it hands out stands the place just past the line's newline
+pub from-stands : (D : ℕ) (text : List ℕ) (o : ℕ) → StandsAt text o (lineFrom D text o)
+unfolding lineFrom
+from-stands D text o = next-stands D text o

@@ -17,7 +17,8 @@ use Rattle.model.specs.Rows.{lastingTakes, rowOf, rows, Leads, once, more}
 use Rattle.theory.specs.Verdict.{LastsTwice}
 use Rattle.theory.proofs.Lists.{position-has, has-those, those-has}
 use Rattle.theory.proofs.Sets.{in-unionOf, unionOf-in}
-use Rattle.theory.proofs.Claims.{Reach, here, step, claims-are-reached, in-beyond, takes-line, length-upFrom}
+use Rattle.theory.specs.Claims.{Reach, here, step}
+use Rattle.theory.proofs.Claims.{claims-are-reached, in-beyond, takes-line, length-upFrom}
 use Rattle.theory.proofs.Claims.{getD-upFrom}
 use Rattle.theory.proofs.Successors.{successor-after}
 use Rattle.theory.proofs.Rows.{row-below}

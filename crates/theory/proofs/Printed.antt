@@ -21,7 +21,8 @@ use Rattle.model.specs.Legal.{held, MayFollow, Follow, Legal}
 use Rattle.model.specs.Handed.{handed}
 use Rattle.model.specs.Verdict.{noOrder, heldAtEnd}
 use Rattle.model.specs.Entries.{textFault}
-use Rattle.model.specs.Printed.{orderWord, printedRefusal, printedOrder, printedBy, printed, screenRoom}
+use Rattle.model.specs.Printed.{orderWord, refusedWord, printedLine, printedRefusal, printedOrder, printedBy, printed}
+use Rattle.model.specs.Printed.{screenRoom}
 use Rattle.model.specs.declared.Refusal.{Refusal}
 use Rattle.model.specs.declared.Refusal.the-variants.{TextTooLong}
 use Rattle.theory.specs.Verdict.{twice, back}
@@ -29,8 +30,9 @@ use Rattle.theory.proofs.Tests.{or-split, or-left, or-right, le-or-lt}
 use Rattle.theory.proofs.Lists.{has-head, those-length, left, left-le, left-lt, left-zero, left-one}
 use Rattle.theory.proofs.Lists.{left-every, among}
 use Rattle.theory.proofs.Answers.{all-tests, also, first-each}
-use Rattle.theory.proofs.WellFormed.{BrokenAt, tooMany, malformed, outOfSequence, badStart, badGive, takeOfHeld}
-use Rattle.theory.proofs.WellFormed.{Broken, atLine, noLines, noStart, FaultView, broken, fault-view}
+use Rattle.theory.specs.WellFormed.{BrokenAt, tooMany, malformed, outOfSequence, badStart, badGive, takeOfHeld}
+use Rattle.theory.specs.WellFormed.{Broken, atLine, noLines, noStart}
+use Rattle.theory.proofs.WellFormed.{FaultView, broken, fault-view}
 use Rattle.theory.proofs.WellFormed.{broken-number, no-fault-exactly}
 use Rattle.theory.proofs.Claims.{length-upFrom}
 use Rattle.theory.proofs.Successors.{first-is}
@@ -245,3 +247,14 @@ printed-fits D d text =
         let sound = no-text-fault D text .0 a .1 in
         order-length p (handed p) (heldAtEnd D p) (no-fault-exactly D p .0 sound .few) (accepted-is-legal D p sound b)
         (omega (arith, held-few D p))
+
+-- and something is printed
+pub printed-some : (D : ℕ) (text : List ℕ) → 0 < length (printed D text)
+unfolding printedBy printedRefusal printedOrder printedLine refusedWord orderWord tabbed
+printed-some D text =
+    rw printed-is (go (firstRefusal (textFault D text ∷ noOrder D (spelt D text) ∷ [])))
+  where
+    go : (x : Option Refusal)
+        → 0 < length (printedBy x (map lineNumber (handed (spelt D text))) (heldAtEnd D (spelt D text)))
+    go none = omega arith
+    go (some r) = omega arith

@@ -27,7 +27,8 @@ use Rattle.theory.proofs.Lists.{has-none, has-head, has-tail, has-cases
 use Rattle.theory.proofs.Lists.{those-has}
 use Rattle.theory.proofs.Lists.{any-found, Answer, first-answer, Least, least-answer}
 use Rattle.theory.proofs.Lists.{left, left-lt, left-none, among}
-use Rattle.theory.proofs.Claims.{Reach, here, step, reached-claimed, beyond-in}
+use Rattle.theory.specs.Claims.{Reach, here, step}
+use Rattle.theory.proofs.Claims.{reached-claimed, beyond-in}
 use Rattle.theory.proofs.Successors.{precedes-reaches}
 use Rattle.theory.proofs.OnlyIf.{row-in}
 use Rattle.theory.proofs.Places.{lasting-parts}

@@ -3,7 +3,7 @@
 -- of that line, or the end. Where it answers with a refusal or the end it stays, and gives the same answer again. So a
 -- host that reads line by line sees the plan that reading a whole text gives.
 use Prim.Native.Nat.{ℕ, zero, suc, _+_, _≤_, _<_}
-use mathlib.Core.Bool.{true, false}
+use mathlib.Core.Bool.{Bool, true, false, cond}
 use mathlib.Core.List.{List, [], _∷_, _++_, flatten, append-nil}
 use mathlib.Core.Logic.{_⊎_, inl, inr}
 use mathlib.Core.Option.{Option, none, some, Option·getD}
@@ -12,27 +12,25 @@ use native.Mathlib.Omega.{arith}
 use lib.ListN.{length, getD, take, drop, length-append, length-map, drop-of-length-le}
 use lib.ListN.{List·getD-map, List·getD-eq-default}
 use lib.Seq.{take-suc, drop-cons, drop-drop}
-use borrow.Author.Tests.{le-leb, lt-leb, le-ltb}
+use lib.Dec.{leb, ltb}
+use borrow.Author.Tests.{leb-false, le-leb, lt-leb, le-ltb}
+use Rattle.model.specs.Answers.{numberOf, placeOf}
 use Rattle.model.specs.Line.{isLine, at, lineNumber, maxLines, maxBytes}
 use Rattle.model.specs.Text.{linesOf, packedLine, spelt, handedLine, nextLine, cursorAfter, begin, cursorAt}
-use Rattle.model.specs.declared.Refusal.{Refusal}
-use Rattle.model.specs.declared.Refusal.the-variants.{Malformed, TooManyLines}
+use Rattle.model.specs.declared.Refusal.the-variants.{TextTooLong, Malformed, TooManyLines}
 use Rattle.model.specs.declared.Cursor.{Cursor}
 use Rattle.model.specs.declared.LineAnswer.{LineAnswer}
+use Rattle.theory.specs.Text.{FirstLines, NoLine, refused, ended}
 use Rattle.theory.proofs.Tests.{clash, le-or-lt}
 use Rattle.theory.proofs.Fields.{lines-past}
 use Rattle.theory.proofs.Line.{zero-no-line}
 use Rattle.theory.proofs.Spelling.{text-packed}
-use Rattle.theory.proofs.Text.{AllLines, numberIn, was-spelt}
+use Rattle.theory.specs.Text.{AllLines}
+use Rattle.theory.proofs.Text.{numberIn, was-spelt}
 
 -- ---- the same answer again
 
--- an answer that hands out no line
-pub data NoLine : LineAnswer → Type 0 where
-  refused : (r : Refusal) → NoLine (LineAnswer.Refused r)
-  ended : NoLine LineAnswer.End
-
-stays : (c : Cursor) (a : LineAnswer) → NoLine a → cursorAfter c a ≡ c
+pub stays : (c : Cursor) (a : LineAnswer) → NoLine a → cursorAfter c a ≡ c
 unfolding cursorAfter
 stays c a (refused r) = refl
 stays c a ended = refl
@@ -116,7 +114,7 @@ unfolding spelt
 spelt-length D text = length-map (linesOf text) (numberIn D)
 
 -- a number that is a line's is that of a line of the text
-line-there : (D : ℕ) (text : List ℕ) (n : ℕ) → isLine D (at (spelt D text) n) ≡ true → n < length (linesOf text)
+pub line-there : (D : ℕ) (text : List ℕ) (n : ℕ) → isLine D (at (spelt D text) n) ≡ true → n < length (linesOf text)
 line-there D text n h = go (le-or-lt (length (linesOf text)) n)
   where
     go : (length (linesOf text) ≤ n) ⊎ (n < length (linesOf text)) → n < length (linesOf text)
@@ -141,10 +139,6 @@ module _ (D : ℕ) (text : List ℕ) (short : length text ≤ maxBytes) (n : ℕ
       (next-past lt
       ∙ handed-line D (past text n) (textLine text n) (drop (suc n) (linesOf text)) (numberIn D (textLine text n)) few
       (was-spelt D (textLine text n) (rw spelt-at at h)))
-
--- the first n numbers that a text spells are lines'
-abbrev pub FirstLines : ℕ → List ℕ → ℕ → Type 0
-FirstLines D text n = (i : ℕ) → i < n → isLine D (at (spelt D text) i) ≡ true
 
 pub cursor-past : (D : ℕ) (text : List ℕ) → length text ≤ maxBytes → (n : ℕ) → n ≤ maxLines → FirstLines D text n
     → cursorAt D text n ≡ past text n
@@ -207,3 +201,31 @@ reader-spells D text short few lines = (
   λ i h. reader-line D text short i (omega arith) (λ k g. lines k (omega arith)) (omega arith) (lines i h),
   reader-end D text short (length (spelt D text)) few lines (sym (spelt-length D text)),
 )
+
+-- ---- any answer
+
+-- what is handed out is a line's number; a refusal is 1, 2 or 3, at a line of at most 1,025
+abbrev pub RightAnswer : ℕ → LineAnswer → Type 0
+RightAnswer D (LineAnswer.Line n next) = isLine D n ≡ true
+RightAnswer D (LineAnswer.Refused r) = (numberOf r ≤ 3) × (placeOf r ≤ suc maxLines)
+RightAnswer D LineAnswer.End = Unit {0}
+
+pub next-right : (D : ℕ) → D ≤ 256 → (text : List ℕ) (c : Cursor) → RightAnswer D (nextLine D text c)
+unfolding nextLine handedLine lineNumber
+next-right D d text c = long (ltb maxBytes (length text)) (linesOf (drop (c .offset) text))
+  where
+    line : (l : List ℕ) (many : Bool) → leb maxLines (c .lines) ≡ many → (o : Option ℕ) → packedLine D l ≡ o
+        → RightAnswer D
+        (cond many (LineAnswer.Refused TooManyLines)
+        (elim o [
+          | none ↦ LineAnswer.Refused (Malformed (lineNumber (c .lines)))
+          | some n ↦ LineAnswer.Line n (record { offset = c .offset + length l; lines = suc (c .lines) })
+        ]))
+    line l true e o q = (omega arith, omega arith)
+    line l false e none q = (omega arith, omega (arith, leb-false maxLines (c .lines) e))
+    line l false e (some n) q = text-packed D d l n q .1
+
+    long : (b : Bool) (ls : List (List ℕ)) → RightAnswer D (cond b (LineAnswer.Refused TextTooLong) (handedLine D c ls))
+    long true ls = (omega arith, omega arith)
+    long false [] = tt
+    long false (l ∷ ls) = line l (leb maxLines (c .lines)) refl (packedLine D l) refl

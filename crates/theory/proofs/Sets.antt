@@ -18,7 +18,7 @@ use lib.ListN.{length}
 use lib.Pow.{pow-add, pow-pos, pow-lt, pow-mono, shl-shr, shr-shr, shr-lt}
 use borrow.Author.Tests.{eqb-true, eqb-false, eq-eqb, ne-eqb}
 use Rattle.model.specs.Lists.{upFrom, has, those, firstOf}
-use Rattle.model.specs.Sets.{empty, only, union, unionOf, member}
+use Rattle.model.specs.Sets.{empty, only, union, unionOf, member, lowestOf}
 use Rattle.theory.proofs.Tests.{clash, or-split, or-left, or-right, le-or-lt}
 use Rattle.theory.proofs.Lists.{has-none, has-head, has-tail, has-cases}
 
@@ -210,5 +210,6 @@ lowest-from (suc D) e s =
         ∙ (let z : suc e + trailingZeros D (s / 2 ^ e / 2) ≡ e + suc (trailingZeros D (s / 2 ^ e / 2)) =
         omega arith in z))
 
-pub lowest-member : (D s : ℕ) → Option·getD (firstOf (member s) (upFrom 0 D)) D ≡ trailingZeros D s
+pub lowest-member : (D s : ℕ) → lowestOf D s ≡ trailingZeros D s
+unfolding lowestOf
 lowest-member D s = simp (zero-add, div-one) at (lowest-from D 0 s)

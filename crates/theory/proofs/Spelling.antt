@@ -16,7 +16,8 @@ use Rattle.model.specs.Line.{pack, job, kind, operand, isStep, isLine}
 use Rattle.model.specs.Text.{tab, newline, isDigit, number, decimal, verb, kindOf, fieldsOf, tabbed}
 use Rattle.model.specs.Text.{packedFrom, fromFields, packedLine, lineText}
 use Rattle.theory.proofs.Tests.{clash, no-some}
-use Rattle.theory.proofs.Line.{pack-parts, kind-small, Fits, ofDo, ofDevice, ofStart, line-parts, pack-line}
+use Rattle.theory.specs.Line.{Fits, ofDo, ofDevice, ofStart}
+use Rattle.theory.proofs.Line.{pack-parts, kind-small, operand-small, line-parts, pack-line}
 use Rattle.theory.proofs.Lists.{Answer, first-answer, has-upFrom}
 use Rattle.theory.proofs.Numbers.{decimal-digits, no-digit, digits-two, digits-three}
 use Rattle.theory.proofs.Numbers.{number-decimal, decimal-number}
@@ -105,19 +106,23 @@ line-ends l = record { body = bodyOf l; clean = clean; whole = line-text l }
 -- ---- how long
 
 -- verb and operand together
-verb-operand : (D : ℕ) → D ≤ 256 → (k o : ℕ) → Fits D k o → length (verb k) + length (decimal o) ≤ 7
+verb-operand : (D k o : ℕ) → o < 256 → Fits D k o → length (verb k) + length (decimal o) ≤ 7
 unfolding verb
-verb-operand D d k o (ofDo e h) = rw e (omega (arith, digits-three o (omega arith)))
-verb-operand D d k o (ofDevice (inl e) h) = rw e (omega (arith, digits-three o (omega arith)))
-verb-operand D d k o (ofDevice (inr e) h) = rw e (omega (arith, digits-three o (omega arith)))
-verb-operand D d k o (ofStart e h g) = rw e (omega (arith, digits-two o (omega arith)))
+verb-operand D k o b (ofDo e h) = rw e (omega (arith, digits-three o (omega arith)))
+verb-operand D k o b (ofDevice (inl e) h) = rw e (omega (arith, digits-three o (omega arith)))
+verb-operand D k o b (ofDevice (inr e) h) = rw e (omega (arith, digits-three o (omega arith)))
+verb-operand D k o b (ofStart e h g) = rw e (omega (arith, digits-two o (omega arith)))
 
-pub line-length : (D : ℕ) → D ≤ 256 → (l : ℕ) → isLine D l ≡ true → length (lineText l) ≤ 12
-line-length D d l h =
+pub line-length : (D l : ℕ) → isLine D l ≡ true → length (lineText l) ≤ 12
+line-length D l h =
     let r = line-parts D l h in
     rw (line-text l)
     (simp length-append
-    (omega (arith, digits-two (job l) (omega (arith, r .1)), verb-operand D d (kind l) (operand l) (r .2))))
+    (omega (
+      arith,
+      digits-two (job l) (omega (arith, r .1)),
+      verb-operand D (kind l) (operand l) (operand-small l) (r .2),
+    )))
 
 -- ---- the text read, and the number written
 

@@ -18,7 +18,7 @@ use Rattle.model.specs.Claims.{successors}
 use Rattle.theory.proofs.Tests.{test, or-split, or-left, or-right, and-split, and-both, le-or-lt}
 use Rattle.theory.proofs.Lists.{has-none, has-head, has-cases, has-left, has-right, has-append, has-suc}
 use Rattle.theory.proofs.Lists.{suc-has}
-use Rattle.theory.proofs.Claims.{Reach, here, step}
+use Rattle.theory.specs.Claims.{Reach, here, step}
 use Rattle.theory.proofs.Line.{start-parts}
 
 -- ---- the first line of a job

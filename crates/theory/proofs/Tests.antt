@@ -24,6 +24,11 @@ pub test : (b : Bool) → (b ≡ true) ⊎ (b ≡ false)
 test true = inl refl
 test false = inr refl
 
+-- what cannot pass fails
+pub falsely : (b : Bool) → (b ≡ true → ⊥) → b ≡ false
+falsely true f = absurd (f refl)
+falsely false f = refl
+
 pub or-split : (a b : Bool) → (a || b) ≡ true → (a ≡ true) ⊎ (b ≡ true)
 or-split true b e = inl refl
 or-split false b e = inr e

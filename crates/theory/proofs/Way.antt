@@ -15,16 +15,12 @@ use Rattle.model.specs.WellFormed.{Rules}
 use Rattle.model.specs.Legal.{precedes}
 use Rattle.model.specs.Claims.{successors}
 use Rattle.model.specs.Move.{wayIn, way}
+pub use Rattle.theory.specs.Move.{Falls, ends, falls}
 use Rattle.theory.proofs.Tests.{clash, test, or-split, or-right, le-or-lt}
 use Rattle.theory.proofs.Lists.{has-none, has-head, has-tail, has-cases}
 use Rattle.theory.proofs.WellFormed.{start-line, any-line}
 use Rattle.theory.proofs.Successors.{Why, sameJob, starter, why, successor-after, jobs-grow}
 use Rattle.theory.proofs.Successors.{earlier-precedes, start-precedes, precedes-reaches}
-
--- numbers that fall, all below n
-pub data Falls : ℕ → List ℕ → Type 0 where
-  ends : (n : ℕ) → Falls n []
-  falls : (n x : ℕ) (xs : List ℕ) → x < n → Falls x xs → Falls n (x ∷ xs)
 
 pub falls-below : (n k : ℕ) (xs : List ℕ) → Falls n xs → has k xs ≡ true → k < n
 falls-below n k xs (ends m) h = has-none k h

@@ -17,12 +17,16 @@ use Rattle.model.specs.Answers.{numberOf, refuseIf, refuseAt, firstRefusal}
 use Rattle.model.specs.Line.{job, operand, isTake, isGive, isStart, starts, isLine, at, lineNumber, hasLines}
 use Rattle.model.specs.Line.{firstLine}
 use Rattle.model.specs.Line.{maxLines, maxJob}
-use Rattle.model.specs.WellFormed.{before, heldBy, isLast, Rules, WellFormed, inSequence, lineFault, firstFault}
+use Rattle.model.specs.WellFormed.{before, isLast, Rules, WellFormed, inSequence, verbFault, lineFault, firstFault}
 use Rattle.model.specs.WellFormed.{emptyStart, neverStarted, fault}
 use Rattle.model.specs.declared.Refusal.{Refusal}
 use Rattle.model.specs.declared.Refusal.the-variants.{Malformed, TooManyLines, JobOutOfSequence, BadStart}
 use Rattle.model.specs.declared.Refusal.the-variants.{NeverStarted, GiveWithoutTake, TakeOfHeld}
-use Rattle.theory.proofs.Tests.{clash, test, or-split, or-left, or-right, and-split, and-both}
+pub use Rattle.theory.specs.WellFormed.{FollowsOn, heldThere, InOrder, BrokenAt, tooMany, malformed}
+pub use Rattle.theory.specs.WellFormed.{outOfSequence, badStart, badGive, takeOfHeld, Broken, atLine, noLines}
+pub use Rattle.theory.specs.WellFormed.{noStart, Sound}
+unfoldable pub use Rattle.theory.specs.WellFormed.{startsEmpty, unstarted}
+use Rattle.theory.proofs.Tests.{clash, falsely, test, or-split, or-left, or-right, and-split, and-both}
 use Rattle.theory.proofs.Tests.{and-second, le-or-lt}
 use Rattle.theory.proofs.Line.{inside, start-parts, start-of, give-no-start, take-no-start, take-no-give}
 use Rattle.theory.proofs.Line.{line-parts}
@@ -75,38 +79,6 @@ line-any f (l ∷ ls) (suc k) h e = or-right (f l) (any f ls) (line-any f ls k (
 
 -- ---- one line
 
--- the job of line i follows on
-abbrev pub FollowsOn : List ℕ → ℕ → Type 0
-FollowsOn p zero = job (at p 0) ≡ 1
-FollowsOn p (suc i) = (job (at p (suc i)) ≡ job (at p i)) ⊎ (job (at p (suc i)) ≡ suc (job (at p i)))
-
--- the devices that the job of line i holds there
-abbrev pub heldThere : List ℕ → ℕ → List ℕ
-heldThere p i = heldBy (job (at p i)) (before p i)
-
--- line i is in order: nothing that is tested at a line is broken there
-pub record InOrder (D : ℕ) (p : List ℕ) (i : ℕ) : Type 0 where
-  pub few : i < maxLines
-  pub line : isLine D (at p i) ≡ true
-  pub followsOn : FollowsOn p i
-  pub start : (j : ℕ) → starts (at p i) j ≡ true → (job (at p i) < j) × ((k : ℕ) → k < i → starts (at p k) j ≡ false)
-  pub give : isGive (at p i) ≡ true → isLast (operand (at p i)) (heldThere p i) ≡ true
-  pub take : isTake (at p i) ≡ true → has (operand (at p i)) (heldThere p i) ≡ false
-
--- what is broken at line i, where what is tested before it is in order
-pub data BrokenAt (D : ℕ) (p : List ℕ) (i : ℕ) : Refusal → Type 0 where
-  tooMany : maxLines ≤ i → BrokenAt D p i TooManyLines
-  malformed : i < maxLines → isLine D (at p i) ≡ false → BrokenAt D p i (Malformed (lineNumber i))
-  outOfSequence : i < maxLines → isLine D (at p i) ≡ true → (FollowsOn p i → ⊥)
-      → BrokenAt D p i (JobOutOfSequence (lineNumber i))
-  badStart : i < maxLines → isLine D (at p i) ≡ true → FollowsOn p i → isStart (at p i) ≡ true
-      → (operand (at p i) ≤ job (at p i)) ⊎ ((k : ℕ) × (k < i) × (starts (at p k) (operand (at p i)) ≡ true))
-      → BrokenAt D p i (BadStart (lineNumber i))
-  badGive : i < maxLines → isLine D (at p i) ≡ true → FollowsOn p i → isGive (at p i) ≡ true
-      → isLast (operand (at p i)) (heldThere p i) ≡ false → BrokenAt D p i (GiveWithoutTake (lineNumber i))
-  takeOfHeld : i < maxLines → isLine D (at p i) ≡ true → FollowsOn p i → isTake (at p i) ≡ true
-      → has (operand (at p i)) (heldThere p i) ≡ true → BrokenAt D p i (TakeOfHeld (lineNumber i))
-
 -- the six tests of a line, by their outcomes
 faultBy : ℕ → Bool → Bool → Bool → Bool → Bool → Bool → Option Refusal
 faultBy n b3 b2 b4 b5 b7 b8 =
@@ -114,9 +86,8 @@ faultBy n b3 b2 b4 b5 b7 b8 =
     (refuseIf b3 TooManyLines
     ∷ refuseIf b2 (Malformed n)
     ∷ refuseIf b4 (JobOutOfSequence n)
-    ∷ refuseIf b5 (BadStart n)
-    ∷ refuseIf b7 (GiveWithoutTake n)
-    ∷ refuseIf b8 (TakeOfHeld n)
+    ∷ firstRefusal
+    (refuseIf b5 (BadStart n) ∷ refuseIf b7 (GiveWithoutTake n) ∷ refuseIf b8 (TakeOfHeld n) ∷ [])
     ∷ [])
 
 follows-on : (p : List ℕ) (i : ℕ) → (inSequence (before p i) (at p i) ≡ true) ↔ FollowsOn p i
@@ -138,11 +109,6 @@ follows-on p (suc i) = (λ h. to (or-split same more h), from)
     from (inl e) = or-left same more (eq-eqb (job (at p (suc i))) (job (at p i)) e)
     from (inr e) = or-right same more (eq-eqb (job (at p (suc i))) (suc (job (at p i))) e)
 
--- a test is true or false: what it says
-falsely : (b : Bool) → (b ≡ true → ⊥) → b ≡ false
-falsely true f = absurd (f refl)
-falsely false f = refl
-
 module _ (D : ℕ) (p : List ℕ) (i : ℕ) where
   -- the start's rule is broken: its test by a name of its own
   startBroken : Bool
@@ -153,7 +119,7 @@ module _ (D : ℕ) (p : List ℕ) (i : ℕ) where
       (isStart (at p i) && startBroken)
       (isGive (at p i) && not (isLast (operand (at p i)) (heldThere p i)))
       (isTake (at p i) && has (operand (at p i)) (heldThere p i))
-  unfolding lineFault faultBy startBroken
+  unfolding lineFault verbFault faultBy startBroken
   fault-is = rw (length-before p i)
 
   start-broken : startBroken ≡ true
@@ -321,29 +287,6 @@ unfolding before
 lines-view D p = scan-view D p (length p) 0 (omega arith)
 
 -- ---- after the last line
-
--- line i starts a job without lines
-unfoldable pub startsEmpty : List ℕ → ℕ → Bool
-startsEmpty p i = isStart (at p i) && not (hasLines p (operand (at p i)))
-
--- job j has lines, is not 1, and no line starts it
-unfoldable pub unstarted : List ℕ → ℕ → Bool
-unstarted p j = hasLines p j && not (eqb j 1) && not (any (λ l. starts l j) p)
-
--- What is broken in a plan, and where.
-pub data Broken (D : ℕ) (p : List ℕ) : Refusal → Type 0 where
-  atLine : (k : ℕ) (r : Refusal) → k < length p → ((j : ℕ) → j < k → InOrder D p j) → BrokenAt D p k r → Broken D p r
-  noLines : (i : ℕ) → ((k : ℕ) → k < length p → InOrder D p k) → i < length p → startsEmpty p i ≡ true
-      → ((k : ℕ) → k < i → startsEmpty p k ≡ false) → Broken D p (BadStart (lineNumber i))
-  noStart : (j : ℕ) → ((k : ℕ) → k < length p → InOrder D p k) → ((k : ℕ) → k < length p → startsEmpty p k ≡ false)
-      → 1 ≤ j → j ≤ maxJob → unstarted p j ≡ true → ((k : ℕ) → 1 ≤ k → k < j → unstarted p k ≡ false)
-      → Broken D p (NeverStarted (lineNumber (headD (firstLine j p) 0)))
-
--- nothing is broken
-pub record Sound (D : ℕ) (p : List ℕ) : Type 0 where
-  pub lines : (k : ℕ) → k < length p → InOrder D p k
-  pub full : (k : ℕ) → k < length p → startsEmpty p k ≡ false
-  pub begun : (j : ℕ) → 1 ≤ j → j ≤ maxJob → unstarted p j ≡ false
 
 pub data FaultView (D : ℕ) (p : List ℕ) : Option Refusal → Type 0 where
   sound : Sound D p → FaultView D p none

@@ -1,3 +1,7 @@
 -- The words that theorems of proofs/ use beside those of `model`, and that their reader has to believe.
+pub mod Line
+pub mod WellFormed
+pub mod Claims
 pub mod Verdict
 pub mod Move
+pub mod Text

@@ -11,11 +11,24 @@ use Rattle.model.specs.Lists.{has}
 use Rattle.model.specs.Answers.{numberOf}
 use Rattle.model.specs.WellFormed.{fault}
 use Rattle.model.specs.Claims.{table}
-use Rattle.model.specs.Move.{edited, way, askedAt, isTakeOf}
-use Rattle.model.specs.Entries.{MoveOutcome, moving, judging}
+use Rattle.model.specs.Move.{edited, way, stale, askedAt, isTakeOf}
+use Rattle.model.specs.Entries.{Outcome, Lent, moving}
 use Rattle.model.specs.declared.Refusal.{Refusal}
 use Rattle.model.specs.declared.Refusal.the-variants.{NotATake, NoSuchDevice}
 use Rattle.model.specs.declared.MoveAnswer.{MoveAnswer}
+
+-- ---- the way
+
+-- numbers that fall, all below n
+pub data Falls : ℕ → List ℕ → Type 0 where
+  ends : (n : ℕ) → Falls n []
+  falls : (n x : ℕ) (xs : List ℕ) → x < n → Falls x xs → Falls n (x ∷ xs)
+
+-- the line at k is the nearest stale one on the way of the line at i, going back
+pub record NearestStale (p t : List ℕ) (i k : ℕ) : Type 0 where
+  pub onWay : has k (way p i) ≡ true
+  pub isStale : stale p t k ≡ true
+  pub nearer : (j : ℕ) → has j (way p i) ≡ true → k < j → stale p t j ≡ false
 
 -- ---- one move
 
@@ -35,26 +48,25 @@ differing (x ∷ xs) (y ∷ ys) = cond (eqb x y) (differing xs ys) (suc (differi
 -- what an accepted move does: the plan is the edited one and has no fault; the sets are its table, worked out afresh,
 -- and the rest of the list; off the way they are what they were; the count is that of the places where the lists
 -- differ
-pub record Accepted (D : ℕ) (p t : List ℕ) (line device : ℕ) (o : MoveOutcome) : Type 0 where
-  pub plan : o .plan ≡ edited p (askedAt line) device
-  pub long : length (o .plan) ≡ length p
-  pub noFault : fault D (o .plan) ≡ none
-  pub afresh : o .sets ≡ table (o .plan) ++ drop (length p) t
-  pub room : length (o .sets) ≡ length t
-  pub verdict : judging D (o .plan) ≡ judging D (edited p (askedAt line) device)
-  pub offWay : (k : ℕ) → has k (way p (askedAt line)) ≡ false → getD (o .sets) k 0 ≡ getD t k 0
-  pub count : o .answer ≡ MoveAnswer.Changed (differing (o .sets) t)
+pub record Accepted (D : ℕ) (p t : List ℕ) (line device : ℕ) (o : Outcome MoveAnswer Lent) : Type 0 where
+  pub plan : o .left .plan ≡ edited p (askedAt line) device
+  pub long : length (o .left .plan) ≡ length p
+  pub noFault : fault D (o .left .plan) ≡ none
+  pub afresh : o .left .sets ≡ table (o .left .plan) ++ drop (length p) t
+  pub room : length (o .left .sets) ≡ length t
+  pub offWay : (k : ℕ) → has k (way p (askedAt line)) ≡ false → getD (o .left .sets) k 0 ≡ getD t k 0
+  pub count : o .answer ≡ MoveAnswer.Changed (differing (o .left .sets) t)
 
 -- what a refused move does: nothing, but for the answer
-pub record Unmoved (D : ℕ) (p t : List ℕ) (line device : ℕ) (o : MoveOutcome) : Type 0 where
+pub record Unmoved (D : ℕ) (p t : List ℕ) (line device : ℕ) (o : Outcome MoveAnswer Lent) : Type 0 where
   pub refusal : Refusal
   pub reason : Refused D p line device refusal
   pub answer : o .answer ≡ MoveAnswer.Refused refusal
-  pub plan : o .plan ≡ p
-  pub sets : o .sets ≡ t
+  pub plan : o .left .plan ≡ p
+  pub sets : o .left .sets ≡ t
 
 -- what any move does
-pub data Step (D : ℕ) (p t : List ℕ) (line device : ℕ) (o : MoveOutcome) : Type 0 where
+pub data Step (D : ℕ) (p t : List ℕ) (line device : ℕ) (o : Outcome MoveAnswer Lent) : Type 0 where
   refused : Unmoved D p t line device o → Step D p t line device o
   accepted : Accepted D p t line device o → Step D p t line device o
 
@@ -65,16 +77,9 @@ pub record Ask : Type 0 where
   pub line : ℕ
   pub device : ℕ
 
--- plan and sets, as they are lent from move to move
-pub record Lent : Type 0 where
-  pub plan : List ℕ
-  pub sets : List ℕ
-
 -- one move, from what is lent to what is lent next
 unfoldable pub moved : ℕ → Lent → Ask → Lent
-moved D s a =
-    let o : MoveOutcome = moving D (s .plan) (s .sets) (a .line) (a .device) in
-    record { plan = o .plan; sets = o .sets }
+moved D s a = moving D (s .plan) (s .sets) (a .line) (a .device) .left
 
 -- one move after the other
 unfoldable pub movedBy : ℕ → Lent → List Ask → Lent

@@ -1,31 +1,39 @@
 -- How many undone lines take a device: one less where such a line is done, and at most one exactly if a line that takes
--- it is the only one. The code's tally has these numbers.
+-- it is the only one. The code's counts are these numbers, and its scarce devices those with at most one.
 use Prim.Native.Nat.{ℕ, zero, suc, _+_, _-_, _<_, _≤_}
 use mathlib.Core.Bool.{Bool, true, false, cond, not, _||_, _&&_}
 use mathlib.Core.List.{List, [], _∷_, _++_}
-use mathlib.Core.Logic.{_⊎_, inl, inr, _≢_}
+use mathlib.Core.Logic.{_⊎_, inl, inr}
 use mathlib.Core.Path.{_≡_, refl, sym, _∙_, ap}
-use native.Mathlib.Numerals.{add-one}
+use native.Mathlib.Nat.{mod-eq-of-lt}
 use native.Mathlib.Omega.{arith}
-use lib.Dec.{eqb, leb}
+use mir.Val.{boolByte}
+use lib.Dec.{eqb, leb, ltb}
 use lib.ListN.{length, getD, set, length-set, getD-replicate}
 use lib.Seq.{getD-set-same, getD-set-other}
-use borrow.Author.Tests.{eqb-true, eqb-false, eq-eqb, ne-eqb, le-leb, lt-leb, leb-true, leb-false, not-true, not-false}
+use borrow.Author.Tests.{eqb-true, eqb-false, eq-eqb, ne-eqb, le-leb, lt-leb, leb-true, lt-ltb, le-ltb, not-true}
 use Rattle.model.specs.Lists.{any, has}
-use Rattle.model.specs.Line.{at}
+use Rattle.model.specs.Sets.{empty, union, member}
+use Rattle.model.specs.Line.{at, isTake, operand, maxLines}
 use Rattle.model.specs.Mate.{takesAt, deviceAt, takes}
 use Rattle.model.specs.Handed.{undone, alone}
 use Rattle.model.specs.WellFormed.{WellFormed}
-use Rattle.model.specs.Sets.{only, union, member}
 use Rattle.model.specs.Board.{devices}
-use Rattle.theory.proofs.Tests.{clash, test, or-right, or-neither, and-split, and-both, and-second, and-left, and-right}
-use Rattle.theory.proofs.Lists.{any-found, any-none, left, left-zero, left-none, left-same, left-one}
-use Rattle.theory.proofs.Sets.{member-union, member-only}
+use Rattle.theory.proofs.Tests.{clash, test, falsely, tests-agree, or-left, or-right, and-split, and-both, and-second}
+use Rattle.theory.proofs.Tests.{and-right, le-or-lt}
+use Rattle.theory.proofs.Lists.{any-none, none-any, left, left-zero, left-none, left-same, left-one, left-all}
+use Rattle.theory.proofs.Sets.{member-union, member-empty}
 use Rattle.theory.proofs.Progress.{has-undone, undone-has, device-below}
-use Rattle.theory.proofs.LineByLine.{more-new, has-other}
+use Rattle.theory.proofs.LineByLine.{more-new, has-other, more-not, not-more}
+use Rattle.line.proofs.Ranges.{or-none}
+use Rattle.sets.proofs.Members.{member-only-if}
 use Rattle.verdict.specs.declared.waiting.Waiting.{Waiting}
-use Rattle.verdict.specs.Waiting.{added, tallied, scarceBelow, counted, settled}
-use Rattle.verdict.proofs.Words.{scarce-below}
+use Rattle.verdict.specs.Waiting.{slot, takesOne, added, tallied, scarceIf, scarceBelow, counted, settled}
+use Rattle.verdict.specs.Waiting.{CanRise, CanFall}
+
+and-true : (b : Bool) → (b && true) ≡ b
+and-true true = refl
+and-true false = refl
 
 -- ---- undone lines that take a device
 
@@ -37,26 +45,33 @@ unfoldable pub wanted : List ℕ → List ℕ → ℕ → ℕ
 unfolding through
 wanted p done d = left (through p done d) (length p)
 
--- a line that takes the device is done
-pub wanted-less : (p done : List ℕ) (x d : ℕ) → x < length p → has x done ≡ false → takes p x d ≡ true
-    → wanted p done d ≡ suc (wanted p (done ++ (x ∷ [])) d)
+-- a line is done: one less where it takes the device
+wanted-step : (p done : List ℕ) (x d : ℕ) → x < length p → has x done ≡ false
+    → wanted p done d ≡ boolByte (takes p x d) + wanted p (done ++ (x ∷ [])) d
 unfolding wanted through
-wanted-less p done x d h e t =
-    left-one (through p done d) (through p (done ++ (x ∷ [])) d) x (rw (e, t)) (rw (more-new x done))
-    (λ k n. ap (λ (b : Bool). b || not (takes p k d)) (has-other k x done n)) (length p) h
-
--- a line that does not take it is done
-pub wanted-kept : (p done : List ℕ) (x d : ℕ) → takes p x d ≡ false
-    → wanted p done d ≡ wanted p (done ++ (x ∷ [])) d
-unfolding wanted through
-wanted-kept p done x d t =
-    left-same (through p done d) (through p (done ++ (x ∷ [])) d) (length p) (λ k h. go k (test (eqb k x)))
+wanted-step p done x d h e = go (takes p x d) refl
   where
-    go : (k : ℕ) → (eqb k x ≡ true) ⊎ (eqb k x ≡ false) → through p done d k ≡ through p (done ++ (x ∷ [])) d k
-    go k (inl q) =
-        let z = eqb-true k x q in
-        rw (z, t, more-new x done) (or-right (has x done) true refl)
-    go k (inr q) = ap (λ (b : Bool). b || not (takes p k d)) (has-other k x done (eqb-false k x q))
+    next : List ℕ
+    next = done ++ (x ∷ [])
+
+    others : (k : ℕ) → (k ≡ x → ⊥) → through p done d k ≡ through p next d k
+    others k n = ap (λ (b : Bool). b || not (takes p k d)) (has-other k x done n)
+
+    kept : takes p x d ≡ false → (k : ℕ) → (eqb k x ≡ true) ⊎ (eqb k x ≡ false)
+        → through p done d k ≡ through p next d k
+    kept t k (inl q) = rw (eqb-true k x q, t, more-new x done) (or-right (has x done) true refl)
+    kept t k (inr q) = others k (eqb-false k x q)
+
+    go : (b : Bool) → takes p x d ≡ b
+        → left (through p done d) (length p) ≡ boolByte b + left (through p next d) (length p)
+    go true t = omega (
+      arith,
+      left-one (through p done d) (through p next d) x (rw (e, t)) (rw (more-new x done)) others (length p) h,
+    )
+    go false t = omega (
+      arith,
+      left-same (through p done d) (through p next d) (length p) (λ k l. kept t k (test (eqb k x))),
+    )
 
 -- a take is one of its own device
 pub takes-own : (p : List ℕ) (i : ℕ) → takesAt p i ≡ true → takes p i (deviceAt p i) ≡ true
@@ -65,225 +80,216 @@ takes-own p i t =
     and-both (takesAt p i) (eqb (deviceAt p i) (deviceAt p i)) t (eq-eqb (deviceAt p i) (deviceAt p i) refl)
 
 module _ (p done : List ℕ) (i : ℕ) (line : i < length p) (un : has i done ≡ false) (take : takesAt p i ≡ true) where
-  abbrev device : ℕ
-  device = deviceAt p i
-
-  -- or is line i itself
-  others : ℕ → Bool
-  others k = through p done device k || eqb k i
-
-  one-and-others : wanted p done device ≡ suc (left others (length p))
-  unfolding wanted through others
-  one-and-others =
-      left-one (through p done device) others i (rw (un, takes-own p i take))
-      (or-right (through p done device i) (eqb i i) (eq-eqb i i refl))
-      (λ k n. rw (ne-eqb k i n) (same (through p done device k))) (length p) line
-    where
-      same : (a : Bool) → a ≡ (a || false)
-      same true = refl
-      same false = refl
-
-  -- another undone line that takes the device
-  another : (k : ℕ) → k < length p → others k ≡ false → (has k done ≡ false) × (takes p k device ≡ true) × (k ≢ i)
-  unfolding others through
-  another k h e =
-      let a = or-neither (through p done device k) (eqb k i) e in
-      let b = or-neither (has k done) (not (takes p k device)) (a .0) in
-      (b .0, not-false (takes p k device) (b .1), eqb-false k i (a .1))
-
+  -- nobody else wants the device of an undone take exactly if at most one undone line takes it
   pub alone-wanted : alone p (undone p done) i ≡ leb (wanted p done (deviceAt p i)) 1
-  unfolding alone others through
-  alone-wanted = go (test (any (λ k. not (eqb k i) && takes p k (deviceAt p i)) (undone p done)))
+  unfolding alone wanted through
+  alone-wanted =
+      rw (wanted-step p done i d line un, takes-own p i take)
+      (tests-agree (not (any wants (undone p done))) (leb (1 + wanted p next d) 1) no-other nobody)
     where
-      go : (any (λ k. not (eqb k i) && takes p k (deviceAt p i)) (undone p done) ≡ true)
-          ⊎ (any (λ k. not (eqb k i) && takes p k (deviceAt p i)) (undone p done) ≡ false)
-          → not (any (λ k. not (eqb k i) && takes p k (deviceAt p i)) (undone p done))
-          ≡ leb (wanted p done (deviceAt p i)) 1
-      go (inl e) = rw e (sym (lt-leb (wanted p done (deviceAt p i)) 1 (more (test (leb (left others (length p)) 0)))))
+      d : ℕ
+      d = deviceAt p i
+
+      next : List ℕ
+      next = done ++ (i ∷ [])
+
+      wants : ℕ → Bool
+      wants k = not (eqb k i) && takes p k d
+
+      no-other : not (any wants (undone p done)) ≡ true → leb (1 + wanted p next d) 1 ≡ true
+      no-other e =
+          le-leb (1 + wanted p next d) 1
+          (omega (arith, left-zero (through p next d) (length p) (λ k h. gone k h (test (has k next)))))
         where
-          r : (k : ℕ) × (has k (undone p done) ≡ true) × ((not (eqb k i) && takes p k (deviceAt p i)) ≡ true)
-          r = any-found (λ k. not (eqb k i) && takes p k (deviceAt p i)) (undone p done) e
+          gone : (k : ℕ) → k < length p → (has k next ≡ true) ⊎ (has k next ≡ false) → through p next d k ≡ true
+          gone k h (inl q) = or-left (has k next) (not (takes p k d)) q
+          gone k h (inr q) =
+              let m = more-not k i done q in
+              or-right (has k next) (not (takes p k d))
+              (rw (and-second (not (eqb k i)) (takes p k d) (rw (ne-eqb k i (m .1)))
+              (any-none wants (undone p done) (not-true (any wants (undone p done)) e) k
+              (undone-has p done k h (m .0)))))
 
-          s : (not (eqb (r .0) i) ≡ true) × (takes p (r .0) (deviceAt p i) ≡ true)
-          s = and-split (not (eqb (r .0) i)) (takes p (r .0) (deviceAt p i)) (r .2)
-
-          not-through : others (r .0) ≡ false
-          not-through =
-              rw (has-undone p done (r .0) (r .1) .1, s .1) (not-true (eqb (r .0) i) (s .0))
-
-          more : (leb (left others (length p)) 0 ≡ true) ⊎ (leb (left others (length p)) 0 ≡ false)
-              → 1 < wanted p done (deviceAt p i)
-          more (inl z) =
-              clash (others (r .0))
-              (left-none others (length p) (leb-true (left others (length p)) 0 z) (r .0)
-              (has-undone p done (r .0) (r .1) .0)) not-through
-          more (inr z) = omega (arith, one-and-others, leb-false (left others (length p)) 0 z)
-      go (inr e) =
-          rw e
-          (sym (le-leb (wanted p done (deviceAt p i)) 1
-          (omega (arith, one-and-others, left-zero others (length p) (λ k h. none k h (test (others k)))))))
+      nobody : leb (1 + wanted p next d) 1 ≡ true → not (any wants (undone p done)) ≡ true
+      nobody e = rw (none-any wants (undone p done) (λ k h. falsely (wants k) (λ a. other k (has-undone p done k h) a)))
         where
-          none : (k : ℕ) → k < length p → (others k ≡ true) ⊎ (others k ≡ false) → others k ≡ true
-          none k h (inl z) = z
-          none k h (inr z) =
-              let a = another k h z in
-              clash (takes p k (deviceAt p i)) (a .1)
-              (and-second (not (eqb k i)) (takes p k (deviceAt p i)) (rw (ne-eqb k i (a .2)))
-              (any-none (λ k. not (eqb k i) && takes p k (deviceAt p i)) (undone p done) e k
-              (undone-has p done k h (a .0))))
+          other : (k : ℕ) → (k < length p) × (has k done ≡ false) → wants k ≡ true → ⊥
+          other k u a =
+              let s = and-split (not (eqb k i)) (takes p k d) a in
+              clash (through p next d k)
+              (left-none (through p next d) (length p) (omega (arith, leb-true (1 + wanted p next d) 1 e)) k (u .0))
+              (rw (not-more k i done (u .1) (eqb-false k i (not-true (eqb k i) (s .0))), s .1))
+
+-- ---- a list of counts, of which one rises or falls by at most one
+
+module _ (xs : List ℕ) (s : ℕ) (h : s < length xs) where
+  at-set : (v d : ℕ) → getD (set xs s v) d 0 ≡ cond (eqb s d) v (getD xs d 0)
+  at-set v d = go (test (eqb s d))
+    where
+      go : (eqb s d ≡ true) ⊎ (eqb s d ≡ false) → getD (set xs s v) d 0 ≡ cond (eqb s d) v (getD xs d 0)
+      go (inl q) = let z = eqb-true s d q in rw (q, ← z) (getD-set-same xs s v 0 h)
+      go (inr q) = rw q (getD-set-other xs s d v 0 (λ y. eqb-false s d q (sym y)))
+
+  risen : (t : Bool) (d : ℕ)
+      → getD (set xs s (getD xs s 0 + boolByte t)) d 0 ≡ boolByte (t && eqb s d) + getD xs d 0
+  risen t d = at-set (getD xs s 0 + boolByte t) d ∙ go t (eqb s d) refl
+    where
+      go : (t b : Bool) → eqb s d ≡ b
+          → cond b (getD xs s 0 + boolByte t) (getD xs d 0) ≡ boolByte (t && b) + getD xs d 0
+      go true true q = let z = eqb-true s d q in rw z (omega arith)
+      go false true q = let z = eqb-true s d q in rw z (omega arith)
+      go true false q = omega arith
+      go false false q = omega arith
+
+  fallen : (t : Bool) → boolByte t ≤ getD xs s 0 → (d : ℕ)
+      → boolByte (t && eqb s d) + getD (set xs s (getD xs s 0 - boolByte t)) d 0 ≡ getD xs d 0
+  fallen t f d = ap (λ (n : ℕ). boolByte (t && eqb s d) + n) (at-set (getD xs s 0 - boolByte t) d) ∙ go t f (eqb s
+      d) refl
+    where
+      go : (t : Bool) → boolByte t ≤ getD xs s 0 → (b : Bool) → eqb s d ≡ b
+          → boolByte (t && b) + cond b (getD xs s 0 - boolByte t) (getD xs d 0) ≡ getD xs d 0
+      go true f true q = let z = eqb-true s d q in rw (← z) (omega arith)
+      go false f true q = let z = eqb-true s d q in rw (← z) (omega arith)
+      go true f false q = omega arith
+      go false f false q = omega arith
 
 -- ---- the code's counts
-
-takes-not : (p : List ℕ) (i d : ℕ) → deviceAt p i ≢ d → takes p i d ≡ false
-unfolding takes
-takes-not p i d n = and-right (takesAt p i) (eqb (deviceAt p i) d) (ne-eqb (deviceAt p i) d n)
-
-no-take : (p : List ℕ) (i d : ℕ) → takesAt p i ≡ false → takes p i d ≡ false
-unfolding takes
-no-take p i d t = and-left (takesAt p i) (eqb (deviceAt p i) d) t
 
 pub tallied-length : (p : List ℕ) (n : ℕ) → length (tallied p n) ≡ devices
 unfolding tallied added
 tallied-length p zero = refl
-tallied-length p (suc n) = go (takesAt p n) (tallied-length p n)
-  where
-    go : (b : Bool) → length (tallied p n) ≡ devices
-        → length (cond b (set (tallied p n) (deviceAt p n) (getD (tallied p n) (deviceAt p n) 0 + 1)) (tallied p n))
-        ≡ devices
-    go false ih = ih
-    go true ih = length-set (tallied p n) (deviceAt p n) (getD (tallied p n) (deviceAt p n) 0 + 1) ∙ ih
+tallied-length p (suc n) = length-set (tallied p n) (slot (at p n)) (getD (tallied p n) (slot (at p n)) 0 + takesOne
+    (at p n))
+    ∙ tallied-length p n
 
 module _ (p : List ℕ) (w : WellFormed devices p) where
+  -- a take's entry is that of its device
+  takes-slot : (k d : ℕ) → (isTake (at p k) && eqb (slot (at p k)) d) ≡ takes p k d
+  unfolding takes takesAt deviceAt
+  takes-slot k d = go (isTake (at p k)) refl
+    where
+      go : (t : Bool) → isTake (at p k) ≡ t → (t && eqb (slot (at p k)) d) ≡ (t && eqb (operand (at p k)) d)
+      go false t = refl
+      go true t =
+          let h = device-below devices p w k (deviceAt p k) (takes-own p k t) in
+          let z : slot (at p k) ≡ operand (at p k) = mod-eq-of-lt h in rw z
+
   pub tallied-takes : (n d : ℕ) → d < devices → getD (tallied p n) d 0 ≡ left (through p [] d) n
   unfolding tallied added left through has any
   tallied-takes zero d h = getD-replicate devices d 0 0 h
   tallied-takes (suc n) d h =
-      go (takesAt p n) refl (test (eqb (deviceAt p n) d)) (tallied-takes n d h) (tallied-takes n (deviceAt p n))
+      risen (tallied p n) (slot (at p n)) (omega (arith, tallied-length p n)) (isTake (at p n)) d
+      ∙ rw (takes-slot n d, tallied-takes n d h) (go (takes p n d) (left (through p [] d) n))
     where
-      t : List ℕ
-      t = tallied p n
+      go : (b : Bool) (l : ℕ) → boolByte b + l ≡ cond (not b) l (suc l)
+      go true l = omega arith
+      go false l = omega arith
 
-      go : (b : Bool) → takesAt p n ≡ b → (eqb (deviceAt p n) d ≡ true) ⊎ (eqb (deviceAt p n) d ≡ false)
-          → getD t d 0 ≡ left (through p [] d) n
-          → (deviceAt p n < devices → getD t (deviceAt p n) 0 ≡ left (through p [] (deviceAt p n)) n)
-          → getD (cond b (set t (deviceAt p n) (getD t (deviceAt p n) 0 + 1)) t) d 0
-          ≡ cond (not (takes p n d)) (left (through p [] d) n) (suc (left (through p [] d) n))
-      go false e q ih own = rw (no-take p n d e) ih
-      go true e (inr q) ih at =
-          rw (takes-not p n d (eqb-false (deviceAt p n) d q))
-          (getD-set-other t (deviceAt p n) d (getD t (deviceAt p n) 0 + 1) 0
-          (λ y. eqb-false (deviceAt p n) d q (sym y))
-          ∙ ih)
-      go true e (inl q) ih at =
-          let z = eqb-true (deviceAt p n) d q in
-          rw (ap (takes p n) (sym z) ∙ takes-own p n e)
-          (ap (λ (x : ℕ). getD (set t x (getD t x 0 + 1)) d 0) z
-          ∙ getD-set-same t d (getD t d 0 + 1) 0 (omega (arith, tallied-length p n, h))
-          ∙ ap (λ (x : ℕ). x + 1) ih ∙ add-one (left (through p [] d) n))
+  pub tallied-small : (n : ℕ) → n ≤ maxLines → CanRise (tallied p n) (at p n)
+  tallied-small n h =
+      omega (
+        arith,
+        tallied-takes n (slot (at p n)) (omega arith),
+        left-all (through p [] (slot (at p n))) n,
+      )
 
-  pub tallied-wanted : (d : ℕ) → d < devices → getD (tallied p (length p)) d 0 ≡ wanted p [] d
+-- ---- the scarce devices
+
+member-scarce : (b : Bool) (d e : ℕ) → e < devices → member (scarceIf b d) e ≡ (b && eqb d e)
+unfolding scarceIf
+member-scarce b d e h = member-only-if devices b d e h
+
+scarce-below : (counts : List ℕ) (n d : ℕ) → d < devices
+    → member (scarceBelow counts n) d ≡ (ltb d n && leb (getD counts d 0) 1)
+unfolding scarceBelow
+scarce-below counts zero d h = member-empty d ∙ sym (rw (le-ltb d 0 (omega arith)))
+scarce-below counts (suc n) d h =
+    member-union (scarceBelow counts n) (scarceIf (few n) n) d
+    ∙ rw (scarce-below counts n d h, member-scarce (few n) n d h) (go (test (eqb n d)) (le-or-lt d n))
+  where
+    few : ℕ → Bool
+    few k = leb (getD counts k 0) 1
+
+    go : (eqb n d ≡ true) ⊎ (eqb n d ≡ false) → (d ≤ n) ⊎ (n < d)
+        → ((ltb d n && few d) || (few n && eqb n d)) ≡ (ltb d (suc n) && few d)
+    go (inl q) o =
+        let z = eqb-true n d q in
+        rw (z, le-ltb d d (omega arith), eq-eqb d d refl, lt-ltb d (suc d) (omega arith)) (and-true (few d))
+    go (inr q) (inl l) =
+        let z = eqb-false n d q in
+        rw (q, lt-ltb d n (omega (arith, z)), lt-ltb d (suc n) (omega arith), and-right (few n) false refl)
+        (or-none (few d))
+    go (inr q) (inr l) = rw (q, le-ltb d n (omega arith), le-ltb d (suc n) (omega arith)) (and-right (few n) false refl)
+
+-- a line is done: its device is scarce now if it was, or if it is a take and at most two lines took it
+scarce-now : (t b : Bool) (c n : ℕ) → (b ≡ true → c ≡ boolByte (t && b) + n)
+    → (leb (boolByte (t && b) + n) 1 || ((t && leb c 2) && b)) ≡ leb n 1
+scarce-now false b c n e = let z : 0 + n ≡ n = omega arith in rw z (or-none (leb n 1))
+scarce-now true false c n e =
+    let z : 0 + n ≡ n = omega arith in rw (z, and-right (leb c 2) false refl) (or-none (leb n 1))
+scarce-now true true c n e = rw (e refl) (go (le-or-lt n 1))
+  where
+    go : (n ≤ 1) ⊎ (1 < n) → (leb (1 + n) 1 || (leb (1 + n) 2 && true)) ≡ leb n 1
+    go (inl h) =
+        rw (le-leb (1 + n) 2 (omega arith), le-leb n 1 h) (or-right (leb (1 + n) 1) true refl)
+    go (inr h) = rw (lt-leb (1 + n) 1 (omega arith), lt-leb (1 + n) 2 (omega arith), lt-leb n 1 h)
+
+-- ---- what the counts and the scarce devices say after the lines done
+
+pub record Counted (p done counts : List ℕ) (scarce : ℕ) : Type 0 where
+  pub long : length counts ≡ devices
+  pub counts-are : (d : ℕ) → d < devices → getD counts d 0 ≡ wanted p done d
+  pub scarce-are : (d : ℕ) → d < devices → member scarce d ≡ leb (wanted p done d) 1
+
+module _ {p : List ℕ} (w : WellFormed devices p) where
+  pub none-counted : Counted p [] (tallied p (length p)) (scarceBelow (tallied p (length p)) devices)
   unfolding wanted
-  tallied-wanted d h = tallied-takes (length p) d h
-
-  -- what the counts and the scarce devices say after the lines done
-  pub record Counted (done counts : List ℕ) (scarce : ℕ) : Type 0 where
-    pub long : length counts ≡ devices
-    pub counts-are : (d : ℕ) → d < devices → getD counts d 0 ≡ wanted p done d
-    pub scarce-are : (d : ℕ) → d < devices → member scarce d ≡ leb (wanted p done d) 1
-
-  pub none-counted : Counted [] (tallied p (length p)) (scarceBelow (tallied p (length p)) devices)
   none-counted = record {
     long = tallied-length p (length p);
-    counts-are = tallied-wanted;
+    counts-are = λ d h. tallied-takes p w (length p) d h;
     scarce-are = λ d h. scarce-below (tallied p (length p)) devices d h
-        ∙ ap (λ (x : ℕ). leb x 1) (tallied-wanted d h);
+        ∙ rw (lt-ltb d devices h, tallied-takes p w (length p) d h);
   }
 
-  -- the count of a take that is to do is not nought
-  pub counts-it : (done counts : List ℕ) (scarce x : ℕ) → Counted done counts scarce → x < length p
-      → has x done ≡ false → takesAt p x ≡ true
-      → (deviceAt p x < devices) × (1 ≤ getD counts (deviceAt p x) 0)
-  counts-it done counts scarce x c l u t =
-      let h = device-below devices p w x (deviceAt p x) (takes-own p x t) in
-      (h, omega (arith, c .counts-are (deviceAt p x) h, wanted-less p done x (deviceAt p x) l u (takes-own p x t)))
+  module _ {done counts : List ℕ} {scarce : ℕ} (c : Counted p done counts scarce) {x : ℕ} (l : x < length p)
+      (u : has x done ≡ false) where
+    abbrev s : ℕ
+    s = slot (at p x)
 
-  pub one-counted : (done counts : List ℕ) (wa : Waiting) (x : ℕ) → Counted done counts (wa .scarce) → x < length p
-      → has x done ≡ false
-      → Counted (done ++ (x ∷ [])) (counted p counts x) (settled p counts wa x .scarce)
-  unfolding counted settled
-  one-counted done counts wa x c l u = go (takesAt p x) refl
-    where
-      dev : ℕ
-      dev = deviceAt p x
+    -- the count of a take that is to do is not nought
+    pub can-fall : CanFall counts (at p x)
+    can-fall =
+        omega (
+          arith,
+          c .counts-are s (omega arith),
+          wanted-step p done x s l u,
+          ap boolByte (takes-slot p w x s),
+          ap (λ (b : Bool). boolByte (isTake (at p x) && b)) (eq-eqb s s refl),
+          ap boolByte (and-true (isTake (at p x))),
+        )
 
-      less : List ℕ
-      less = set counts dev (getD counts dev 0 - 1)
+    before : (d : ℕ) → d < devices
+        → getD counts d 0 ≡ boolByte (isTake (at p x) && eqb s d) + wanted p (done ++ (x ∷ [])) d
+    before d h =
+        c .counts-are d h ∙ wanted-step p done x d l u
+        ∙ ap (λ (b : Bool). boolByte b + wanted p (done ++ (x ∷ [])) d) (sym (takes-slot p w x d))
 
-      next : List ℕ
-      next = done ++ (x ∷ [])
-
-      more : Waiting
-      more = record { ready = wa .ready; standing = wa .standing; scarce = union (wa .scarce) (only dev) }
-
-      below : takesAt p x ≡ true → dev < devices
-      below t = counts-it done counts (wa .scarce) x c l u t .0
-
-      fewer : takesAt p x ≡ true → getD counts dev 0 ≡ suc (wanted p next dev)
-      fewer t = c .counts-are dev (below t) ∙ wanted-less p done x dev l u (takes-own p x t)
-
-      others : (d : ℕ) → (dev ≡ d → ⊥) → wanted p done d ≡ wanted p next d
-      others d n = wanted-kept p done x d (takes-not p x d n)
-
-      counts-now : takesAt p x ≡ true → (d : ℕ) → d < devices → (eqb dev d ≡ true) ⊎ (eqb dev d ≡ false)
-          → getD less d 0 ≡ wanted p next d
-      counts-now t d h (inl q) =
-          let z = eqb-true dev d q in
-          rw (← z)
-          (getD-set-same counts dev (getD counts dev 0 - 1) 0 (omega (arith, c .long, below t))
-          ∙ omega (arith, fewer t))
-      counts-now t d h (inr q) =
-          let n = eqb-false dev d q in
-          getD-set-other counts dev d (getD counts dev 0 - 1) 0 (λ y. n (sym y)) ∙ c .counts-are d h ∙ others d n
-
-      go : (b : Bool) → takesAt p x ≡ b
-          → Counted next (cond b less counts) (cond (b && leb (getD counts dev 0 - 1) 1) more wa .scarce)
-      go false e = record {
-        long = c .long;
-        counts-are = λ d h. c .counts-are d h ∙ wanted-kept p done x d (no-take p x d e);
-        scarce-are = λ d h. c .scarce-are d h
-            ∙ ap (λ (n : ℕ). leb n 1) (wanted-kept p done x d (no-take p x d e));
-      }
-      go true e = record {
-        long = length-set counts dev (getD counts dev 0 - 1) ∙ c .long;
-        counts-are = λ d h. counts-now e d h (test (eqb dev d));
-        scarce-are = λ d h. scarce-now d h (leb (getD counts dev 0 - 1) 1) refl (test (eqb dev d));
-      }
-        where
-          at-dev : leb (getD counts dev 0 - 1) 1 ≡ leb (wanted p next dev) 1
-          at-dev =
-              let z : getD counts dev 0 - 1 ≡ wanted p next dev = omega (arith, fewer e) in
-              ap (λ (n : ℕ). leb n 1) z
-
-          scarce-now : (d : ℕ) → d < devices → (b : Bool) → leb (getD counts dev 0 - 1) 1 ≡ b
-              → (eqb dev d ≡ true) ⊎ (eqb dev d ≡ false)
-              → member (cond b more wa .scarce) d ≡ leb (wanted p next d) 1
-          scarce-now d h true q (inl z) =
-              member-union (wa .scarce) (only dev) d
-              ∙ or-right (member (wa .scarce) d) (member (only dev) d) (member-only dev d ∙ z)
-              ∙ sym q ∙ at-dev ∙ ap (λ (n : ℕ). leb (wanted p next n) 1) (eqb-true dev d z)
-          scarce-now d h true q (inr z) =
-              member-union (wa .scarce) (only dev) d ∙ rw (member-only dev d, z) (same (member (wa .scarce) d))
-              ∙ c .scarce-are d h ∙ ap (λ (n : ℕ). leb n 1) (others d (eqb-false dev d z))
-            where
-              same : (a : Bool) → (a || false) ≡ a
-              same true = refl
-              same false = refl
-          scarce-now d h false q (inl z) =
-              let y = eqb-true dev d z in
-              rw (← y)
-              (c .scarce-are dev (below e)
-              ∙ lt-leb (wanted p done dev) 1
-              (omega (arith, c .counts-are dev (below e), leb-false (getD counts dev 0 - 1) 1 q))
-              ∙ sym q ∙ at-dev)
-          scarce-now d h false q (inr z) =
-              c .scarce-are d h ∙ ap (λ (n : ℕ). leb n 1) (others d (eqb-false dev d z))
+    pub one-counted : (wa : Waiting) → wa .scarce ≡ scarce
+        → Counted p (done ++ (x ∷ [])) (counted counts (at p x)) (settled counts wa (at p x) .scarce)
+    unfolding counted settled
+    one-counted wa e = record {
+      long = length-set counts s (getD counts s 0 - takesOne (at p x)) ∙ c .long;
+      counts-are = λ d h. omega (
+        arith,
+        before d h,
+        fallen counts s (omega (arith, c .long)) (isTake (at p x)) can-fall d,
+      );
+      scarce-are = λ d h. member-union (wa .scarce) (scarceIf (isTake (at p x) && leb (getD counts s 0) 2) s) d
+          ∙ rw (
+            ap (λ (n : ℕ). member n d) e ∙ c .scarce-are d h ∙ ap (λ (n : ℕ). leb n 1) (sym (c .counts-are d h) ∙
+                before d h),
+            member-scarce (isTake (at p x) && leb (getD counts s 0) 2) s d h,
+          )
+          (scarce-now (isTake (at p x)) (eqb s d) (getD counts s 0) (wanted p (done ++ (x ∷ [])) d)
+          (λ q. ap (λ (n : ℕ). getD counts n 0) (eqb-true s d q) ∙ before d h));
+    }

@@ -1,25 +1,24 @@
 -- Which lines wait, and at which places: what the sets and the list show when lines come and go, where no two of the
 -- lines that wait have one place.
-use Prim.Native.Nat.{ℕ, _-_, _<_}
-use mathlib.Core.Bool.{Bool, true, false, cond, not, _&&_}
-use mathlib.Core.List.{List, [], _∷_}
+use Prim.Native.Nat.{ℕ, _-_, _<_, _≤_}
+use mathlib.Core.Bool.{Bool, true, false, cond, not}
+use mathlib.Core.List.{List}
 use mathlib.Core.Logic.{_⊎_, inl, inr, _≢_}
 use mathlib.Core.Path.{_≡_, refl, sym, _∙_, ap}
 use native.Mathlib.Omega.{arith}
-use lib.Dec.{eqb, leb, ltb}
+use lib.Dec.{eqb, ltb}
 use lib.ListN.{length, getD, set, length-set}
 use lib.Seq.{getD-set-same, getD-set-other}
-use borrow.Author.Tests.{eqb-true, eqb-false, ne-eqb, eq-eqb, not-true}
-use Rattle.model.specs.Lists.{has}
-use Rattle.model.specs.Sets.{only, union}
+use borrow.Author.Tests.{eqb-true, eqb-false, ne-eqb, eq-eqb, ltb-true, ltb-false, not-true}
+use Rattle.model.specs.Sets.{union}
 use Rattle.model.specs.Line.{maxJob}
-use Rattle.model.specs.Mate.{takesAt, deviceAt}
+use Rattle.model.specs.Board.{devices}
 use Rattle.theory.proofs.Tests.{test, or-split, or-left, or-right, and-split, and-both}
-use Rattle.theory.proofs.Lists.{has-none, has-head, has-tail, has-cases}
+use Rattle.sets.specs.Only.{onlyOf}
+use Rattle.sets.specs.Both.{without}
 use Rattle.verdict.specs.declared.waiting.Waiting.{Waiting}
-use Rattle.verdict.specs.Waiting.{allPlaces, placeAt, without, waits, withSet, taken, vacated, taking, placing}
-use Rattle.verdict.specs.Waiting.{settled}
-use Rattle.verdict.proofs.Words.{waits-taken, waits-vacated}
+use Rattle.verdict.specs.Waiting.{allPlaces, placeAt, waits, withSet, taken, vacated, arrived, placed, settled}
+use Rattle.verdict.proofs.Foremost.{waits-taken, waits-vacated}
 
 -- the lines of which S holds wait at their places, and no place else is taken
 pub record Shows (p : List ℕ) (S : ℕ → Type 0) (places : List ℕ) (w : Waiting) : Type 0 where
@@ -27,116 +26,108 @@ pub record Shows (p : List ℕ) (S : ℕ → Type 0) (places : List ℕ) (w : Wa
   pub there : (i : ℕ) → S i → (waits w (placeAt p i) ≡ true) × (getD places (placeAt p i) 0 ≡ i)
   pub only : (s : ℕ) → s < allPlaces → waits w s ≡ true → (i : ℕ) × S i × (placeAt p i ≡ s)
 
-pub shows-same : (p : List ℕ) (S T : ℕ → Type 0) (places : List ℕ) (w : Waiting) → Shows p S places w
+-- line i is line t, and t is a line
+abbrev pub Comes : List ℕ → ℕ → ℕ → Type 0
+Comes p t i = (i ≡ t) × (t < length p)
+
+pub shows-same : {p : List ℕ} {S T : ℕ → Type 0} {places : List ℕ} {w : Waiting} → Shows p S places w
     → ((i : ℕ) → T i → S i) → ((i : ℕ) → S i → T i) → Shows p T places w
-shows-same p S T places w h f g = record {
+shows-same h f g = record {
   long = h .long;
   there = λ i t. h .there i (f i t);
   only = λ s l e. (let r = h .only s l e in (r .0, g (r .0) (r .1), r .2));
 }
 
-module _ (p : List ℕ) (T : ℕ → Type 0) (below : (i : ℕ) → T i → placeAt p i < allPlaces)
+module _ {p : List ℕ} {T : ℕ → Type 0} (below : (i : ℕ) → T i → placeAt p i < allPlaces)
     (apart : (i k : ℕ) → T i → T k → placeAt p i ≡ placeAt p k → i ≡ k) where
   -- a line comes
-  comes : (S : ℕ → Type 0) (places : List ℕ) (w : Waiting) (t : ℕ) → ((i : ℕ) → S i → T i) → T t
-      → Shows p S places w
+  comes : {S : ℕ → Type 0} {places : List ℕ} {w : Waiting} (t : ℕ) → ((i : ℕ) → S i → T i) → T t → Shows p S places w
       → Shows p (λ i. S i ⊎ (i ≡ t)) (set places (placeAt p t) t) (taken w (placeAt p t))
-  comes S places w t f at h = record {
-    long = length-set places (placeAt p t) t ∙ h .long;
-    there = λ i. waiting i;
-    only = λ s l e. who s l (or-split (waits w s) (eqb (placeAt p t) s) (sym (waits-taken w (placeAt p t) s) ∙ e));
+  comes {S} {places} {w} t f at h = record {
+    long = length-set places s t ∙ h .long;
+    there = waiting;
+    only = λ o l e. who o l (or-split (waits w o) (eqb s o) (sym (waits-taken w s o l) ∙ e));
   }
     where
-      here : placeAt p t < length places
+      s : ℕ
+      s = placeAt p t
+
+      here : s < length places
       here = omega (arith, below t at, h .long)
 
-      old : (i : ℕ) → S i → (eqb (placeAt p t) (placeAt p i) ≡ true) ⊎ (eqb (placeAt p t) (placeAt p i) ≡ false)
-          → getD (set places (placeAt p t) t) (placeAt p i) 0 ≡ i
-      old i s (inl q) =
-          let z = eqb-true (placeAt p t) (placeAt p i) q in
-          rw (← z) (getD-set-same places (placeAt p t) t 0 here ∙ apart t i at (f i s) z)
-      old i s (inr q) =
-          getD-set-other places (placeAt p t) (placeAt p i) t 0
-          (λ y. eqb-false (placeAt p t) (placeAt p i) q (sym y))
-          ∙ h .there i s .1
+      old : (i : ℕ) → S i → (eqb s (placeAt p i) ≡ true) ⊎ (eqb s (placeAt p i) ≡ false)
+          → getD (set places s t) (placeAt p i) 0 ≡ i
+      old i m (inl q) =
+          let z = eqb-true s (placeAt p i) q in
+          rw (← z) (getD-set-same places s t 0 here ∙ apart t i at (f i m) z)
+      old i m (inr q) =
+          getD-set-other places s (placeAt p i) t 0 (λ y. eqb-false s (placeAt p i) q (sym y)) ∙ h .there i m .1
 
       waiting : (i : ℕ) → S i ⊎ (i ≡ t)
-          → (waits (taken w (placeAt p t)) (placeAt p i) ≡ true)
-          × (getD (set places (placeAt p t) t) (placeAt p i) 0 ≡ i)
-      waiting i (inl s) = (
-        waits-taken w (placeAt p t) (placeAt p i)
-            ∙ or-left (waits w (placeAt p i)) (eqb (placeAt p t) (placeAt p i)) (h .there i s .0),
-        old i s (test (eqb (placeAt p t) (placeAt p i))),
+          → (waits (taken w s) (placeAt p i) ≡ true) × (getD (set places s t) (placeAt p i) 0 ≡ i)
+      waiting i (inl m) = (
+        waits-taken w s (placeAt p i) (below i (f i m))
+            ∙ or-left (waits w (placeAt p i)) (eqb s (placeAt p i)) (h .there i m .0),
+        old i m (test (eqb s (placeAt p i))),
       )
       waiting i (inr q) = rw q (
-        waits-taken w (placeAt p t) (placeAt p t)
-            ∙ or-right (waits w (placeAt p t)) (eqb (placeAt p t) (placeAt p t))
-            (eq-eqb (placeAt p t) (placeAt p t) refl),
-        getD-set-same places (placeAt p t) t 0 here,
+        waits-taken w s s (below t at) ∙ or-right (waits w s) (eqb s s) (eq-eqb s s refl),
+        getD-set-same places s t 0 here,
       )
 
-      who : (s : ℕ) → s < allPlaces → (waits w s ≡ true) ⊎ (eqb (placeAt p t) s ≡ true)
-          → (i : ℕ) × (S i ⊎ (i ≡ t)) × (placeAt p i ≡ s)
-      who s l (inl e) = let r = h .only s l e in (r .0, inl (r .1), r .2)
-      who s l (inr e) = (t, inr refl, eqb-true (placeAt p t) s e)
+      who : (o : ℕ) → o < allPlaces → (waits w o ≡ true) ⊎ (eqb s o ≡ true)
+          → (i : ℕ) × (S i ⊎ (i ≡ t)) × (placeAt p i ≡ o)
+      who o l (inl e) = let r = h .only o l e in (r .0, inl (r .1), r .2)
+      who o l (inr e) = (t, inr refl, eqb-true s o e)
 
-  -- some lines come
-  pub come : (ts : List ℕ) (S : ℕ → Type 0) (places : List ℕ) (w : Waiting) → ((i : ℕ) → S i → T i)
-      → ((i : ℕ) → has i ts ≡ true → T i) → Shows p S places w
-      → Shows p (λ i. S i ⊎ (has i ts ≡ true)) (placing p places ts) (taking p w ts)
-  unfolding placing taking
-  come [] S places w f g h =
-      shows-same p S (λ i. S i ⊎ (has i [] ≡ true)) places w h (λ i e. back i e) (λ i s. inl s)
+  -- it comes if it is one of the plan
+  pub comes-if : {S : ℕ → Type 0} {places : List ℕ} {w : Waiting} (t : ℕ) → ((i : ℕ) → S i → T i)
+      → (t < length p → T t) → Shows p S places w
+      → Shows p (λ i. S i ⊎ Comes p t i) (placed p places t) (arrived p w t)
+  unfolding placed arrived
+  comes-if {S} {places} {w} t f g h = go (ltb t (length p)) refl
     where
-      back : (i : ℕ) → S i ⊎ (has i [] ≡ true) → S i
-      back i (inl s) = s
-      back i (inr m) = has-none i m
-  come (t ∷ ts) S places w f g h =
-      shows-same p (λ i. (S i ⊎ (i ≡ t)) ⊎ (has i ts ≡ true)) (λ i. S i ⊎ (has i (t ∷ ts) ≡ true))
-      (placing p places (t ∷ ts)) (taking p w (t ∷ ts))
-      (come ts (λ i. S i ⊎ (i ≡ t)) (set places (placeAt p t) t) (taken w (placeAt p t)) (λ i s. of i s)
-      (λ i m. g i (has-tail i t ts m)) (comes S places w t f (g t (has-head t ts)) h))
-      (λ i s. into i s) (λ i s. from i s)
+      into : (i : ℕ) → S i ⊎ Comes p t i → S i ⊎ (i ≡ t)
+      into i (inl s) = inl s
+      into i (inr c) = inr (c .0)
+
+      from : t < length p → (i : ℕ) → S i ⊎ (i ≡ t) → S i ⊎ Comes p t i
+      from l i (inl s) = inl s
+      from l i (inr q) = inr (q, l)
+
+      back : length p ≤ t → (i : ℕ) → S i ⊎ Comes p t i → S i
+      back l i (inl s) = s
+      back l i (inr c) = absurd (omega (arith, c .1))
+
+      go : (b : Bool) → ltb t (length p) ≡ b
+          → Shows p (λ i. S i ⊎ Comes p t i) (cond b (set places (placeAt p t) t) places)
+          (cond b (taken w (placeAt p t)) w)
+      go true q = let l = ltb-true t (length p) q in shows-same (comes t f (g l) h) into (from l)
+      go false q = shows-same h (back (ltb-false t (length p) q)) (λ i s. inl s)
+
+  -- a line goes
+  pub goes-off : {places : List ℕ} {w : Waiting} (x : ℕ) → T x → Shows p T places w
+      → Shows p (λ i. T i × (i ≢ x)) places (vacated w (placeAt p x))
+  goes-off {places} {w} x at h = record {
+    long = h .long;
+    there = λ i m. (
+      waits-vacated w s (placeAt p i) (below i (m .0))
+          ∙ and-both (waits w (placeAt p i)) (not (eqb s (placeAt p i))) (h .there i (m .0) .0)
+          (rw (ne-eqb s (placeAt p i) (λ q. m .1 (apart i x (m .0) at (sym q))))),
+      h .there i (m .0) .1,
+    );
+    only = λ o l e. stays o l (and-split (waits w o) (not (eqb s o)) (sym (waits-vacated w s o l) ∙ e));
+  }
     where
-      of : (i : ℕ) → S i ⊎ (i ≡ t) → T i
-      of i (inl s) = f i s
-      of i (inr q) = rw q (g t (has-head t ts))
+      s : ℕ
+      s = placeAt p x
 
-      listed : (i : ℕ) → (i ≡ t) ⊎ (has i ts ≡ true) → (S i ⊎ (i ≡ t)) ⊎ (has i ts ≡ true)
-      listed i (inl q) = inl (inr q)
-      listed i (inr m) = inr m
-
-      into : (i : ℕ) → S i ⊎ (has i (t ∷ ts) ≡ true) → (S i ⊎ (i ≡ t)) ⊎ (has i ts ≡ true)
-      into i (inl s) = inl (inl s)
-      into i (inr m) = listed i (has-cases i t ts m)
-
-      from : (i : ℕ) → (S i ⊎ (i ≡ t)) ⊎ (has i ts ≡ true) → S i ⊎ (has i (t ∷ ts) ≡ true)
-      from i (inl (inl s)) = inl s
-      from i (inl (inr q)) = inr (rw q (has-head t ts))
-      from i (inr m) = inr (has-tail i t ts m)
-
--- a line goes
-pub goes-off : (p : List ℕ) (S : ℕ → Type 0) (places : List ℕ) (w : Waiting) (x : ℕ)
-    → ((i : ℕ) → S i → placeAt p i ≡ placeAt p x → i ≡ x) → S x → Shows p S places w
-    → Shows p (λ i. S i × (i ≢ x)) places (vacated w (placeAt p x))
-goes-off p S places w x apart at h = record {
-  long = h .long;
-  there = λ i s. (
-    waits-vacated w (placeAt p x) (placeAt p i) (h .there x at .0)
-        ∙ and-both (waits w (placeAt p i)) (not (eqb (placeAt p x) (placeAt p i))) (h .there i (s .0) .0)
-        (rw (ne-eqb (placeAt p x) (placeAt p i) (λ q. s .1 (apart i (s .0) (sym q))))),
-    h .there i (s .0) .1,
-  );
-  only = λ s l e. stays s l (and-split (waits w s) (not (eqb (placeAt p x) s))
-      (sym (waits-vacated w (placeAt p x) s (h .there x at .0)) ∙ e));
-}
-  where
-    stays : (s : ℕ) → s < allPlaces → (waits w s ≡ true) × (not (eqb (placeAt p x) s) ≡ true)
-        → (i : ℕ) × (S i × (i ≢ x)) × (placeAt p i ≡ s)
-    stays s l e =
-        let r = h .only s l (e .0) in
-        let n = eqb-false (placeAt p x) s (not-true (eqb (placeAt p x) s) (e .1)) in
-        (r .0, (r .1, λ q. n (ap (placeAt p) (sym q) ∙ r .2)), r .2)
+      stays : (o : ℕ) → o < allPlaces → (waits w o ≡ true) × (not (eqb s o) ≡ true)
+          → (i : ℕ) × (T i × (i ≢ x)) × (placeAt p i ≡ o)
+      stays o l e =
+          let r = h .only o l (e .0) in
+          let n = eqb-false s o (not-true (eqb s o) (e .1)) in
+          (r .0, (r .1, λ q. n (ap (placeAt p) (sym q) ∙ r .2)), r .2)
 
 -- ---- the scarce devices are beside the places
 
@@ -145,8 +136,10 @@ unfolding withSet
 scarce-changed f w s = go (ltb s maxJob)
   where
     go : (b : Bool)
-        → cond {A = Waiting} b (record { ready = f (w .ready) s; standing = w .standing; scarce = w .scarce })
-        (record { ready = w .ready; standing = f (w .standing) (s - maxJob); scarce = w .scarce }) .scarce
+        → cond {A = Waiting} b
+        (record { ready = f (w .ready) (onlyOf maxJob s); standing = w .standing; scarce = w .scarce })
+        (record { ready = w .ready; standing = f (w .standing) (onlyOf devices (s - maxJob)); scarce = w .scarce })
+        .scarce
         ≡ w .scarce
     go true = refl
     go false = refl
@@ -155,24 +148,15 @@ pub scarce-vacated : (w : Waiting) (s : ℕ) → vacated w s .scarce ≡ w .scar
 unfolding vacated
 scarce-vacated w s = scarce-changed without w s
 
-pub scarce-taking : (p : List ℕ) (w : Waiting) (ts : List ℕ) → taking p w ts .scarce ≡ w .scarce
-unfolding taking taken
-scarce-taking p w [] = refl
-scarce-taking p w (t ∷ ts) =
-    scarce-taking p (taken w (placeAt p t)) ts ∙ scarce-changed (λ t d. union t (only d)) w (placeAt p t)
-
-pub shows-settled : (p counts : List ℕ) (S : ℕ → Type 0) (places : List ℕ) (w : Waiting) (x : ℕ)
-    → Shows p S places w → Shows p S places (settled p counts w x)
-unfolding settled waits
-shows-settled p counts S places w x h = go (takesAt p x && leb (getD counts (deviceAt p x) 0 - 1) 1)
+pub scarce-arrived : (p : List ℕ) (w : Waiting) (t : ℕ) → arrived p w t .scarce ≡ w .scarce
+unfolding arrived taken
+scarce-arrived p w t = go (ltb t (length p))
   where
-    go : (b : Bool)
-        → Shows p S places
-        (cond b (record {
-          ready = w .ready;
-          standing = w .standing;
-          scarce =
-              union (w .scarce) (only (deviceAt p x));
-        }) w)
-    go false = h
-    go true = record { long = h .long; there = h .there; only = h .only }
+    go : (b : Bool) → cond {A = Waiting} b (taken w (placeAt p t)) w .scarce ≡ w .scarce
+    go true = scarce-changed union w (placeAt p t)
+    go false = refl
+
+pub shows-settled : (counts : List ℕ) (l : ℕ) {p : List ℕ} {S : ℕ → Type 0} {places : List ℕ} {w : Waiting}
+    → Shows p S places w → Shows p S places (settled counts w l)
+unfolding settled waits
+shows-settled counts l h = record { long = h .long; there = h .there; only = h .only }

@@ -3,36 +3,72 @@
 -- two lasting takes. If the job goes on, its next line is the lowest that can go on, and all the others are at their
 -- places.
 use Prim.Native.Nat.{ℕ, suc, _+_, _-_, _<_, _≤_}
-use mathlib.Core.Bool.{Bool, true, false, cond, not}
+use mathlib.Core.Bool.{Bool, true, false, cond, not, _&&_}
 use mathlib.Core.List.{List, [], _∷_, _++_, map}
 use mathlib.Core.Logic.{_⊎_, inl, inr, _≢_}
 use mathlib.Core.Path.{_≡_, refl, sym, _∙_, ap}
 use native.Mathlib.Omega.{arith}
-use lib.Dec.{eqb}
-use lib.ListN.{length}
-use borrow.Author.Tests.{eqb-true, eqb-false, eq-eqb, ne-eqb, not-true}
-use Rattle.model.specs.Lists.{has, those}
-use Rattle.model.specs.Line.{job, operand, isStart, starts, at, firstLine, maxJob}
+use lib.Dec.{eqb, ltb}
+use lib.ListN.{length, getD}
+use borrow.Author.Tests.{eqb-true, eqb-false, eq-eqb, ltb-true, lt-ltb, not-true}
+use Rattle.model.specs.Lists.{has}
+use Rattle.model.specs.Line.{job, kind, operand, isStart, starts, at, hasLines, firstLine, lineNumber, maxJob}
 use Rattle.model.specs.Mate.{deviceAt, lastingAt}
 use Rattle.model.specs.WellFormed.{WellFormed}
 use Rattle.model.specs.Legal.{precedes}
 use Rattle.model.specs.Board.{devices}
-use Rattle.theory.proofs.Tests.{clash, test, le-or-lt}
-use Rattle.theory.proofs.Lists.{has-none, has-head, has-cases, has-suc, any-found, any-at, has-those, those-has}
-use Rattle.theory.proofs.Line.{inside, start-parts, start-of, line-parts}
-use Rattle.theory.proofs.WellFormed.{any-line}
+use Rattle.theory.proofs.Tests.{clash, test, falsely, and-split, and-both, le-or-lt}
+use Rattle.theory.proofs.Lists.{has-none, has-cases, has-suc}
+use Rattle.theory.proofs.Line.{start-parts, start-of, start-operand, line-parts}
+use Rattle.theory.proofs.WellFormed.{any-line, start-line}
 use Rattle.theory.proofs.Successors.{first-is, first-at, earlier-precedes, start-precedes, Why, sameJob, starter, why}
 use Rattle.theory.proofs.Successors.{jobs-grow, precedes-reaches}
 use Rattle.theory.specs.Verdict.{LastsTwice}
 use Rattle.theory.proofs.Places.{lasting-parts}
 use Rattle.theory.proofs.Progress.{lasting-own, device-below}
 use Rattle.theory.proofs.LineByLine.{Stands, LowestIs, stood, more-old, more-only, more-not, not-more}
-use Rattle.verdict.specs.Waiting.{allPlaces, placeAt, nextInJob, goesOn, lastingAfter, startedLine}
+use Rattle.plan.specs.Jobs.{firstLines, numberOfFirst}
+use Rattle.rows.proofs.Filled.{entry-of}
+use Rattle.verdict.specs.Waiting.{allPlaces, placeAt, followed, goesOn, lastingAfter, startedLine}
+use Rattle.verdict.proofs.Places.{Comes}
+
+-- ---- the lines that a line lets stand next
+
+pub followed-parts : (p : List ℕ) (x : ℕ) → followed p x ≡ true
+    → (suc x < length p) × (job (at p (suc x)) ≡ job (at p x))
+unfolding followed
+followed-parts p x e =
+    let r = and-split (ltb (suc x) (length p)) (eqb (job (at p (suc x))) (job (at p x))) e in
+    (ltb-true (suc x) (length p) (r .0), eqb-true (job (at p (suc x))) (job (at p x)) (r .1))
+
+-- the line at which a job goes on
+pub goes-at : (p : List ℕ) (x : ℕ) → goesOn p x ≡ true → (followed p x ≡ true) × (lastingAt p (suc x) ≡ false)
+unfolding goesOn
+goes-at p x e =
+    let r = and-split (followed p x) (not (lastingAt p (suc x))) e in (r .0, not-true (lastingAt p (suc x)) (r .1))
+
+-- the lasting take that comes
+lasting-at : (p : List ℕ) (x : ℕ) → lastingAfter p x < length p
+    → (lastingAfter p x ≡ suc x) × (followed p x ≡ true) × (lastingAt p (suc x) ≡ true)
+unfolding lastingAfter
+lasting-at p x h = go (followed p x && lastingAt p (suc x)) refl h
+  where
+    go : (b : Bool) → (followed p x && lastingAt p (suc x)) ≡ b → cond b (suc x) (length p) < length p
+        → (cond b (suc x) (length p) ≡ suc x) × (followed p x ≡ true) × (lastingAt p (suc x) ≡ true)
+    go true e l = let r = and-split (followed p x) (lastingAt p (suc x)) e in (refl, r .0, r .1)
+    go false e l = absurd (omega arith)
 
 -- ---- the first line of a job
 
+has-one : (i x : ℕ) → has i (x ∷ []) ≡ true → i ≡ x
+has-one i x h = go (has-cases i x [] h)
+  where
+    go : (i ≡ x) ⊎ (has i [] ≡ true) → i ≡ x
+    go (inl e) = e
+    go (inr m) = has-none i m
+
 -- there is at most one
-pub first-one : (j : ℕ) (ls : List ℕ) (f : ℕ) → has f (firstLine j ls) ≡ true → firstLine j ls ≡ f ∷ []
+first-one : (j : ℕ) (ls : List ℕ) (f : ℕ) → has f (firstLine j ls) ≡ true → firstLine j ls ≡ f ∷ []
 unfolding firstLine
 first-one j [] f h = has-none f h
 first-one j (l ∷ ls) f h = go (eqb (job l) j) h (λ g. first-one j ls g)
@@ -40,24 +76,74 @@ first-one j (l ∷ ls) f h = go (eqb (job l) j) h (λ g. first-one j ls g)
     go : (b : Bool) → has f (elim b [ true ↦ 0 ∷ [] | false ↦ map suc (firstLine j ls) ]) ≡ true
         → ((g : ℕ) → has g (firstLine j ls) ≡ true → firstLine j ls ≡ g ∷ [])
         → elim b [ true ↦ 0 ∷ [] | false ↦ map suc (firstLine j ls) ] ≡ f ∷ []
-    go true h ih = zeroth (has-cases f 0 [] h)
-      where
-        zeroth : (f ≡ 0) ⊎ (has f [] ≡ true) → 0 ∷ [] ≡ f ∷ []
-        zeroth (inl e) = rw e
-        zeroth (inr m) = has-none f m
+    go true h ih = rw (has-one f 0 h)
     go false h ih = let r = has-suc f (firstLine j ls) h in rw (r .1) (ap (map suc) (ih (r .0) (r .2)))
 
--- and no line of the job stands above it
-pub first-above : (j : ℕ) (ls : List ℕ) (f k : ℕ) → has f (firstLine j ls) ≡ true → k < length ls → job (at ls k) ≡ j
-    → f ≤ k
-first-above j ls f k h l e = go (first-at j ls k l e)
-  where
-    one : (g : ℕ) → g ≤ k → (g ≡ f) ⊎ (has g [] ≡ true) → f ≤ k
-    one g le (inl q) = omega arith
-    one g le (inr m) = has-none g m
+-- line x starts the job of line i, which is its first line
+pub record Begun (p : List ℕ) (x i : ℕ) : Type 0 where
+  pub line : i < length p
+  pub start : starts (at p x) (job (at p i)) ≡ true
+  pub lowest : (k : ℕ) → k < length p → job (at p k) ≡ job (at p i) → i ≤ k
 
-    go : (g : ℕ) × (has g (firstLine j ls) ≡ true) × (g ≤ k) → f ≤ k
-    go r = one (r .0) (r .2) (has-cases (r .0) f [] (rw (first-one j ls f h) at (r .1)))
+-- what the list of first lines says of a start
+pub record Starts (p : List ℕ) (x : ℕ) : Type 0 where
+  pub aJob : operand (at p x) ≤ maxJob
+  pub listed : getD (firstLines p) (operand (at p x)) 0 ≡ suc (startedLine p x)
+  pub begun : Begun p x (startedLine p x)
+
+pub the-start : {p : List ℕ} → WellFormed devices p → (x : ℕ) → isStart (at p x) ≡ true → Starts p x
+unfolding startedLine firstLines numberOfFirst lineNumber isStart hasLines
+the-start {p} w x e = go (first-at j p (k .0) (k .1) (eqb-true (job (at p (k .0))) j (k .2)))
+  where
+    j : ℕ
+    j = operand (at p x)
+
+    s : starts (at p x) j ≡ true
+    s = start-of (at p x) e
+
+    k : (k : ℕ) × (k < length p) × (eqb (job (at p k)) j ≡ true)
+    k = any-line (λ l. eqb (job l) j) p (w .rules .startHasLines x j s)
+
+    small : j ≤ maxJob
+    small = start-operand devices (at p x) (w .lines x (start-line p x j s)) (eqb-true (kind (at p x)) 3 e)
+
+    go : (f : ℕ) × (has f (firstLine j p) ≡ true) × (f ≤ k .0) → Starts p x
+    go r =
+        let f = r .0 in
+        let one = first-one j p f (r .1) in
+        let its = first-is j p f (r .1) in
+        let number : getD (firstLines p) j 0 ≡ suc f =
+        entry-of (λ j. numberOfFirst (firstLine j p)) 0 (suc maxJob) j (omega (arith, small)) ∙ ap numberOfFirst one in
+        let z : startedLine p x ≡ f = rw (e, number) (omega arith) in record {
+          aJob = small;
+          listed = rw z number;
+          begun = rw z (record {
+            line = its .0;
+            start = rw (its .1) s;
+            lowest = λ i l q. (
+                let b = first-at j p i l (q ∙ its .1) in
+                let y = has-one (b .0) f (rw one at (b .1)) in omega (arith, b .2));
+          });
+        }
+
+started-at : {p : List ℕ} → WellFormed devices p → (x : ℕ) → startedLine p x < length p → Begun p x (startedLine p x)
+unfolding startedLine
+started-at {p} w x h = go (test (isStart (at p x)))
+  where
+    go : (isStart (at p x) ≡ true) ⊎ (isStart (at p x) ≡ false) → Begun p x (startedLine p x)
+    go (inl e) = the-start w x e .begun
+    go (inr e) = absurd (omega (arith, rw e at h))
+
+-- ---- places
+
+module _ (p : List ℕ) (i : ℕ) where
+  pub place-lasting : lastingAt p i ≡ true → placeAt p i ≡ maxJob + deviceAt p i
+  unfolding placeAt deviceAt
+  place-lasting e = rw e
+
+  pub place-job : lastingAt p i ≡ false → placeAt p i ≡ job (at p i) - 1
+  unfolding placeAt
+  place-job e = rw e
 
 -- whatever has to come before a line done is done
 abbrev pub Closed : List ℕ → List ℕ → Type 0
@@ -67,77 +153,73 @@ Closed p done = (k i : ℕ) → k < length p → has i done ≡ true → precede
 abbrev pub Beside : List ℕ → List ℕ → Bool → ℕ → ℕ → Type 0
 Beside p done on i k = Stands p done k × (on ≡ true → k ≢ i)
 
-module _ (p : List ℕ) (w : WellFormed devices p) where
+-- of two lines of one job the lower does not stand
+pub not-above : {p done : List ℕ} {i k : ℕ} → Stands p done i → Stands p done k → job (at p i) ≡ job (at p k) → i < k
+    → ⊥
+not-above {p} {done} {i} {k} s t e l =
+    clash (precedes p i k) (earlier-precedes p i k l e) (t .first i (s .line) (s .waiting))
+
+module _ {p : List ℕ} (w : WellFormed devices p) where
   pub job-fits : (i : ℕ) → i < length p → (1 ≤ job (at p i)) × (job (at p i) ≤ maxJob)
   job-fits i h = let r = line-parts devices (at p i) (w .lines i h) in (r .0, r .1)
 
-  -- a line has the job of a line of the plan only if it is one
-  job-line : (i k : ℕ) → k < length p → job (at p i) ≡ job (at p k) → i < length p
-  unfolding job
-  job-line i k h e =
-      inside (λ l. eqb (job l) (job (at p k))) p i (ne-eqb 0 (job (at p k)) (λ q. omega (arith, job-fits k h .0, q)))
-      (eq-eqb (job (at p i)) (job (at p k)) e)
+  pub lasting-below : (i : ℕ) → lastingAt p i ≡ true → deviceAt p i < devices
+  lasting-below i e =
+      device-below devices p w i (deviceAt p i) (lasting-parts p i (deviceAt p i) (lasting-own p i e) .0)
 
-  -- ---- the lines that a line lets stand next
-
-  next-is : (x i : ℕ) → has i (nextInJob p x) ≡ true → (i ≡ suc x) × (job (at p (suc x)) ≡ job (at p x))
-  unfolding nextInJob
-  next-is x i h = go (eqb (job (at p (suc x))) (job (at p x))) refl h
+  pub place-below : (i : ℕ) → i < length p → placeAt p i < allPlaces
+  place-below i h = go (test (lastingAt p i))
     where
-      one : (i ≡ suc x) ⊎ (has i [] ≡ true) → i ≡ suc x
-      one (inl e) = e
-      one (inr m) = has-none i m
+      go : (lastingAt p i ≡ true) ⊎ (lastingAt p i ≡ false) → placeAt p i < allPlaces
+      go (inl e) = omega (arith, place-lasting p i e, lasting-below i e)
+      go (inr e) = omega (arith, place-job p i e, job-fits i h .1)
 
-      go : (b : Bool) → eqb (job (at p (suc x))) (job (at p x)) ≡ b → has i (cond b (suc x ∷ []) []) ≡ true
-          → (i ≡ suc x) × (job (at p (suc x)) ≡ job (at p x))
-      go true e m = (one (has-cases i (suc x) [] m), eqb-true (job (at p (suc x))) (job (at p x)) e)
-      go false e m = has-none i m
-
-  is-next : (x : ℕ) → job (at p (suc x)) ≡ job (at p x) → has (suc x) (nextInJob p x) ≡ true
-  unfolding nextInJob
-  is-next x e = rw (eq-eqb (job (at p (suc x))) (job (at p x)) e) (has-head (suc x) [])
-
-  -- the line at which a job goes on
-  pub goes-at : (x : ℕ) → goesOn p x ≡ true → (has (suc x) (nextInJob p x) ≡ true) × (lastingAt p (suc x) ≡ false)
-  unfolding goesOn
-  goes-at x e =
-      let r = any-found (λ n. not (lastingAt p n)) (nextInJob p x) e in
-      let z = next-is x (r .0) (r .1) .0 in
-      (rw z at (r .1), rw z at (not-true (lastingAt p (r .0)) (r .2)))
-
-  -- line x starts the job of line i, which is its first line
-  record Begun (x i : ℕ) : Type 0 where
-    line : i < length p
-    start : starts (at p x) (job (at p i)) ≡ true
-    lowest : (k : ℕ) → k < length p → job (at p k) ≡ job (at p i) → i ≤ k
-
-  begun : (x i : ℕ) → has i (startedLine p x) ≡ true → Begun x i
-  unfolding startedLine
-  begun x i h = go (isStart (at p x)) refl h
+  -- no two lines that stand have one place
+  pub apart : ((d : ℕ) → LastsTwice p d → ⊥) → {done : List ℕ} (i k : ℕ) → Stands p done i → Stands p done k
+      → placeAt p i ≡ placeAt p k → i ≡ k
+  apart no-two i k s t e = go (test (lastingAt p i)) (test (lastingAt p k))
     where
-      go : (b : Bool) → isStart (at p x) ≡ b → has i (cond b (firstLine (operand (at p x)) p) []) ≡ true → Begun x i
-      go false e m = has-none i m
-      go true e m =
-          let r = first-is (operand (at p x)) p i m in record {
-            line = r .0;
-            start = rw (r .1) (start-of (at p x) e);
-            lowest = λ k l q. first-above (operand (at p x)) p i k m l (q ∙ r .1);
-          }
+      fits : (1 ≤ job (at p i)) × (job (at p i) ≤ maxJob)
+      fits = job-fits i (s .line)
 
-  is-begun : (x i : ℕ) → starts (at p x) (job (at p i)) ≡ true → has i (firstLine (job (at p i)) p) ≡ true
-      → has i (startedLine p x) ≡ true
-  unfolding startedLine
-  is-begun x i s f = let r = start-parts (at p x) (job (at p i)) s in rw (r .0, r .1) f
+      fits-k : (1 ≤ job (at p k)) × (job (at p k) ≤ maxJob)
+      fits-k = job-fits k (t .line)
+
+      two : lastingAt p i ≡ true → lastingAt p k ≡ true → (eqb i k ≡ true) ⊎ (eqb i k ≡ false) → i ≡ k
+      two a b (inl q) = eqb-true i k q
+      two a b (inr q) =
+          let same : deviceAt p i ≡ deviceAt p k = omega (arith, e, place-lasting p i a, place-lasting p k b) in
+          absurd
+          (no-two (deviceAt p k)
+          (record {
+            i = i;
+            k = k;
+            apart = eqb-false i k q;
+            i-lasts = rw same at (lasting-own p i a);
+            k-lasts = lasting-own p k b;
+          }))
+
+      one : job (at p i) ≡ job (at p k) → (i ≤ k) ⊎ (k < i) → (k ≤ i) ⊎ (i < k) → i ≡ k
+      one q (inr l) m = absurd (not-above t s (sym q) l)
+      one q (inl l) (inr m) = absurd (not-above s t q m)
+      one q (inl l) (inl m) = omega arith
+
+      go : (lastingAt p i ≡ true) ⊎ (lastingAt p i ≡ false) → (lastingAt p k ≡ true) ⊎ (lastingAt p k ≡ false) → i ≡ k
+      go (inl a) (inl b) = two a b (test (eqb i k))
+      go (inl a) (inr b) = absurd (omega (arith, e, place-lasting p i a, place-job p k b, fits-k .1, fits-k .0))
+      go (inr a) (inl b) = absurd (omega (arith, e, place-job p i a, place-lasting p k b, fits .1, fits .0))
+      go (inr a) (inr b) =
+          one (omega (arith, e, place-job p i a, place-job p k b, fits .0, fits-k .0)) (le-or-lt i k) (le-or-lt k i)
 
   -- ---- at the start
 
   pub first-stands : 0 < length p → Stands p [] 0
   unfolding has
-  first-stands h = record { line = h; waiting = refl; first = λ k l e. go k l (test (precedes p k 0)) }
-    where
-      go : (k : ℕ) → k < length p → (precedes p k 0 ≡ true) ⊎ (precedes p k 0 ≡ false) → precedes p k 0 ≡ false
-      go k l (inl b) = absurd (omega (arith, precedes-reaches p (w .rules) k 0 l h b .0))
-      go k l (inr b) = b
+  first-stands h = record {
+    line = h;
+    waiting = refl;
+    first = λ k l e. falsely (precedes p k 0) (λ b. omega (arith, precedes-reaches p (w .rules) k 0 l h b .0));
+  }
 
   pub stands-first : (i : ℕ) → Stands p [] i → i ≡ 0
   unfolding has
@@ -159,74 +241,9 @@ module _ (p : List ℕ) (w : WellFormed devices p) where
           (w .rules .started i (s .line) (eqb-false (job (at p i)) 1 c)) in
           clash (precedes p (r .0) i) (start-precedes p (r .0) i (r .2)) (s .first (r .0) (r .1) refl)
 
-  -- ---- no two of them have one place
-
-  pub place-lasting : (i : ℕ) → lastingAt p i ≡ true → placeAt p i ≡ maxJob + deviceAt p i
-  unfolding placeAt
-  place-lasting i e = rw e
-
-  pub place-job : (i : ℕ) → lastingAt p i ≡ false → placeAt p i ≡ job (at p i) - 1
-  unfolding placeAt
-  place-job i e = rw e
-
-  pub lasting-below : (i : ℕ) → lastingAt p i ≡ true → deviceAt p i < devices
-  lasting-below i e =
-      device-below devices p w i (deviceAt p i) (lasting-parts p i (deviceAt p i) (lasting-own p i e) .0)
-
-  pub place-below : (i : ℕ) → i < length p → placeAt p i < allPlaces
-  place-below i h = go (test (lastingAt p i))
-    where
-      go : (lastingAt p i ≡ true) ⊎ (lastingAt p i ≡ false) → placeAt p i < allPlaces
-      go (inl e) = omega (arith, place-lasting i e, lasting-below i e)
-      go (inr e) = omega (arith, place-job i e, job-fits i h .1)
-
-  -- of two lines of one job at most one stands
-  one-of-job : (done : List ℕ) (i k : ℕ) → Stands p done i → Stands p done k → job (at p i) ≡ job (at p k) → i ≡ k
-  one-of-job done i k s t e = go (test (eqb i k)) (le-or-lt i k)
-    where
-      go : (eqb i k ≡ true) ⊎ (eqb i k ≡ false) → (i ≤ k) ⊎ (k < i) → i ≡ k
-      go (inl q) c = eqb-true i k q
-      go (inr q) (inl c) =
-          let n = eqb-false i k q in
-          clash (precedes p i k) (earlier-precedes p i k (omega (arith, n)) e) (t .first i (s .line) (s .waiting))
-      go (inr q) (inr c) =
-          clash (precedes p k i) (earlier-precedes p k i c (sym e)) (s .first k (t .line) (t .waiting))
-
-  module _ (no-two : (d : ℕ) → LastsTwice p d → ⊥) where
-    pub apart : (done : List ℕ) (i k : ℕ) → Stands p done i → Stands p done k → placeAt p i ≡ placeAt p k → i ≡ k
-    apart done i k s t e = go (test (lastingAt p i)) (test (lastingAt p k))
-      where
-        fits : (1 ≤ job (at p i)) × (job (at p i) ≤ maxJob)
-        fits = job-fits i (s .line)
-
-        fits-k : (1 ≤ job (at p k)) × (job (at p k) ≤ maxJob)
-        fits-k = job-fits k (t .line)
-
-        two : lastingAt p i ≡ true → lastingAt p k ≡ true → (eqb i k ≡ true) ⊎ (eqb i k ≡ false) → i ≡ k
-        two a b (inl q) = eqb-true i k q
-        two a b (inr q) =
-            let same : deviceAt p i ≡ deviceAt p k = omega (arith, e, place-lasting i a, place-lasting k b) in
-            absurd
-            (no-two (deviceAt p k)
-            (record {
-              i = i;
-              k = k;
-              apart = eqb-false i k q;
-              i-lasts = rw same at (lasting-own p i a);
-              k-lasts = lasting-own p k b;
-            }))
-
-        go : (lastingAt p i ≡ true) ⊎ (lastingAt p i ≡ false) → (lastingAt p k ≡ true) ⊎ (lastingAt p k ≡ false)
-            → i ≡ k
-        go (inl a) (inl b) = two a b (test (eqb i k))
-        go (inl a) (inr b) = absurd (omega (arith, e, place-lasting i a, place-job k b, fits-k .1, fits-k .0))
-        go (inr a) (inl b) = absurd (omega (arith, e, place-job i a, place-lasting k b, fits .1, fits .0))
-        go (inr a) (inr b) =
-            one-of-job done i k s t (omega (arith, e, place-job i a, place-job k b, fits .0, fits-k .0))
-
   -- ---- a line is done
 
-  module _ (done : List ℕ) (closed : Closed p done) (x : ℕ) (here : Stands p done x) where
+  module _ {done : List ℕ} (closed : Closed p done) {x : ℕ} (here : Stands p done x) where
     pub closed-on : Closed p (done ++ (x ∷ []))
     closed-on k i l h b = go (more-only i x done h)
       where
@@ -240,11 +257,19 @@ module _ (p : List ℕ) (w : WellFormed devices p) where
 
     -- what line x precedes is not done
     later-undone : (i : ℕ) → precedes p x i ≡ true → i ≢ x → has i (done ++ (x ∷ [])) ≡ false
-    later-undone i b n = not-more i x done (go (test (has i done))) n
-      where
-        go : (has i done ≡ true) ⊎ (has i done ≡ false) → has i done ≡ false
-        go (inl e) = clash (has x done) (closed x i (here .line) e b) (here .waiting)
-        go (inr e) = e
+    later-undone i b n =
+        not-more i x done
+        (falsely (has i done) (λ e. clash (has x done) (closed x i (here .line) e b) (here .waiting))) n
+
+    -- a line stands now if every line that has to precede it, but line x, had to precede a line that stood
+    stands-now : (i : ℕ) → i < length p → precedes p x i ≡ true → i ≢ x
+        → ((k : ℕ) → k < length p → has k done ≡ false → k ≢ x → Why p k i → ⊥) → Stands p (done ++ (x ∷ [])) i
+    stands-now i l b n free = record {
+      line = l;
+      waiting = later-undone i b n;
+      first = λ k m u. falsely (precedes p k i)
+          (λ a. let r = more-not k x done u in free k m (r .0) (r .1) (why p k i a));
+    }
 
     -- the lines that stood, but line x
     abbrev pub Stayed : ℕ → Type 0
@@ -257,64 +282,56 @@ module _ (p : List ℕ) (w : WellFormed devices p) where
       first = λ k l e. s .0 .first k l (more-not k x done e .0);
     }
 
-    pub next-stands : (i : ℕ) → has i (nextInJob p x) ≡ true → Stands p (done ++ (x ∷ [])) i
-    next-stands i h = let r = next-is x i h in rw (r .0) (stands (r .1))
-      where
-        stands : job (at p (suc x)) ≡ job (at p x) → Stands p (done ++ (x ∷ [])) (suc x)
-        stands e = record {
-          line = job-line (suc x) x (here .line) e;
-          waiting = later-undone (suc x) (earlier-precedes p x (suc x) (omega arith) (sym e)) (λ q. omega arith);
-          first = λ k l u. none k l (more-not k x done u) (test (precedes p k (suc x)));
-        }
-          where
-            before : (k : ℕ) → k < length p → (has k done ≡ false) × (k ≢ x) → Why p k (suc x) → precedes p k x ≡ true
-            before k l u (sameJob lt q) = let n = u .1 in earlier-precedes p k x (omega (arith, n)) (q ∙ e)
-            before k l u (starter a) = start-precedes p k x (rw e at a)
+    next-precedes : followed p x ≡ true → precedes p x (suc x) ≡ true
+    next-precedes e = earlier-precedes p x (suc x) (omega arith) (sym (followed-parts p x e .1))
 
-            none : (k : ℕ) → k < length p → (has k done ≡ false) × (k ≢ x)
-                → (precedes p k (suc x) ≡ true) ⊎ (precedes p k (suc x) ≡ false)
-                → precedes p k (suc x) ≡ false
-            none k l u (inr b) = b
-            none k l u (inl b) =
-                clash (precedes p k x) (before k l u (why p k (suc x) b)) (here .first k l (u .0))
-
-    pub started-stands : (i : ℕ) → has i (startedLine p x) ≡ true → Stands p (done ++ (x ∷ [])) i
-    started-stands i h = stands (begun x i h)
+    pub next-stands : followed p x ≡ true → Stands p (done ++ (x ∷ [])) (suc x)
+    next-stands e =
+        stands-now (suc x) (followed-parts p x e .0) (next-precedes e) (λ q. omega arith)
+        (λ k l u n y. clash (precedes p k x) (before k n y) (here .first k l u))
       where
-        stands : Begun x i → Stands p (done ++ (x ∷ [])) i
-        stands b = record {
-          line = b .line;
-          waiting = later-undone i (start-precedes p x i (b .start))
-              (λ q. omega (arith, w .rules .startHigher x (job (at p i)) (b .start), ap (λ (n : ℕ). job (at p n)) q));
-          first = λ k l u. none k l (more-not k x done u) (test (precedes p k i));
-        }
+        before : (k : ℕ) → k ≢ x → Why p k (suc x) → precedes p k x ≡ true
+        before k n (sameJob lt q) = earlier-precedes p k x (omega (arith, n)) (q ∙ followed-parts p x e .1)
+        before k n (starter a) = start-precedes p k x (rw (followed-parts p x e .1) at a)
+
+    started-higher : (i : ℕ) → starts (at p x) (job (at p i)) ≡ true → i ≢ x
+    started-higher i a q = omega (arith, w .rules .startHigher x (job (at p i)) a, ap (λ (n : ℕ). job (at p n)) q)
+
+    pub started-stands : startedLine p x < length p → Stands p (done ++ (x ∷ [])) (startedLine p x)
+    started-stands h =
+        let b = started-at w x h in
+        stands-now i (b .line) (start-precedes p x i (b .start)) (started-higher i (b .start)) (no b)
+      where
+        i : ℕ
+        i = startedLine p x
+
+        no : Begun p x i → (k : ℕ) → k < length p → has k done ≡ false → k ≢ x → Why p k i → ⊥
+        no b k l u n (sameJob lt q) = omega (arith, b .lowest k l q)
+        no b k l u n (starter a) = once (le-or-lt k x)
           where
-            once : (k : ℕ) → k ≢ x → starts (at p k) (job (at p i)) ≡ true → (k ≤ x) ⊎ (x < k) → precedes p k i ≡ false
-            once k n a (inl c) =
+            once : (k ≤ x) ⊎ (x < k) → ⊥
+            once (inl c) =
                 clash (starts (at p k) (job (at p i))) a
                 (w .rules .startOnce x k (job (at p i)) (omega (arith, n)) (b .start))
-            once k n a (inr c) =
+            once (inr c) =
                 clash (starts (at p x) (job (at p i))) (b .start) (w .rules .startOnce k x (job (at p i)) c a)
 
-            no : (k : ℕ) → k < length p → k ≢ x → Why p k i → precedes p k i ≡ false
-            no k l n (sameJob lt q) = absurd (omega (arith, b .lowest k l q))
-            no k l n (starter a) = once k n a (le-or-lt k x)
-
-            none : (k : ℕ) → k < length p → (has k done ≡ false) × (k ≢ x)
-                → (precedes p k i ≡ true) ⊎ (precedes p k i ≡ false)
-                → precedes p k i ≡ false
-            none k l u (inr c) = c
-            none k l u (inl c) = no k l (u .1) (why p k i c)
-
     -- The lines that stand now are these.
-    who-stands : (i : ℕ) → Stands p (done ++ (x ∷ [])) i
-        → (Stayed i ⊎ (has i (nextInJob p x) ≡ true)) ⊎ (has i (startedLine p x) ≡ true)
+    data Now (i : ℕ) : Type 0 where
+      stayed : Stayed i → Now i
+      next : i ≡ suc x → followed p x ≡ true → Now i
+      started : Comes p (startedLine p x) i → Now i
+
+    who-stands : (i : ℕ) → Stands p (done ++ (x ∷ [])) i → Now i
+    unfolding followed
     who-stands i s = go (test (precedes p x i))
       where
-        following : x < i → job (at p x) ≡ job (at p i) → (eqb i (suc x) ≡ true) ⊎ (eqb i (suc x) ≡ false)
-            → has i (nextInJob p x) ≡ true
+        following : x < i → job (at p x) ≡ job (at p i) → (eqb i (suc x) ≡ true) ⊎ (eqb i (suc x) ≡ false) → Now i
         following lt e (inl q) =
-            let z = eqb-true i (suc x) q in rw z (is-next x (rw z at (sym e)))
+            let z = eqb-true i (suc x) q in
+            next z (and-both (ltb (suc x) (length p)) (eqb (job (at p (suc x))) (job (at p x)))
+            (lt-ltb (suc x) (length p) (omega (arith, s .line)))
+            (eq-eqb (job (at p (suc x))) (job (at p x)) (rw z at (sym e))))
         following lt e (inr q) =
             let n = eqb-false i (suc x) q in
             let between : job (at p (suc x)) ≡ job (at p i) = omega (
@@ -327,34 +344,30 @@ module _ (p : List ℕ) (w : WellFormed devices p) where
             (s .first (suc x) (omega (arith, s .line, n))
             (later-undone (suc x) (earlier-precedes p x (suc x) (omega arith) (e ∙ sym between)) (λ y. omega arith)))
 
-        begins : starts (at p x) (job (at p i)) ≡ true
-            → (f : ℕ) × (has f (firstLine (job (at p i)) p) ≡ true) × (f ≤ i)
-            → has i (startedLine p x) ≡ true
-        begins a r = at-first (test (eqb (r .0) i))
+        begins : starts (at p x) (job (at p i)) ≡ true → Begun p x (startedLine p x) → Now i
+        begins a b = at-first (test (eqb i f))
           where
             f : ℕ
-            f = r .0
+            f = startedLine p x
 
             same : job (at p f) ≡ job (at p i)
-            same = first-is (job (at p i)) p f (r .1) .1
+            same = sym (start-parts (at p x) (job (at p f)) (b .start) .1) ∙ start-parts (at p x) (job (at p i)) a .1
 
-            at-first : (eqb f i ≡ true) ⊎ (eqb f i ≡ false) → has i (startedLine p x) ≡ true
-            at-first (inl q) = is-begun x i a (rw (eqb-true f i q) at (r .1))
+            at-first : (eqb i f ≡ true) ⊎ (eqb i f ≡ false) → Now i
+            at-first (inl q) = started (eqb-true i f q, b .line)
             at-first (inr q) =
-                let n = eqb-false f i q in
-                clash (precedes p f i) (earlier-precedes p f i (omega (arith, n, r .2)) same)
-                (s .first f (first-is (job (at p i)) p f (r .1) .0)
-                (later-undone f (start-precedes p x f (rw same a))
-                (λ y. omega (arith, w .rules .startHigher x (job (at p i)) a, same, ap (λ (n : ℕ). job (at p n)) y))))
+                let n = eqb-false i f q in
+                clash (precedes p f i) (earlier-precedes p f i (omega (arith, n, b .lowest i (s .line) (sym same)))
+                same)
+                (s .first f (b .line) (later-undone f (start-precedes p x f (b .start)) (started-higher f (b .start))))
 
-        reason : Why p x i → (Stayed i ⊎ (has i (nextInJob p x) ≡ true)) ⊎ (has i (startedLine p x) ≡ true)
-        reason (sameJob lt e) = inl (inr (following lt e (test (eqb i (suc x)))))
-        reason (starter a) = inr (begins a (first-at (job (at p i)) p i (s .line) refl))
+        reason : Why p x i → Now i
+        reason (sameJob lt e) = following lt e (test (eqb i (suc x)))
+        reason (starter a) = begins a (the-start w x (start-parts (at p x) (job (at p i)) a .0) .begun)
 
-        go : (precedes p x i ≡ true) ⊎ (precedes p x i ≡ false)
-            → (Stayed i ⊎ (has i (nextInJob p x) ≡ true)) ⊎ (has i (startedLine p x) ≡ true)
+        go : (precedes p x i ≡ true) ⊎ (precedes p x i ≡ false) → Now i
         go (inl b) = reason (why p x i b)
-        go (inr b) = inl (inl (stood p done x i s b, more-not i x done (s .waiting) .1))
+        go (inr b) = stayed (stood p done x i s b, more-not i x done (s .waiting) .1)
 
     -- ---- a job that goes on
 
@@ -369,47 +382,40 @@ module _ (p : List ℕ) (w : WellFormed devices p) where
 
     -- The lines that stand now, but the one at which the job goes on, are those that stayed or came to their places.
     pub beside-placed : (i : ℕ) → Beside p (done ++ (x ∷ [])) (goesOn p x) (suc x) i
-        → (Stayed i ⊎ (has i (lastingAfter p x) ≡ true)) ⊎ (has i (startedLine p x) ≡ true)
+        → (Stayed i ⊎ Comes p (lastingAfter p x) i) ⊎ Comes p (startedLine p x) i
     unfolding goesOn lastingAfter
     beside-placed i b = go (who-stands i (b .0))
       where
-        next : has i (nextInJob p x) ≡ true → (lastingAt p i ≡ true) ⊎ (lastingAt p i ≡ false)
-            → has i (those (lastingAt p) (nextInJob p x)) ≡ true
-        next h (inl e) = those-has (lastingAt p) (nextInJob p x) i h e
-        next h (inr e) =
-            absurd (b .1 (any-at (λ n. not (lastingAt p n)) (nextInJob p x) i h (rw e)) (next-is x i h .0))
+        comes : i ≡ suc x → followed p x ≡ true → (lastingAt p (suc x) ≡ true) ⊎ (lastingAt p (suc x) ≡ false)
+            → Comes p (lastingAfter p x) i
+        comes q e (inl l) = rw (e, l) (q, followed-parts p x e .0)
+        comes q e (inr l) = absurd (b .1 (rw (e, l)) q)
 
-        go : (Stayed i ⊎ (has i (nextInJob p x) ≡ true)) ⊎ (has i (startedLine p x) ≡ true)
-            → (Stayed i ⊎ (has i (those (lastingAt p) (nextInJob p x)) ≡ true)) ⊎ (has i (startedLine p x) ≡ true)
-        go (inl (inl s)) = inl (inl s)
-        go (inl (inr h)) = inl (inr (next h (test (lastingAt p i))))
-        go (inr h) = inr h
+        go : Now i → (Stayed i ⊎ Comes p (lastingAfter p x) i) ⊎ Comes p (startedLine p x) i
+        go (stayed s) = inl (inl s)
+        go (next q e) = inl (inr (comes q e (test (lastingAt p (suc x)))))
+        go (started h) = inr h
 
-    pub lasting-stands : (i : ℕ) → has i (lastingAfter p x) ≡ true → Stands p (done ++ (x ∷ [])) i
-    unfolding lastingAfter
-    lasting-stands i h = next-stands i (has-those (lastingAt p) (nextInJob p x) i h .0)
+    pub lasting-stands : lastingAfter p x < length p → Stands p (done ++ (x ∷ [])) (lastingAfter p x)
+    lasting-stands h = let r = lasting-at p x h in rw (r .0) (next-stands (r .1))
 
-    pub placed-beside : (i : ℕ)
-        → (Stayed i ⊎ (has i (lastingAfter p x) ≡ true)) ⊎ (has i (startedLine p x) ≡ true)
+    pub placed-beside : (i : ℕ) → (Stayed i ⊎ Comes p (lastingAfter p x) i) ⊎ Comes p (startedLine p x) i
         → Beside p (done ++ (x ∷ [])) (goesOn p x) (suc x) i
-    unfolding lastingAfter
     placed-beside i (inl (inl s)) = (
       stayed-stands i s,
-      λ e q. clash (precedes p x (suc x)) (later e) ((rw q at (s .0)) .first x (here .line) (here .waiting)),
+      λ e q. clash (precedes p x (suc x)) (next-precedes (goes-at p x e .0))
+          ((rw q at (s .0)) .first x (here .line) (here .waiting)),
     )
-      where
-        later : goesOn p x ≡ true → precedes p x (suc x) ≡ true
-        later e = earlier-precedes p x (suc x) (omega arith) (sym (next-is x (suc x) (goes-at x e .0) .1))
-    placed-beside i (inl (inr h)) = (
-      lasting-stands i h,
-      λ e q. clash (lastingAt p i) (has-those (lastingAt p) (nextInJob p x) i h .1) (rw q (goes-at x e .1)),
+    placed-beside i (inl (inr c)) = (
+      rw (c .0) (lasting-stands (c .1)),
+      λ e q. clash (lastingAt p (suc x)) (lasting-at p x (c .1) .2) (goes-at p x e .1),
     )
-    placed-beside i (inr h) = (
-      started-stands i h,
+    placed-beside i (inr c) = (
+      rw (c .0) (started-stands (c .1)),
       λ e q. omega (
         arith,
-        w .rules .startHigher x (job (at p i)) (begun x i h .start),
-        next-is x (suc x) (goes-at x e .0) .1,
-        ap (λ (n : ℕ). job (at p n)) q,
+        w .rules .startHigher x (job (at p (startedLine p x))) (started-at w x (c .1) .start),
+        followed-parts p x (goes-at p x e .0) .1,
+        ap (λ (n : ℕ). job (at p n)) (sym q ∙ c .0),
       ),
     )

@@ -1,4 +1,3 @@
--- What the contracts of `verdict` cite beside `model`.
+-- What the contracts of `verdict` cite beside `model` and `promises`.
 pub mod Waiting
 pub mod Findings
-pub mod Promises

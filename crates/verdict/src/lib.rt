@@ -1,43 +1,28 @@
 // The verdict on a packed plan (01, "The order handed out"): an order of its lines with the number of devices that stay
 // held, or why there is none.
+use board::DEVICES;
+use board::EACH_DEVICE;
+use board::EACH_JOB;
+use board::MOST_LINES;
+use board::Set;
 use model::Refusal;
 use model::VerdictAnswer;
-use plan::Checked;
 use rows::HoldsAnswer;
-ghost use mathlib.Core.Path.{_≡_};
-ghost use Rattle.model.specs.Board.{devices};
-ghost use Rattle.plan.specs.Checked.{checked};
-ghost use Rattle.rows.specs.Where.{circlesOf};
-ghost use Rattle.verdict.specs.Promises.{JudgesAs};
-ghost use Rattle.verdict.specs.Findings.{Findings, barred};
+ghost use Rattle.promises.specs.Verdict.{JudgesAs};
+ghost use Rattle.verdict.specs.Findings.{Findings};
 
 mod order;
 mod waiting;
 
-// 9 and 10: the lowest device of the twice held, then the lowest that leads back to itself by the rows.
-fn barred(rows: &[u32; 32], twice: u32) -> Checked
-    ensures { λ r. ⌜ r ≡ checked (barred (now (rows .entry)) twice) ⌝ }
-{
-    let d = sets::lowest(twice);
-    if d < 32 {
-        return Checked::Refused(Refusal::TwoLasting(d));
-    }
-    let back = rows::circles(rows);
-    let e = sets::lowest(back);
-    if e < 32 {
-        return Checked::Refused(Refusal::LeadsBack(e));
-    }
-    Checked::Fine
-}
-
-// The verdict on a plan without a fault, by what was found of it: 11, 9, 10, then the order.
+// The verdict on a plan without a fault, by what was found of it: 11; 9 and 10, each with the lowest device of its set;
+// then the order.
 fn judge(
     plan: &[u32],
-    first: &[u32; 65],
-    rows: &[u32; 32],
-    lasting: &[u8; 1024],
-    held: u32,
-    twice: u32,
+    first: &[u32; EACH_JOB],
+    rows: &[Set; EACH_DEVICE],
+    lasting: &[u8; MOST_LINES],
+    held: Set,
+    twice: Set,
     order: &mut [u16],
 ) -> VerdictAnswer
     requires { ⌜ Findings (now plan) (now first) (now rows) (now lasting) held twice ⌝ }
@@ -47,8 +32,13 @@ fn judge(
     if order.len() < n {
         return VerdictAnswer::Refused(Refusal::ListTooShort(n as u32));
     }
-    if let Checked::Refused(r) = barred(rows, twice) {
-        return VerdictAnswer::Refused(r);
+    let d = sets::lowest(twice);
+    if d < DEVICES {
+        return VerdictAnswer::Refused(Refusal::TwoLasting(d));
+    }
+    let e = sets::lowest(rows::circles(rows));
+    if e < DEVICES {
+        return VerdictAnswer::Refused(Refusal::LeadsBack(e));
     }
     order::hand_out(plan, first, lasting, order);
     VerdictAnswer::Held(sets::count(held))
@@ -59,9 +49,9 @@ fn judge(
 pub fn verdict(plan: &[u32], order: &mut [u16]) -> VerdictAnswer
     ensures { λ r. ⌜ JudgesAs (now (plan .entry)) (now (order .entry)) r (now (order .exit)) ⌝ }
 {
-    let mut first = [0u32; 65];
-    let mut rows = [0u32; 32];
-    let mut lasting = [0u8; 1024];
+    let mut first = [0u32; EACH_JOB];
+    let mut rows = [sets::NONE; EACH_DEVICE];
+    let mut lasting = [0u8; MOST_LINES];
     match rows::holds(plan, &mut first, &mut rows, &mut lasting) {
         HoldsAnswer::Refused(r) => VerdictAnswer::Refused(r),
         HoldsAnswer::Made(held, twice) => judge(plan, &first, &rows, &lasting, held, twice, order),

@@ -2,23 +2,29 @@
 // line is no lasting take: it stays the lowest that can go on, since a job starts only higher ones. Every other line
 // that stands next waits at a place, which it leaves to be done.
 use crate::waiting;
+use crate::waiting::PLACES;
 use crate::waiting::Waiting;
+use board::DEVICES;
+use board::EACH_DEVICE;
+use board::EACH_JOB;
+use board::LAST_JOB;
+use board::MOST_LINES;
+use board::Set;
 ghost use mathlib.Core.Bool.{false};
 ghost use mathlib.Core.Path.{_≡_};
 ghost use mathlib.Core.List.{map};
 ghost use mathlib.Core.Option.{none};
 ghost use Prim.Native.Nat.{_<_, _≤_};
-ghost use lib.ListN.{length, set};
+ghost use lib.ListN.{length};
 ghost use Rattle.model.specs.Lists.{over};
-ghost use Rattle.model.specs.Line.{lineNumber};
+ghost use Rattle.model.specs.Line.{lineNumber, at, job};
 ghost use Rattle.model.specs.WellFormed.{fault};
 ghost use Rattle.model.specs.Handed.{handed};
 ghost use Rattle.model.specs.Verdict.{noOrder};
 ghost use Rattle.model.specs.Board.{devices};
-ghost use Rattle.verdict.specs.Waiting.{Marked, Told, allPlaces, placeAt, foremost, taken, taking, goesOn};
-ghost use Rattle.verdict.specs.Waiting.{lastingAfter, startedLine, nextPlaced, startedPlaced, passed, replaced};
-ghost use Rattle.verdict.specs.Waiting.{added, tallied, withScarce, scarceBelow, counted, settled, choosing};
-ghost use Rattle.verdict.specs.Waiting.{CanRise, CanFall};
+ghost use Rattle.verdict.specs.Waiting.{Marked, Listed, allPlaces, placeOf, foremost, arrived, placed, followed};
+ghost use Rattle.verdict.specs.Waiting.{goesOn, lastingAfter, startedLine, passed, replaced, choosing, added};
+ghost use Rattle.verdict.specs.Waiting.{tallied, scarceBelow, counted, settled, CanRise, CanFall};
 
 // The line that goes next, and the lines that wait beside it.
 struct Choice {
@@ -26,142 +32,125 @@ struct Choice {
     others: Waiting,
 }
 
-// The place of line `i`: a lasting take's is that of its device, past those of the jobs.
-fn place(plan: &[u32], lasting: &[u8; 1024], i: usize) -> usize
-    requires { ⌜ Marked (now plan) (now lasting) × (i < length (now plan)) ⌝ }
-    ensures { λ r. ⌜ r ≡ placeAt (now (plan .entry)) i ⌝ }
+// The place of a line: a lasting take's is that of its device, past those of the jobs.
+fn place(l: u32, lasting: bool) -> u32
+    requires { ⌜ 1 ≤ job l ⌝ }
+    ensures { λ r. ⌜ r ≡ placeOf lasting l ⌝ }
 {
-    let l = plan[i];
-    if lasting[i] == 1 {
-        return 64 + (l % 256) as usize;
-    }
-    (l / 1024) as usize - 1
+    line::choose(lasting, LAST_JOB + line::operand(l), line::job(l) - 1)
 }
 
-// Line `i` comes to its place.
+// Line `i` comes to its place. Past the plan's end there is no line, and none comes.
 fn arrive(
     plan: &[u32],
-    lasting: &[u8; 1024],
-    places: &mut [usize; 96],
+    lasting: &[u8; MOST_LINES],
+    places: &mut [usize; PLACES],
     w: Waiting,
     i: usize,
 ) -> Waiting
-    requires { ⌜ Marked (now plan) (now lasting) × (i < length (now plan)) ⌝ }
-    requires { ⌜ length (now places) ≡ allPlaces ⌝ }
-    ensures { λ r. ⌜ r ≡ taken w (placeAt (now (plan .entry)) i) ⌝ }
-    ensures { λ r. ⌜ now (places .exit) ≡ set (now (places .entry)) (placeAt (now (plan .entry)) i) i ⌝ }
+    requires { ⌜ Marked (now plan) (now lasting) × (length (now places) ≡ allPlaces) ⌝ }
+    ensures { λ r. ⌜ r ≡ arrived (now (plan .entry)) w i ⌝ }
+    ensures { λ r. ⌜ now (places .exit) ≡ placed (now (plan .entry)) (now (places .entry)) i ⌝ }
 {
-    let s = place(plan, lasting, i);
-    places[s] = i;
-    waiting::take_place(w, s)
+    if i < plan.len() {
+        let s = place(plan[i], lasting[i] == 1);
+        places[s as usize] = i;
+        return waiting::take_place(w, s);
+    }
+    w
 }
 
-// Does the job of line `i` go on after it, at a line that is no lasting take?
-fn goes_on(plan: &[u32], lasting: &[u8; 1024], i: usize) -> bool
-    requires { ⌜ Marked (now plan) (now lasting) × (i < length (now plan)) ⌝ }
-    ensures { λ r. ⌜ r ≡ goesOn (now (plan .entry)) i ⌝ }
+// Is the line after line `i` of its job?
+fn job_follows(plan: &[u32], i: usize) -> bool
+    requires { ⌜ i < length (now plan) ⌝ }
+    ensures { λ r. ⌜ r ≡ followed (now (plan .entry)) i ⌝ }
 {
     let n = i + 1;
     if n < plan.len() {
-        if plan[n] / 1024 == plan[i] / 1024 {
-            return lasting[n] == 0;
-        }
+        return line::job(plan[n]) == line::job(plan[i]);
     }
     false
 }
 
-// The next line of the job of line `i` comes to its place, if it is a lasting take.
-fn follow(
-    plan: &[u32],
-    lasting: &[u8; 1024],
-    places: &mut [usize; 96],
-    w: Waiting,
-    i: usize,
-) -> Waiting
+// Does the job of line `i` go on after it, at a line that is no lasting take?
+fn goes_on(plan: &[u32], lasting: &[u8; MOST_LINES], i: usize) -> bool
     requires { ⌜ Marked (now plan) (now lasting) × (i < length (now plan)) ⌝ }
-    requires { ⌜ length (now places) ≡ allPlaces ⌝ }
-    ensures { λ r. ⌜ r ≡ taking (now (plan .entry)) w (lastingAfter (now (plan .entry)) i) ⌝ }
-    ensures { λ r. ⌜ now (places .exit) ≡ nextPlaced (now (plan .entry)) (now (places .entry)) i ⌝ }
+    ensures { λ r. ⌜ r ≡ goesOn (now (plan .entry)) i ⌝ }
 {
-    let n = i + 1;
-    if n < plan.len() {
-        if plan[n] / 1024 == plan[i] / 1024 {
-            if lasting[n] == 1 {
-                return arrive(plan, lasting, places, w, n);
-            }
+    if job_follows(plan, i) {
+        return lasting[i + 1] == 0;
+    }
+    false
+}
+
+// The lasting take at which the job of line `i` stands after it; the plan's length where it stands at none.
+fn lasting_after(plan: &[u32], lasting: &[u8; MOST_LINES], i: usize) -> usize
+    requires { ⌜ Marked (now plan) (now lasting) × (i < length (now plan)) ⌝ }
+    ensures { λ r. ⌜ r ≡ lastingAfter (now (plan .entry)) i ⌝ }
+{
+    if job_follows(plan, i) {
+        if lasting[i + 1] == 1 {
+            return i + 1;
         }
     }
-    w
+    plan.len()
 }
 
-// The first line of the job that line `i` starts comes to its place, if it starts one.
-fn begin(
-    plan: &[u32],
-    first: &[u32; 65],
-    lasting: &[u8; 1024],
-    places: &mut [usize; 96],
-    w: Waiting,
-    i: usize,
-) -> Waiting
-    requires { ⌜ Told (now plan) (now first) (now lasting) × (i < length (now plan)) ⌝ }
-    requires { ⌜ length (now places) ≡ allPlaces ⌝ }
-    ensures { λ r. ⌜ r ≡ taking (now (plan .entry)) w (startedLine (now (plan .entry)) i) ⌝ }
-    ensures { λ r. ⌜ now (places .exit) ≡ startedPlaced (now (plan .entry)) (now (places .entry)) i ⌝ }
+// The first line of the job that line `i` starts; the plan's length where it starts none.
+fn started(plan: &[u32], first: &[u32; EACH_JOB], i: usize) -> usize
+    requires { ⌜ Listed (now plan) (now first) × (i < length (now plan)) ⌝ }
+    ensures { λ r. ⌜ r ≡ startedLine (now (plan .entry)) i ⌝ }
 {
     let l = plan[i];
-    if l / 256 % 4 == 3 {
-        let job = (l % 256) as usize;
-        let f = first[job] as usize;
-        return arrive(plan, lasting, places, w, f - 1);
+    if line::is_start(l) {
+        return first[line::operand(l) as usize] as usize - 1;
     }
-    w
+    plan.len()
 }
 
-// Line `i` is done: if it is a take, one line less takes its device. There is no branch on the verb, which cannot be
-// foretold: of another line nothing is taken off, and no device comes to be scarce.
-fn settle(plan: &[u32], counts: &mut [u32; 32], w: Waiting, i: usize) -> Waiting
-    requires { ⌜ i < length (now plan) ⌝ }
-    requires { ⌜ CanFall (now plan) (now counts) i ⌝ }
-    ensures { λ r. ⌜ r ≡ settled (now (plan .entry)) (now (counts .entry)) w i ⌝ }
-    ensures { λ r. ⌜ now (counts .exit) ≡ counted (now (plan .entry)) (now (counts .entry)) i ⌝ }
+// A line is done: if it is a take, one line less takes its device. There is no branch on the verb, which cannot be
+// foretold: of another line nothing is taken off, at whatever entry its operand falls, and no device comes to be
+// scarce.
+fn settle(counts: &mut [u32; EACH_DEVICE], w: Waiting, l: u32) -> Waiting
+    requires { ⌜ CanFall (now counts) l ⌝ }
+    ensures { λ r. ⌜ r ≡ settled (now (counts .entry)) w l ⌝ }
+    ensures { λ r. ⌜ now (counts .exit) ≡ counted (now (counts .entry)) l ⌝ }
 {
-    let l = plan[i];
-    let takes = l / 256 % 4 == 1;
-    let d = (l % 32) as usize;
-    let c = counts[d];
-    counts[d] = c - takes as u32;
-    let scarce = takes & (c <= 2);
+    let takes = line::is_take(l);
+    let d = line::operand(l) % DEVICES;
+    let c = counts[d as usize];
+    counts[d as usize] = c - takes as u32;
     Waiting {
         ready: w.ready,
         standing: w.standing,
-        scarce: w.scarce | (scarce as u32) << d,
+        scarce: sets::union(w.scarce, sets::only_if(takes & (c <= 2), d)),
     }
 }
 
 // Line `i`, which waits at no place, is done.
 fn pass(
     plan: &[u32],
-    first: &[u32; 65],
-    lasting: &[u8; 1024],
-    places: &mut [usize; 96],
-    counts: &mut [u32; 32],
+    first: &[u32; EACH_JOB],
+    lasting: &[u8; MOST_LINES],
+    places: &mut [usize; PLACES],
+    counts: &mut [u32; EACH_DEVICE],
     w: Waiting,
     i: usize,
 ) -> Waiting
-    requires { ⌜ Told (now plan) (now first) (now lasting) × (i < length (now plan)) ⌝ }
-    requires { ⌜ length (now places) ≡ allPlaces ⌝ }
-    requires { ⌜ CanFall (now plan) (now counts) i ⌝ }
+    requires { ⌜ Marked (now plan) (now lasting) × Listed (now plan) (now first) × (i < length (now plan)) ⌝ }
+    requires { ⌜ (length (now places) ≡ allPlaces) × CanFall (now counts) (at (now plan) i) ⌝ }
     ensures { λ r. ⌜ r ≡ passed (now (plan .entry)) (now (counts .entry)) w i ⌝ }
     ensures { λ r. ⌜ now (places .exit) ≡ replaced (now (plan .entry)) (now (places .entry)) i ⌝ }
-    ensures { λ r. ⌜ now (counts .exit) ≡ counted (now (plan .entry)) (now (counts .entry)) i ⌝ }
+    ensures { λ r. ⌜ now (counts .exit) ≡ counted (now (counts .entry)) (at (now (plan .entry)) i) ⌝ }
 {
-    let settled = settle(plan, counts, w, i);
-    let followed = follow(plan, lasting, places, settled, i);
-    begin(plan, first, lasting, places, followed, i)
+    let settled = settle(counts, w, plan[i]);
+    let next = lasting_after(plan, lasting, i);
+    let followed = arrive(plan, lasting, places, settled, next);
+    arrive(plan, lasting, places, followed, started(plan, first, i))
 }
 
 // The line that goes next: line `i` if its job goes on, otherwise the foremost of those that wait.
-fn choose(places: &[usize; 96], w: Waiting, on: bool, i: usize) -> Choice
+fn choose(places: &[usize; PLACES], w: Waiting, on: bool, i: usize) -> Choice
     requires { ⌜ (on ≡ false → foremost w < allPlaces) ⌝ }
     ensures { λ r. ⌜ r ≡ choosing (now (places .entry)) w on i ⌝ }
 {
@@ -169,74 +158,66 @@ fn choose(places: &[usize; 96], w: Waiting, on: bool, i: usize) -> Choice
         return Choice { line: i, others: w };
     }
     let s = waiting::foremost(w);
-    let line = places[s];
+    let line = places[s as usize];
     Choice {
         line,
         others: waiting::leave_place(w, s),
     }
 }
 
-// Line `i` is counted, if it is a take; there is no branch on the verb here either.
-fn count(plan: &[u32], counts: &mut [u32; 32], i: usize)
-    requires { ⌜ i < length (now plan) ⌝ }
-    requires { ⌜ CanRise (now plan) (now counts) i ⌝ }
-    ensures { λ r. ⌜ now (counts .exit) ≡ added (now (plan .entry)) (now (counts .entry)) i ⌝ }
+// A line is counted, if it is a take; there is no branch on the verb here either.
+fn count(counts: &mut [u32; EACH_DEVICE], l: u32)
+    requires { ⌜ CanRise (now counts) l ⌝ }
+    ensures { λ r. ⌜ now (counts .exit) ≡ added (now (counts .entry)) l ⌝ }
 {
-    let l = plan[i];
-    let takes = l / 256 % 4 == 1;
-    let d = (l % 32) as usize;
+    let takes = line::is_take(l);
+    let d = (line::operand(l) % DEVICES) as usize;
     counts[d] += takes as u32;
 }
 
 // How many lines take each device.
-fn tally(plan: &[u32]) -> [u32; 32]
+fn tally(plan: &[u32]) -> [u32; EACH_DEVICE]
     requires { ⌜ fault devices (now plan) ≡ none ⌝ }
     ensures { λ r. ⌜ r ≡ tallied (now (plan .entry)) (length (now (plan .entry))) ⌝ }
 {
-    let mut counts = [0u32; 32];
+    let mut counts = [0u32; EACH_DEVICE];
     let mut i = 0;
     while i < plan.len() {
-        count(plan, &mut counts, i);
+        count(&mut counts, plan[i]);
         i += 1;
     }
     counts
 }
 
-// A set, with device `d` if at most one of `c` lines takes it.
-fn with_scarce(s: u32, c: u32, d: usize) -> u32
-    requires { ⌜ d < devices ⌝ }
-    ensures { λ r. ⌜ r ≡ withScarce s c d ⌝ }
-{
-    if c <= 1 {
-        return sets::union(s, waiting::device_set(d));
-    }
-    s
-}
-
 // The devices that at most one line takes.
-fn scarce(counts: &[u32; 32]) -> u32
+fn scarce(counts: &[u32; EACH_DEVICE]) -> Set
     ensures { λ r. ⌜ r ≡ scarceBelow (now (counts .entry)) devices ⌝ }
 {
-    let mut s: u32 = 0;
-    let mut d = 0;
-    while d < 32 {
-        s = with_scarce(s, counts[d], d);
+    let mut s = sets::NONE;
+    let mut d: u32 = 0;
+    while d < DEVICES {
+        s = sets::union(s, sets::only_if(counts[d as usize] <= 1, d));
         d += 1;
     }
     s
 }
 
 // The order of a plan that has one, into the front of the lent list.
-pub fn hand_out(plan: &[u32], first: &[u32; 65], lasting: &[u8; 1024], order: &mut [u16])
-    requires { ⌜ Told (now plan) (now first) (now lasting) × (noOrder devices (now plan) ≡ none) ⌝ }
-    requires { ⌜ length (now plan) ≤ length (now order) ⌝ }
+pub fn hand_out(
+    plan: &[u32],
+    first: &[u32; EACH_JOB],
+    lasting: &[u8; MOST_LINES],
+    order: &mut [u16],
+)
+    requires { ⌜ Marked (now plan) (now lasting) × Listed (now plan) (now first) ⌝ }
+    requires { ⌜ (noOrder devices (now plan) ≡ none) × (length (now plan) ≤ length (now order)) ⌝ }
     ensures { λ r. ⌜ now (order .exit) ≡ over (map lineNumber (handed (now (plan .entry)))) (now (order .entry)) ⌝ }
 {
-    let mut places = [0usize; 96];
+    let mut places = [0usize; PLACES];
     let mut counts = tally(plan);
     let mut w = Waiting {
-        ready: 0,
-        standing: 0,
+        ready: sets::NO_JOBS,
+        standing: sets::NONE,
         scarce: scarce(&counts),
     };
     // Line `i` goes next if `on`: at first line 0, and then the next line of a job that goes on.

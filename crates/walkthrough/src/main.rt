@@ -1,36 +1,34 @@
 // The move of 01's case B, run through the code: the table and the order of case A's plan, the claim of line 5 moved to
-// device 2, and the order again. Each line written has an entry's answer and the lists that the entry wrote.
+// device 2, and the order again. What each entry answers is written on a line, and each list that it wrote on another.
+use model::MoveAnswer;
+use model::Refusal;
+use model::TableAnswer;
+use model::VerdictAnswer;
 
-// Writes a text.
-fn put(text: &[u8]) {
-    io::write_all(libc::STDOUT_FILENO, text);
-}
+// Room for a line.
+const ROOM: usize = 64;
 
-// Writes a text, a space and a number.
-fn put_number(text: &[u8], n: u32) {
-    put(text);
-    put(b" ");
-    io::print_decimal(libc::STDOUT_FILENO, n as u64);
-}
-
-// Writes a text and the numbers of a list, each after a space.
-fn put_list(text: &[u8], list: &[u32; 6]) {
-    put(text);
-    let mut i = 0;
-    while i < 6 {
-        put_number(b"", list[i]);
-        i += 1;
+// Writes a line of a word and numbers.
+fn write_line(word: &[u8], values: &[u32]) {
+    let mut out = [0u8; ROOM];
+    let at = fields::put_word(&mut out, 0, word);
+    let n = fields::put_values(&mut out, at, values);
+    if n <= ROOM {
+        shell::write_output(&out[..n]);
     }
+}
+
+fn write_refusal(r: Refusal) {
+    write_line(b"refused", &refusals::values(r));
 }
 
 // Makes the table of claims.
 fn table(plan: &[u32; 6], sets: &mut [u32; 6]) {
     match claims::table(plan, sets) {
-        model::TableAnswer::Lines(n) => put_number(b"table: lines", n),
-        model::TableAnswer::Refused(_) => put(b"table: refused"),
+        TableAnswer::Lines(n) => write_line(b"lines", &[n]),
+        TableAnswer::Refused(r) => write_refusal(r),
     }
-    put_list(b", sets", sets);
-    put(b"\n");
+    write_line(b"sets", sets);
 }
 
 // A line number as a number of 32 bits.
@@ -42,8 +40,8 @@ fn wide(n: u16) -> u32 {
 fn order(plan: &[u32; 6]) {
     let mut o = [0u16; 6];
     match verdict::verdict(plan, &mut o) {
-        model::VerdictAnswer::Held(n) => put_number(b"order: held", n),
-        model::VerdictAnswer::Refused(_) => put(b"order: refused"),
+        VerdictAnswer::Held(n) => write_line(b"held", &[n]),
+        VerdictAnswer::Refused(r) => write_refusal(r),
     }
     let list = [
         wide(o[0]),
@@ -53,19 +51,17 @@ fn order(plan: &[u32; 6]) {
         wide(o[4]),
         wide(o[5]),
     ];
-    put_list(b", lines", &list);
-    put(b"\n");
+    write_line(b"order", &list);
 }
 
 // Moves the claim of a line to a device.
 fn move_claim(plan: &mut [u32; 6], sets: &mut [u32; 6], line: u32, device: u32) {
     match moving::move_claim(plan, sets, line, device) {
-        model::MoveAnswer::Changed(n) => put_number(b"move: changed", n),
-        model::MoveAnswer::Refused(_) => put(b"move: refused"),
+        MoveAnswer::Changed(n) => write_line(b"changed", &[n]),
+        MoveAnswer::Refused(r) => write_refusal(r),
     }
-    put_list(b", plan", plan);
-    put_list(b", sets", sets);
-    put(b"\n");
+    write_line(b"plan", plan);
+    write_line(b"sets", sets);
 }
 
 fn main() {

@@ -1,113 +1,57 @@
 -- `claims::fill` meets its contract: with each turn one set more stands at its place.
-use Prim.Native.Nat.{_-_, _≤_}
+use Prim.Native.Nat.{suc, _-_, _<_}
 use mathlib.Core.Bool.{true}
 use mathlib.Core.Path.{_≡_}
 use native.Mathlib.Omega.{arith}
 use borrow.Author.Needs.{needs}
 use Rattle.model.specs.Board.{devices}
-use Rattle.model.specs.Line.{job, isLine, at, maxJob}
-use Rattle.theory.proofs.Line.{line-parts}
-use Rattle.claims.proofs.Passed.{Done, nothing-done, one-back, all-done}
+use Rattle.model.specs.Line.{isLine, at}
+use Rattle.claims.specs.Claim.{operands}
+use Rattle.claims.proofs.Claimed.{job-place}
+use Rattle.claims.proofs.Written.{Done, none-done, one-done, all-done}
 use Rattle.claims.proofs.fill.Statement.{statement}
 use Rattle.claims.proofs.fill.Tie as tie
 
 abbrev Inv-loop : tie.InvT-loop
-Inv-loop plan sets₀ first₀ i₀ sets first i = Done plan sets₀ sets first i
+Inv-loop plan sets₀ claimed₀ i₀ sets claimed i = Done plan sets₀ sets claimed i
 
 abbrev μ-loop : tie.MeasureT-loop
-μ-loop plan sets₀ first₀ i₀ sets first i = i
-
--- the line at hand is a line, so its job is one of the board
-line-at : (c : tie.In-loop Inv-loop μ-loop)
-    → isLine devices (at (c .before .before .before .before .args .plan .now) (c .before .loop .i - 1)) ≡ true
-line-at c = c .before .before .before .before .pre .0 (c .before .loop .i - 1) (omega arith)
-
-job-at : (c : tie.In-loop Inv-loop μ-loop)
-    → job (at (c .before .before .before .before .args .plan .now) (c .before .loop .i - 1)) ≤ maxJob
-job-at c =
-    line-parts devices (at (c .before .before .before .before .args .plan .now) (c .before .loop .i - 1)) (line-at c) .1
+μ-loop plan sets₀ claimed₀ i₀ sets claimed i = i
 
 loop-holds : tie.Need-loop-holds Inv-loop μ-loop
-loop-holds c =
-    let s = c .before .before in nothing-done (s .args .plan .now) (s .args .sets .now) (s .pre .1)
+loop-holds c = let a = c .before .before .args in none-done (a .plan .now) (a .sets .now)
 
-sub-i : tie.Need-sub-i Inv-loop μ-loop
-sub-i c = search needs
+-- the line at hand is a line, so its job has its place
+module _ (c : tie.After-job Inv-loop μ-loop) where
+  line-at : isLine devices (at (c .before .before .before .before .before .before .args .plan .now)
+      (c .before .before .before .loop .i - 1)) ≡ true
+  line-at = c .before .before .before .before .before .before .pre .0 (c .before .before .before .loop .i - 1)
+      (omega arith)
 
-mul-l : tie.Need-mul-l Inv-loop μ-loop
-mul-l c = search needs
-
-shared-slice-read-l : tie.Need-shared-slice-read-l Inv-loop μ-loop
-shared-slice-read-l c = omega arith
-
-cast-j : tie.Need-cast-j Inv-loop μ-loop
-unfolding job
-cast-j c = omega (arith, job-at (c .before))
-
-mul-next : tie.Need-mul-next Inv-loop μ-loop
-unfolding job
-mul-next c = omega (arith, job-at (c .before))
-
-array-read-next : tie.Need-array-read-next Inv-loop μ-loop
-unfolding job
-array-read-next c = omega (arith, job-at (c .before))
-
-claim-requires : tie.Need-claim-requires Inv-loop μ-loop
-claim-requires c κs = search needs
-
-mul-sets : tie.Need-mul-sets Inv-loop μ-loop
-mul-sets c = search needs
-
-slice-write-sets : tie.Need-slice-write-sets Inv-loop μ-loop
-slice-write-sets c = omega arith
-
-mul-first : tie.Need-mul-first Inv-loop μ-loop
-unfolding job
-mul-first c = omega (arith, job-at (c .before .before .before))
-
-array-write-first : tie.Need-array-write-first Inv-loop μ-loop
-unfolding job
-array-write-first c = omega (arith, job-at (c .before .before .before))
-
-loop-less : tie.Need-loop-less Inv-loop μ-loop
-loop-less c = search needs
+  job-at : c .job .result < operands
+  job-at = rw (c .job .ensures) (job-place devices _ line-at)
 
 loop-again : tie.Need-loop-again Inv-loop μ-loop
-unfolding job
 loop-again c =
-    let l = c .before .before .before .before .loop in
-    let a = c .before .before .before .before .before .before .before .args in
-    one-back (a .plan .now) (a .sets .now) (l .sets) (l .first) (l .i) (c .claim .result) (search needs) (l .inv)
-    (line-at (c .before .before .before)) (c .claim .ensures)
-
-same-length : tie.Need-same-length Inv-loop μ-loop
-same-length c = search needs
+    let at-job = c .before .before in
+    let a = at-job .before .before .before .before .before .before .args in
+    let l = at-job .before .before .before .loop in
+    let back : l .i ≡ suc (l .i - 1) = omega arith in
+    one-done (a .plan .now) (a .sets .now) (l .sets) (l .claimed) (l .i - 1) (at-job .job .result) (c .claim .result)
+    (rw back at (l .inv)) (line-at at-job) (at-job .job .ensures) (c .claim .ensures)
 
 returns : tie.Need-returns Inv-loop μ-loop
 returns c =
     let l = c .before .loop in
-    let a = c .before .before .before .before .args in
-    all-done (a .plan .now) (a .sets .now) (l .sets) (l .first) (l .i) (c .loop-test .left) (l .inv)
+    let start = c .before .before .before .before in
+    let front : l .i ≡ 0 = omega arith in
+    all-done (start .args .plan .now) (start .args .sets .now) (l .sets) (l .claimed) (start .pre .1)
+    (rw front at (l .inv))
 
 pub fill-spec : {M : Type 1} → statement M
 fill-spec =
     tie.close
-    (tie.spec
-    Inv-loop
-    μ-loop
-    loop-holds
-    sub-i
-    mul-l
-    shared-slice-read-l
-    cast-j
-    mul-next
-    array-read-next
-    claim-requires
-    mul-sets
-    slice-write-sets
-    mul-first
-    array-write-first
-    loop-less
-    loop-again
-    same-length
-    returns)
+    (tie.spec Inv-loop μ-loop loop-holds (λ c. search needs) (λ c. search needs) (λ c. omega arith)
+    (λ c κs. search needs) (λ c. search needs) (λ c. search needs) job-at (λ c κs. search needs) (λ c. search needs)
+    (λ c. omega arith) (λ c. search needs) (λ c. job-at (c .before .before)) (λ c. search needs) loop-again
+    (λ c. search needs) returns)

@@ -1,87 +1,73 @@
--- `moving::asked` meets its contract: which test refuses.
-use mathlib.Core.Path.{sym, ap}
+-- `moving::asked` meets its contract: which test refuses, or what the last two answer.
+use mathlib.Core.Bool.{true}
+use mathlib.Core.Path.{_≡_, sym, _∙_}
+use native.Mathlib.Omega.{arith}
 use borrow.Author.Needs.{needs}
-use Rattle.model.specs.Line.{kind}
-use Rattle.moving.proofs.Refusing.{too-short, not-a-take, no-device, all-asked}
-use Rattle.plan.specs.Checked.{checked}
-use Rattle.moving.proofs.Refusing.{no-line, past-plan, other-kind, a-take}
+use Rattle.model.specs.Board.{devices}
+use Rattle.model.specs.Move.{isTakeOf}
+use Rattle.moving.proofs.Refusing.{too-short, not-a-take, no-device, last-left, asked-position, take-asked}
 use Rattle.moving.proofs.asked.Statement.{statement}
 use Rattle.moving.proofs.asked.Tie as tie
 
-cast-t8 : tie.Need-cast-t8
-cast-t8 c = search needs
+-- the function's entry, from where the table has room; and from there, that the line is a take
+abbrev entry : tie.Else1 → tie.Start
+entry c = c .before .before .before .before .before
 
+is-take : (c : tie.Then2)
+    → let a = entry (c .before .before) .args in isTakeOf (a .plan .now) (a .line) ≡ true
+is-take c = sym (c .before .is-take-of .ensures) ∙ c .if2 .taken
+
+-- 11
 returns : tie.Need-returns
 returns c =
-    let s = c .before in
-    let p = s .args .plan .now in
-    ap checked (sym (too-short 32 p (s .args .room) (s .args .line) (s .args .device) (c .if1 .taken)))
+    let a = c .before .before .before .before .before .args in
+    too-short devices (a .plan .now) (a .sets .now) (a .line) (a .device) (c .if1 .taken)
 
+-- 13
 returns-2 : tie.Need-returns-2
 returns-2 c =
-    let s = c .before .before in
-    let p = s .args .plan .now in
-    ap checked (sym (not-a-take 32 p (s .args .room) (s .args .line) (s .args .device) (c .before .if1 .left)
-    (no-line p (s .args .line) (c .if2 .taken))))
+    let roomy = c .before .before .before in
+    let a = entry roomy .args in
+    no-device devices (a .plan .now) (a .sets .now) (a .line) (a .device) (roomy .if1 .left) _
+    (c .before .before .is-take-of .ensures) (c .before .if2 .taken) (c .if3 .taken)
 
-sub-i : tie.Need-sub-i
-sub-i c = search needs
+fresh-requires : tie.Need-fresh-requires
+fresh-requires c κs =
+    let roomy = c .before .before .before in
+    let s = entry roomy in (
+      take-asked (s .args .plan .now) (s .args .line) (s .args .device) (s .pre .wellFormed) (is-take (c .before))
+          (c .if3 .left),
+      record { scan = s .pre; room = roomy .if1 .left },
+    )
 
-cast-i : tie.Need-cast-i
-cast-i c = search needs
-
+-- 14 or 8, or none
 returns-3 : tie.Need-returns-3
 returns-3 c =
-    let s = c .before .before .before in
-    let p = s .args .plan .now in
-    ap checked (sym (not-a-take 32 p (s .args .room) (s .args .line) (s .args .device) (c .before .before .if1 .left)
-    (past-plan p (s .args .line) (c .before .if2 .left) (c .if3 .taken))))
+    let roomy = c .before .before .before .before in
+    let a = entry roomy .args in
+    last-left devices (a .plan .now) (a .sets .now) (a .line) (a .device) (roomy .if1 .left) _
+    (c .before .before .before .is-take-of .ensures) (c .before .before .if2 .taken) (c .before .if3 .left) _
+    (c .fresh .ensures)
 
-mul-if4 : tie.Need-mul-if4
-mul-if4 c = search needs
-
-shared-slice-read-if4 : tie.Need-shared-slice-read-if4
-shared-slice-read-if4 c = search needs
-
+-- 12
 returns-4 : tie.Need-returns-4
-unfolding kind
 returns-4 c =
-    let s = c .before .before .before .before .before in
-    let p = s .args .plan .now in
-    ap checked (sym (not-a-take 32 p (s .args .room) (s .args .line) (s .args .device)
-    (c .before .before .before .before .if1 .left)
-    (other-kind p (s .args .line) (c .before .before .before .if2 .left) (c .if4 .taken))))
-
-returns-5 : tie.Need-returns-5
-unfolding kind
-returns-5 c =
-    let s = c .before .before .before .before .before .before in
-    let p = s .args .plan .now in
-    ap checked (sym (no-device 32 p (s .args .room) (s .args .line) (s .args .device)
-    (c .before .before .before .before .before .if1 .left)
-    (a-take p (s .args .line) (c .before .before .before .before .if2 .left) (c .before .if4 .left)) (c .if5 .taken)))
-
-returns-6 : tie.Need-returns-6
-unfolding kind
-returns-6 c =
-    let s = c .before .before .before .before .before .before in
-    let p = s .args .plan .now in
-    ap checked (sym (all-asked 32 p (s .args .room) (s .args .line) (s .args .device)
-    (c .before .before .before .before .before .if1 .left)
-    (a-take p (s .args .line) (c .before .before .before .before .if2 .left) (c .before .if4 .left)) (search needs)))
+    let roomy = c .before .before in
+    let a = entry roomy .args in
+    not-a-take devices (a .plan .now) (a .sets .now) (a .line) (a .device) (roomy .if1 .left) _
+    (c .before .is-take-of .ensures) (c .if2 .left)
 
 pub asked-spec : {M : Type 1} → statement M
 asked-spec =
     tie.close
     (tie.spec
-    cast-t8
+    (λ c. omega (arith, c .before .before .before .before .before .pre .wellFormed .few))
     returns
+    (λ c κs. search needs)
     returns-2
-    sub-i
-    cast-i
+    (λ c. let a = entry (c .before .before .before) .args in
+    asked-position (a .plan .now) (a .line) (is-take (c .before)) .0)
+    (λ c. search needs)
+    fresh-requires
     returns-3
-    mul-if4
-    shared-slice-read-if4
-    returns-4
-    returns-5
-    returns-6)
+    returns-4)

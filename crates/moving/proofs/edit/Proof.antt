@@ -1,119 +1,52 @@
 -- `moving::edit` meets its contract: the take, and its mate where it has one.
-use Prim.Native.Nat.{_<_}
-use mathlib.Core.Path.{_≡_, sym, _∙_}
-use mathlib.Core.Option.{some}
-use native.Mathlib.Omega.{arith}
-use lib.ListN.{length}
-use lib.Seq.{lt-length-set}
+use Prim.Native.Nat.{ℕ}
+use mathlib.Core.List.{List}
+use mathlib.Core.Option.{none, some}
+use mathlib.Core.Path.{_≡_}
 use borrow.Author.Needs.{needs}
 use Rattle.model.specs.Mate.{mate}
-use Rattle.theory.proofs.WellFormed.{take-line}
-use Rattle.theory.proofs.Mate.{pair}
-use Rattle.moving.proofs.Outcome.{found-some, found-none, edited-pair, edited-alone}
+use Rattle.model.specs.Move.{withDevice, alsoMate, edited}
+use Rattle.moving.proofs.Answers.{found-some, found-none}
 use Rattle.moving.proofs.edit.Statement.{statement}
 use Rattle.moving.proofs.edit.Tie as tie
 
--- the take and its mate are lines of the plan
-take-in : (c : tie.Start) → c .args .i < length (c .args .plan .now)
-take-in c = take-line (c .args .plan .now) (c .args .i) (c .pre .0)
+module _ (p q : List ℕ) (i e : ℕ) (given : q ≡ withDevice p e i) where
+  with-mate : (m : ℕ) (r : List ℕ) → mate p i ≡ some m → r ≡ withDevice q e m → r ≡ edited p i e
+  unfolding edited alsoMate
+  with-mate m r h g = rw (h, ← given) g
 
--- the function's entry, from where the take has a mate
-abbrev entry : tie.After-pair → tie.Start
-entry c = c .before .before .before .before .before .before .before
+  alone : mate p i ≡ none → q ≡ edited p i e
+  unfolding edited alsoMate
+  alone h = rw h given
 
-mated : (c : tie.After-pair) → mate (entry c .args .plan .now) (entry c .args .i) ≡ some (c .pair .given .0 .0)
-mated c =
-    found-some (mate (entry c .args .plan .now) (entry c .args .i)) (c .pair .given .0 .0)
-    (sym (c .pair .given .1) ∙ c .before .before .before .before .mate .ensures)
-
-mate-in : (c : tie.After-pair) → c .pair .given .0 .0 < length (entry c .args .plan .now)
-mate-in c = pair (entry c .args .plan .now) (entry c .args .i) (c .pair .given .0 .0) (mated c) .inPlan
-
-mate-requires : tie.Need-mate-requires
-mate-requires c κs = search needs
-
-mul-take : tie.Need-mul-take
-mul-take c = omega (arith, take-in (c .before .before .before))
-
-slice-read-take : tie.Need-slice-read-take
-slice-read-take c = take-in (c .before .before .before .before)
-
-with-device-requires : tie.Need-with-device-requires
-with-device-requires c κs = search needs
-
-mul-plan : tie.Need-mul-plan
-mul-plan c = omega (arith, take-in (c .before .before .before .before .before))
-
-slice-write-plan : tie.Need-slice-write-plan
-slice-write-plan c = take-in (c .before .before .before .before .before)
-
-enum-known-pair : tie.Need-enum-known-pair
-enum-known-pair c = search needs
-
-mul-give : tie.Need-mul-give
-mul-give c = omega (arith, mate-in (c .before))
-
-slice-read-give : tie.Need-slice-read-give
-slice-read-give c =
-    let a = c .before .before .before .before .before .before .before .before .before .args in
-    lt-length-set (a .plan .now) (a .i) (c .before .before .before .before .with-device .result)
-    (mate-in (c .before .before))
-
-with-device-requires-2 : tie.Need-with-device-requires-2
-with-device-requires-2 c κs = search needs
-
-mul-plan-2 : tie.Need-mul-plan-2
-mul-plan-2 c = omega (arith, mate-in (c .before .before .before))
-
-slice-write-plan-2 : tie.Need-slice-write-plan-2
-slice-write-plan-2 c =
-    let a = c .before .before .before .before .before .before .before .before .before .before .args in
-    lt-length-set (a .plan .now) (a .i) (c .before .before .before .before .before .with-device .result)
-    (mate-in (c .before .before .before))
-
-enum-told : tie.Need-enum-told
-enum-told c = search needs
-
-same-length : tie.Need-same-length
-same-length c = search needs
-
+-- a take with a mate
 returns : tie.Need-returns
 returns c =
-    let m = mated (c .before .before .before) in
-    let a = c .before .before .before .before .before .before .before .before .before .before .args in
-    edited-pair (a .plan .now) (a .i) (c .before .before .before .pair .given .0 .0) (a .device)
-    (c .before .before .before .before .before .with-device .result) (c .with-device2 .result) m
-    (c .before .before .before .before .before .with-device .ensures) (c .with-device2 .ensures)
+    let with-pair = c .before .before .before .before .before in
+    let at-mate = with-pair .before .before .before .before .before .before in
+    let a = at-mate .before .before .before .args in
+    with-mate (a .plan .now) _ (a .i) _ (with-pair .before .before .before .before .give-device .ensures) _ _
+    (found-some (mate (a .plan .now) (a .i)) _ _ (with-pair .pair .given .1) (at-mate .mate .ensures))
+    (c .before .before .give-device2 .ensures)
 
-same-length-2 : tie.Need-same-length-2
-same-length-2 c = search needs
-
+-- a lasting take
 returns-2 : tie.Need-returns-2
 returns-2 c =
-    let a = c .before .before .before .before .before .before .before .args in
-    edited-alone (a .plan .now) (a .i) (a .device) (c .before .before .with-device .result)
-    (found-none (mate (a .plan .now) (a .i))
-    (sym (c .enum-told .given .1) ∙ c .before .before .before .before .mate .ensures))
-    (c .before .before .with-device .ensures)
+    let at-mate = c .before .before .before .before .before .before in
+    let a = at-mate .before .before .before .args in
+    alone (a .plan .now) _ (a .i) _ (c .before .before .before .before .give-device .ensures)
+    (found-none (mate (a .plan .now) (a .i)) _ (c .enum-told .given .1) (at-mate .mate .ensures))
 
 pub edit-spec : {M : Type 1} → statement M
 edit-spec =
     tie.close
     (tie.spec
-    mate-requires
-    mul-take
-    slice-read-take
-    with-device-requires
-    mul-plan
-    slice-write-plan
-    enum-known-pair
-    mul-give
-    slice-read-give
-    with-device-requires-2
-    mul-plan-2
-    slice-write-plan-2
-    enum-told
-    same-length
+    (λ c κs. search needs)
+    (λ c κs. search needs)
+    (λ c. search needs)
+    (λ c κs. search needs)
+    (λ c. search needs)
+    (λ c. search needs)
     returns
-    same-length-2
+    (λ c. search needs)
     returns-2)

@@ -4,8 +4,8 @@ use mathlib.Core.Bool.{Bool, true, false, cond}
 use Prim.Native.Nat.{ℕ, _+_, _-_, _≤_}
 use native.Mathlib.Omega.{arith}
 use mir.Val.{boolByte}
-use borrow.Author.Needs.{needs}
 use Rattle.theory.proofs.Tests.{clash}
+use borrow.Author.Needs.{needs}
 use Rattle.plan.proofs.deeper.Statement.{statement}
 use Rattle.plan.proofs.deeper.Tie as tie
 
@@ -17,21 +17,15 @@ some-left : (depth : ℕ) (takes gives : Bool) → (gives ≡ true → 1 ≤ dep
 some-left depth takes true h = omega (arith, h refl)
 some-left depth takes false h = omega arith
 
-by-flags : (depth : ℕ) (takes gives : Bool) → (gives ≡ true → takes ≡ false)
+by-flags : (depth : ℕ) (takes gives : Bool) → (takes ≡ true → gives ≡ false)
     → depth + boolByte takes - boolByte gives ≡ cond takes (depth + 1) (cond gives (depth - 1) depth)
 by-flags depth true true h = clash true refl (h refl)
 by-flags depth true false h = omega arith
 by-flags depth false true h = omega arith
 by-flags depth false false h = omega arith
 
-cast-result : tie.Need-cast-result
-cast-result c = search needs
-
 add-result : tie.Need-add-result
 add-result c = record { fits = omega (arith, one-at-most (c .args .takes)) }
-
-cast-result-2 : tie.Need-cast-result-2
-cast-result-2 c = search needs
 
 sub-result : tie.Need-sub-result
 sub-result c = some-left (c .args .depth) (c .args .takes) (c .args .gives) (c .pre .1)
@@ -40,4 +34,4 @@ returns : tie.Need-returns
 returns c = by-flags (c .args .depth) (c .args .takes) (c .args .gives) (c .pre .2)
 
 pub deeper-spec : {M : Type 1} → statement M
-deeper-spec = tie.close (tie.spec cast-result add-result cast-result-2 sub-result returns)
+deeper-spec = tie.close (tie.spec (λ c. search needs) add-result (λ c. search needs) sub-result returns)

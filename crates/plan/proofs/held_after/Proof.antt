@@ -1,131 +1,117 @@
--- `plan::held_after` meets its contract: its one test is `breaks`, and the laws of `Stacks` go by the kind.
-use mathlib.Core.Path.{_≡_, sym, ap, _∙_}
-use mathlib.Core.Bool.{Bool, true, false, not, _&&_, _||_}
-use mathlib.Core.List.{List}
-use Prim.Native.Nat.{ℕ, _%_, _≤_}
+-- `plan::held_after` meets its contract: its one test is `breaks`, by which the laws of `Stacks` go.
+use mathlib.Core.Path.{_≡_, sym, _∙_}
+use mathlib.Core.Bool.{true, false}
+use Prim.Native.Nat.{_≤_}
 use native.Mathlib.Omega.{arith}
-use lib.Dec.{eqb}
 use lib.ListN.{getD}
-use borrow.Author.Needs.{needs}
-use borrow.Author.Tests.{ne-eqb, eqb-true}
 use Rattle.model.specs.Board.{devices}
-use Rattle.model.specs.Line.{job, kind, operand}
-use Rattle.model.specs.Sets.{member}
-use Rattle.plan.proofs.Lines.{device-operand}
-use Rattle.plan.proofs.Stacks.{none-held, few, breaks, again, unmatched, given-deep, goes-on}
+use Rattle.theory.proofs.Line.{take-no-give}
+use Rattle.plan.specs.Walk.{breaks}
+use Rattle.plan.proofs.Stacks.{few, taken-again, wrongly-given, given-deep, led, holds}
+use borrow.Author.Needs.{needs}
 use Rattle.plan.proofs.held_after.Statement.{statement}
 use Rattle.plan.proofs.held_after.Tie as tie
-
--- the test with what `holds` answered in the set's place
-tested : (k o depth held : ℕ) (stack : List ℕ) (r t : Bool) → r ≡ member held (o % 32)
-    → ((eqb k 1 && r) || (eqb k 2 && not (eqb (getD stack depth 0) o))) ≡ t → breaks k o depth held stack ≡ t
-tested k o depth held stack r t e h =
-    ap (λ (x : Bool). (eqb k 1 && x) || (eqb k 2 && not (eqb (getD stack depth 0) o))) (sym e) ∙ h
 
 few-at : (c : tie.Start) → c .args .depth ≤ devices
 few-at c = few (c .args .depth) (c .args .held) (c .args .stack .now) (c .pre .3)
 
-holds-requires : tie.Need-holds-requires
-holds-requires c κs = search needs
-
-mul-if1 : tie.Need-mul-if1
-mul-if1 c = record { fits = omega (arith, few-at (c .before)) }
-
 element-copy-out-if1 : tie.Need-element-copy-out-if1
-element-copy-out-if1 c = omega (arith, few-at (c .before))
+element-copy-out-if1 c = omega (arith, few-at (c .before .before .before .before))
 
-add-t21 : tie.Need-add-t21
-add-t21 c = search needs
+-- the test, by what is called
+broken-at : (c : tie.Then1)
+    → let a = c .before .before .before .before .before .before .args in
+    breaks (a .n) (a .held) (getD (a .stack .now) (a .depth) 0) ≡ true
+broken-at c =
+    let m = c .before .before in
+    let t = m .before .before in
+    rw (m .member .ensures, m .before .is-give .ensures, t .is-take .ensures, t .before .operand .ensures) at
+    (c .if1 .taken)
 
-cast-t22 : tie.Need-cast-t22
-cast-t22 c = search needs
+fine-at : (c : tie.Else1)
+    → let a = c .before .before .before .before .before .before .args in
+    breaks (a .n) (a .held) (getD (a .stack .now) (a .depth) 0) ≡ false
+fine-at c =
+    let m = c .before .before in
+    let t = m .before .before in
+    rw (m .member .ensures, m .before .is-give .ensures, t .is-take .ensures, t .before .operand .ensures) at
+    (c .if1 .left)
 
+-- a take of what is held
 returns : tie.Need-returns
-unfolding job kind operand
 returns c =
-    let s = c .before .before .before .before in
-    let a = s .args in
-    let f = c .before .before .before .holds in
-    let b = tested (kind (a .n)) (operand (a .n)) (a .depth) (a .held) (a .stack .now) (f .result) true (f .ensures)
-    (c .before .if1 .taken) in (
-      again (a .i) (job (a .n)) (kind (a .n)) (operand (a .n)) (a .depth) (a .held) (a .stack .now) (s .pre .3)
-          (s .pre .2) (device-operand (a .n) (s .pre .1) (s .pre .2)) b (c .if2 .taken),
-      none-held (a .stack .now) (s .pre .3 .long) (s .pre .3 .floor),
+    let t = c .before .before .before .before .before in
+    let s = t .before .before in
+    let a = s .args in (
+      taken-again (a .n) (a .depth) (a .held) (a .stack .now) (s .pre .3) (s .pre .1) (broken-at (c .before)) (a .i)
+          (sym (t .is-take .ensures) ∙ c .if2 .taken),
+      tt,
     )
 
-add-t24 : tie.Need-add-t24
-add-t24 c = search needs
-
-cast-t25 : tie.Need-cast-t25
-cast-t25 c = search needs
-
+-- a give of what is not the latest
 returns-2 : tie.Need-returns-2
-unfolding job kind operand
 returns-2 c =
-    let s = c .before .before .before .before in
-    let a = s .args in
-    let f = c .before .before .before .holds in
-    let b = tested (kind (a .n)) (operand (a .n)) (a .depth) (a .held) (a .stack .now) (f .result) true (f .ensures)
-    (c .before .if1 .taken) in (
-      unmatched (a .i) (job (a .n)) (kind (a .n)) (operand (a .n)) (a .depth) (a .held) (a .stack .now) (s .pre .3)
-          (s .pre .2) (device-operand (a .n) (s .pre .1) (s .pre .2)) b (c .if2 .left),
-      none-held (a .stack .now) (s .pre .3 .long) (s .pre .3 .floor),
+    let t = c .before .before .before .before .before in
+    let s = t .before .before in
+    let a = s .args in (
+      wrongly-given (a .n) (a .depth) (a .held) (a .stack .now) (s .pre .3) (s .pre .1) (broken-at (c .before)) (a .i)
+          (sym (t .is-take .ensures) ∙ c .if2 .left),
+      tt,
     )
-
-add-t : tie.Need-add-t
-add-t c = record { fits = omega (arith, few-at (c .before .before .before)) }
-
-mul-stack : tie.Need-mul-stack
-mul-stack c = record { fits = omega (arith, few-at (c .before .before .before)) }
 
 element-write-stack : tie.Need-element-write-stack
-element-write-stack c = omega (arith, few-at (c .before .before .before))
+element-write-stack c = omega (arith, few-at (c .before .before .before .before .before .before))
 
 deeper-requires : tie.Need-deeper-requires
-unfolding job kind operand
 deeper-requires c κs =
-    let s = c .before .before .before in
+    let g = c .before .before .before in
+    let s = g .before .before .before in
     let a = s .args in
-    let f = c .before .before .holds in
-    let b = tested (kind (a .n)) (operand (a .n)) (a .depth) (a .held) (a .stack .now) (f .result) false (f .ensures)
-    (c .if1 .left) in (
+    rw (g .is-give .ensures, g .before .is-take .ensures) (
       few-at s,
-      given-deep (a .i) (job (a .n)) (kind (a .n)) (operand (a .n)) (a .depth) (a .held) (a .stack .now) (s .pre .3)
-          (s .pre .2) (device-operand (a .n) (s .pre .1) (s .pre .2)) b,
-      λ e. ne-eqb (kind (a .n)) 1 (λ q. omega (arith, eqb-true (kind (a .n)) 2 e)),
+      given-deep (a .n) (a .depth) (a .held) (a .stack .now) (s .pre .3) (s .pre .1) (fine-at c),
+      take-no-give (a .n),
     )
 
-flipped-requires : tie.Need-flipped-requires
-flipped-requires c κs = search needs
-
+-- nothing is broken
 returns-3 : tie.Need-returns-3
-unfolding job kind operand
 returns-3 c =
-    let s = c .before .before .before .before .before in
+    let g = c .before .before .before .before .before .before in
+    let s = g .before .before .before in
     let a = s .args in
-    let f = c .before .before .before .before .holds in
-    let b = tested (kind (a .n)) (operand (a .n)) (a .depth) (a .held) (a .stack .now) (f .result) false (f .ensures)
-    (c .before .before .if1 .left) in
-    goes-on (a .i) (job (a .n)) (kind (a .n)) (operand (a .n)) (a .depth) (a .held) (a .stack .now) (s .pre .3)
-    (s .pre .2) (device-operand (a .n) (s .pre .1) (s .pre .2)) b (c .before .deeper .result)
-    (c .flipped .result) (c .before .deeper .ensures) (c .flipped .ensures)
+    rw (
+      c .differ .ensures,
+      c .before .only-if .ensures,
+      c .before .before .deeper .ensures,
+      g .is-give .ensures,
+      g .before .is-take .ensures,
+      g .before .before .operand .ensures,
+    ) (
+      led (a .n) (a .depth) (a .held) (a .stack .now) (s .pre .3) (s .pre .1) (fine-at (c .before .before .before))
+          (a .i) (s .pre .2),
+      holds (a .n) (a .depth) (a .held) (a .stack .now) (s .pre .3) (s .pre .1) (fine-at (c .before .before .before)),
+    )
 
 pub held-after-spec : {M : Type 1} → statement M
 held-after-spec =
     tie.close
     (tie.spec
-    holds-requires
-    mul-if1
+    (λ c κs. search needs)
+    (λ c κs. search needs)
+    (λ c κs. search needs)
+    (λ c κs. search needs)
+    (λ c. search needs)
     element-copy-out-if1
-    add-t21
-    cast-t22
+    (λ c. search needs)
+    (λ c. search needs)
     returns
-    add-t24
-    cast-t25
+    (λ c. search needs)
+    (λ c. search needs)
     returns-2
-    add-t
-    mul-stack
+    (λ c. search needs)
+    (λ c. search needs)
     element-write-stack
     deeper-requires
-    flipped-requires
+    (λ c κs. search needs)
+    (λ c κs. search needs)
     returns-3)

@@ -1,48 +1,24 @@
 -- `port::gimmerskip_read` meets its contract: the answer of the entry behind it, handed on.
+use native.Mathlib.Omega.{arith}
 use borrow.Author.Needs.{needs}
-use Rattle.port.proofs.HandedOn.{counted, reads}
+use Rattle.promises.proofs.Tight.{in-one}
 use Rattle.port.proofs.gimmerskip_read.Statement.{statement}
 use Rattle.port.proofs.gimmerskip_read.Tie as tie
 
-read-requires : tie.Need-read-requires
-read-requires c κs = search needs
-
-enum-known-n : tie.Need-enum-known-n
-enum-known-n c = search needs
-
-cast-result : tie.Need-cast-result
-cast-result c = search needs
-
-enum-known-r : tie.Need-enum-known-r
-enum-known-r c = search needs
-
-in-one-requires : tie.Need-in-one-requires
-in-one-requires c κs = search needs
-
-same-length : tie.Need-same-length
-same-length c = search needs
-
+-- a success
 returns : tie.Need-returns
-returns c = reads (c .before .before .before .before .before .read .ensures) (c .before .n .given .1)
-    (counted (c .before .n .given .0 .0))
+returns c =
+    in-one (c .before .before .before .before .before .read .ensures) (c .before .n .given .1)
+    (omega arith)
 
-same-length-2 : tie.Need-same-length-2
-same-length-2 c = search needs
-
+-- a refusal
 returns-2 : tie.Need-returns-2
-returns-2 c = reads (c .before .before .before .before .before .before .read .ensures) (c .before .before .r .given .1)
+returns-2 c =
+    in-one (c .before .before .before .before .before .before .read .ensures) (c .before .before .r .given .1)
     (c .in-one .ensures)
 
 pub gimmerskip-read-spec : {M : Type 1} → statement M
 gimmerskip-read-spec =
     tie.close
-    (tie.spec
-    read-requires
-    enum-known-n
-    cast-result
-    enum-known-r
-    in-one-requires
-    same-length
-    returns
-    same-length-2
-    returns-2)
+    (tie.spec (λ c κs. search needs) (λ c. search needs) (λ c. search needs) (λ c. search needs)
+    (λ c κs. search needs) (λ c. search needs) returns (λ c. search needs) returns-2)

@@ -1,51 +1,39 @@
--- `reader::gimmerskip_line` meets its contract: the answer of `line_at`, handed on.
-use mathlib.Core.Path.{refl}
+-- `reader::gimmerskip_line` meets its contract: the answer of `line_at`, handed on as one number.
+use Prim.Native.Nat.{ℕ}
+use mathlib.Core.List.{List}
+use mathlib.Core.Path.{_≡_, refl, sym, _∙_, ap}
+use native.Mathlib.Omega.{arith}
 use borrow.Author.Needs.{needs}
-use Rattle.reader.proofs.HandedOn.{packed, hands-out}
+use Rattle.model.specs.Answers.{lineValues}
+use Rattle.model.specs.Board.{devices}
+use Rattle.model.specs.Text.{lineFrom}
+use Rattle.model.specs.declared.LineAnswer.{LineAnswer}
+use Rattle.refusals.specs.InOne.{inOne}
+use Rattle.promises.specs.ForC.{HandsOutForC}
 use Rattle.reader.proofs.gimmerskip_line.Statement.{statement}
 use Rattle.reader.proofs.gimmerskip_line.Tie as tie
 
-line-at-requires : tie.Need-line-at-requires
-line-at-requires c κs = search needs
+-- the answer a is b, whose values in one number are n
+hands-out : {text : List ℕ} {offset n : ℕ} {a b : LineAnswer} → a ≡ lineFrom devices text offset → a ≡ b
+    → n ≡ inOne (lineValues b) → HandsOutForC text offset n
+hands-out x e m = record { answers = m ∙ ap (λ (y : LineAnswer). inOne (lineValues y)) (sym e ∙ x) }
 
-enum-known-n : tie.Need-enum-known-n
-enum-known-n c = search needs
-
-cast-result : tie.Need-cast-result
-cast-result c = search needs
-
-enum-known-r : tie.Need-enum-known-r
-enum-known-r c = search needs
-
-in-one-requires : tie.Need-in-one-requires
-in-one-requires c κs = search needs
-
-enum-told : tie.Need-enum-told
-enum-told c = search needs
-
+-- a line
 returns : tie.Need-returns
-returns c =
-    let n = c .before .n .given in
-    hands-out (c .before .before .before .line-at .ensures) (n .1) (packed (n .0 .0) (n .0 .1 .0))
+returns c = hands-out (c .before .before .before .line-at .ensures) (c .before .n .given .1) (omega arith)
 
+-- a refusal
 returns-2 : tie.Need-returns-2
 returns-2 c =
     hands-out (c .before .before .before .before .line-at .ensures) (c .before .before .r .given .1)
     (c .in-one .ensures)
 
+-- the end
 returns-3 : tie.Need-returns-3
 returns-3 c = hands-out (c .before .before .line-at .ensures) (c .enum-told .given .1) refl
 
 pub gimmerskip-line-spec : {M : Type 1} → statement M
 gimmerskip-line-spec =
     tie.close
-    (tie.spec
-    line-at-requires
-    enum-known-n
-    cast-result
-    enum-known-r
-    in-one-requires
-    enum-told
-    returns
-    returns-2
-    returns-3)
+    (tie.spec (λ c κs. search needs) (λ c. search needs) (λ c. search needs) (λ c. search needs)
+    (λ c κs. search needs) (λ c. search needs) returns returns-2 returns-3)

@@ -3,22 +3,16 @@ use mathlib.Core.Path.{_∙_}
 use borrow.Author.Needs.{needs}
 use Rattle.model.specs.Board.{devices}
 use Rattle.theory.proofs.Offsets.{from-count}
-use Rattle.text.proofs.Tight.{handed-out}
+use Rattle.promises.proofs.Tight.{the-line}
 use Rattle.reader.proofs.line_from.Statement.{statement}
 use Rattle.reader.proofs.line_from.Tie as tie
-
-newlines-before-requires : tie.Need-newlines-before-requires
-newlines-before-requires c κs = search needs
-
-next-line-requires : tie.Need-next-line-requires
-next-line-requires c κs = search needs
 
 returns : tie.Need-returns
 returns c =
     let n = c .before .newlines-before in
     let a = c .before .before .before .args in
-    handed-out (a .text .now) _ (c .next-line .result) (c .next-line .ensures)
+    the-line (a .text .now) _ (c .next-line .result) (c .next-line .ensures)
     ∙ from-count devices (a .text .now) (a .offset) (n .result) (n .ensures)
 
 pub line-from-spec : {M : Type 1} → statement M
-line-from-spec = tie.close (tie.spec newlines-before-requires next-line-requires returns)
+line-from-spec = tie.close (tie.spec (λ c κs. search needs) (λ c κs. search needs) returns)

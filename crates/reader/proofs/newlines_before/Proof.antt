@@ -20,24 +20,16 @@ abbrev μ-loop : tie.MeasureT-loop
 loop-holds : tie.Need-loop-holds Inv-loop μ-loop
 loop-holds c = omega (arith, before-none (c .args .text .now))
 
+-- the offset is reached
 returns : tie.Need-returns Inv-loop μ-loop
 returns c =
     let l = c .before .before in
     l .loop .inv .2 ∙ ap (newlinesBefore (l .before .args .text .now)) (c .if1 .taken)
 
-shared-slice-read-if2 : tie.Need-shared-slice-read-if2 Inv-loop μ-loop
-shared-slice-read-if2 c = omega arith
-
 add-lines : tie.Need-add-lines Inv-loop μ-loop
 add-lines c =
     let l = c .before .before .before .before in
     omega (arith, before-few (l .before .args .text .now) (l .loop .i) (l .loop .inv .0))
-
-add-i : tie.Need-add-i Inv-loop μ-loop
-add-i c = omega arith
-
-loop-less : tie.Need-loop-less Inv-loop μ-loop
-loop-less c = omega arith
 
 loop-again : tie.Need-loop-again Inv-loop μ-loop
 loop-again c =
@@ -48,6 +40,7 @@ loop-again c =
     ⊎-elim (λ w. omega (arith, before-newline text i more (w .0 .taken)))
     (λ w. omega (arith, before-other text i more (w .0 .left))) (c .if2 .came)
 
+-- the text ends before it
 returns-2 : tie.Need-returns-2 Inv-loop μ-loop
 returns-2 c =
     let l = c .before in
@@ -59,14 +52,5 @@ returns-2 c =
 pub newlines-before-spec : {M : Type 1} → statement M
 newlines-before-spec =
     tie.close
-    (tie.spec
-    Inv-loop
-    μ-loop
-    loop-holds
-    returns
-    shared-slice-read-if2
-    add-lines
-    add-i
-    loop-less
-    loop-again
-    returns-2)
+    (tie.spec Inv-loop μ-loop loop-holds returns (λ c. search needs) add-lines (λ c. search needs) (λ c. search needs)
+    loop-again returns-2)

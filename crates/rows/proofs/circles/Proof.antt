@@ -8,17 +8,12 @@ use Rattle.rows.proofs.Square.{diagonal-circles}
 use Rattle.rows.proofs.circles.Statement.{statement}
 use Rattle.rows.proofs.circles.Tie as tie
 
-close-requires : tie.Need-close-requires
-close-requires c κs = search needs
-
-diagonal-requires : tie.Need-diagonal-requires
-diagonal-requires c κs = search needs
-
 returns : tie.Need-returns
 returns c =
-    let w = c .before .before .close .ensures in
+    let at-close = c .before .before in
+    let w = at-close .close .ensures in
     c .diagonal .ensures ∙ ap (λ square. devicesWhere devices (inOwnRow square)) (w .1)
-    ∙ diagonal-circles devices (c .before .before .before .before .before .args .rows .now) (w .0)
+    ∙ diagonal-circles devices (at-close .before .before .before .args .rows .now) (w .0)
 
 pub circles-spec : {M : Type 1} → statement M
-circles-spec = tie.close (tie.spec close-requires diagonal-requires returns)
+circles-spec = tie.close (tie.spec (λ c κs. search needs) (λ c κs. search needs) returns)

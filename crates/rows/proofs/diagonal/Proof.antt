@@ -9,7 +9,7 @@ use Rattle.model.specs.Lists.{upFrom}
 use Rattle.model.specs.Sets.{empty, union, unionOf}
 use Rattle.rows.specs.Where.{onlyIf}
 use Rattle.rows.specs.Square.{inOwnRow}
-use Rattle.rows.proofs.Where.{where-begins, where-grows, where-whole}
+use Rattle.rows.proofs.Where.{one-where, where-begins, where-grows, where-whole}
 use Rattle.rows.proofs.diagonal.Statement.{statement}
 use Rattle.rows.proofs.diagonal.Tie as tie
 
@@ -22,44 +22,19 @@ abbrev μ-loop : tie.MeasureT-loop
 
 loop-holds : tie.Need-loop-holds Inv-loop μ-loop
 unfolding empty
-loop-holds c =
-    (search needs, where-begins devices _ (inOwnRow (c .args .square .now)) (omega arith))
-
-sub-d : tie.Need-sub-d Inv-loop μ-loop
-sub-d c = search needs
-
-mul-member : tie.Need-mul-member Inv-loop μ-loop
-mul-member c = omega arith
-
-element-copy-out-member : tie.Need-element-copy-out-member Inv-loop μ-loop
-element-copy-out-member c = omega arith
-
-cast-member : tie.Need-cast-member Inv-loop μ-loop
-cast-member c = omega arith
-
-member-requires : tie.Need-member-requires Inv-loop μ-loop
-member-requires c κs = search needs
-
-cast-only-if : tie.Need-cast-only-if Inv-loop μ-loop
-cast-only-if c = omega arith
-
-only-if-requires : tie.Need-only-if-requires Inv-loop μ-loop
-only-if-requires c κs = omega arith
-
-union-requires : tie.Need-union-requires Inv-loop μ-loop
-union-requires c κs = search needs
-
-loop-less : tie.Need-loop-less Inv-loop μ-loop
-loop-less c = search needs
+loop-holds c = (search needs, where-begins devices _ (inOwnRow (c .args .square .now)) (omega arith))
 
 loop-again : tie.Need-loop-again Inv-loop μ-loop
 unfolding inOwnRow
 loop-again c =
-    let l = c .before .before .before .before .before .loop in
-    let f = inOwnRow (c .before .before .before .before .before .before .args .square .now) in (
+    let at-loop = c .before .before .before .before .before in
+    let l = at-loop .loop in
+    let f = inOwnRow (at-loop .before .args .square .now) in (
       omega arith,
-      c .union .ensures ∙ ap (λ x. union x (l .s)) (c .before .only-if .ensures)
-          ∙ ap (λ b. union (onlyIf b (l .d - 1)) (l .s)) (c .before .before .member .ensures)
+      c .union .ensures
+          ∙ ap (λ x. union x (l .s))
+          (c .before .only-if .ensures ∙ rw (c .before .before .member .ensures)
+          (one-where devices (l .d - 1) (f (l .d - 1)) (omega arith)))
           ∙ where-grows devices (l .d) f (l .s) (omega arith) (l .inv .0) (l .inv .1),
     )
 
@@ -72,18 +47,6 @@ returns c =
 pub diagonal-spec : {M : Type 1} → statement M
 diagonal-spec =
     tie.close
-    (tie.spec
-    Inv-loop
-    μ-loop
-    loop-holds
-    sub-d
-    mul-member
-    element-copy-out-member
-    cast-member
-    member-requires
-    cast-only-if
-    only-if-requires
-    union-requires
-    loop-less
-    loop-again
-    returns)
+    (tie.spec Inv-loop μ-loop loop-holds (λ c. search needs) (λ c. omega arith) (λ c. omega arith) (λ c. omega arith)
+    (λ c κs. search needs) (λ c. omega arith) (λ c κs. search needs) (λ c κs. search needs) (λ c. search needs)
+    loop-again returns)

@@ -1,40 +1,39 @@
 -- `rows::holds` meets its contract: a refusal of the scan, or what the walk back found.
+use mathlib.Core.Option.{none}
+use mathlib.Core.Path.{_≡_, sym, _∙_}
 use borrow.Author.Needs.{needs}
-use Rattle.rows.proofs.Outcome.{fine, refused, made}
+use Rattle.model.specs.Board.{devices}
+use Rattle.model.specs.WellFormed.{fault}
+use Rattle.plan.proofs.Answers.{told, untold}
+use Rattle.rows.proofs.Outcome.{refused, made}
 use Rattle.rows.proofs.holds.Statement.{statement}
 use Rattle.rows.proofs.holds.Tie as tie
 
-scan-requires : tie.Need-scan-requires
-scan-requires c κs = search needs
+no-fault : (c : tie.After-enum-told)
+    → fault devices (c .before .before .before .before .before .before .args .plan .now) ≡ none
+no-fault c = untold _ (sym (c .enum-told .given .1) ∙ c .before .before .scan .ensures .answers)
 
-enum-known-r : tie.Need-enum-known-r
-enum-known-r c = search needs
-
+-- 2 to 8
 returns : tie.Need-returns
 returns c =
-    let w = c .before .before .before .scan in
-    let a = c .before .before .before .before .before .before .before .args in
-    refused (a .plan .now) (a .first .now) _ (w .last .1 .0) (w .last .1 .1 .0) (w .result) (w .ensures) (a .rows .now)
-    (a .lasting .now) (c .before .r .given .0 .0) (c .before .r .given .1)
+    let at-scan = c .before .before .before in
+    let a = at-scan .before .before .before .before .args in
+    let r = c .before .r .given .0 .0 in
+    refused (a .plan .now) (a .first .now) _ (a .rows .now) (a .lasting .now) (at-scan .scan .ensures .firsts) r
+    (told (fault devices (a .plan .now)) r (sym (c .before .r .given .1) ∙ at-scan .scan .ensures .answers))
 
-enum-told : tie.Need-enum-told
-enum-told c = search needs
-
-walk-back-requires : tie.Need-walk-back-requires
-walk-back-requires c κs =
-    let w = c .before .before .before .before .scan in
-    let a = c .before .before .before .before .before .before .before .before .args in
-    fine (a .plan .now) (a .first .now) _ (w .last .1 .0) (w .last .1 .1 .0) (w .result) (w .ensures)
-    (c .before .before .enum-told .given .1)
-
+-- the holds
 returns-2 : tie.Need-returns-2
 returns-2 c =
-    let w = c .before .before .before .before .before .scan in
-    let a = c .before .before .before .before .before .before .before .before .before .args in
-    made (a .plan .now) (a .first .now) _ (w .last .1 .0) (w .last .1 .1 .0) (w .result) (w .ensures) (a .rows .now)
-    (a .lasting .now) (c .walk-back .last .1 .0) (c .walk-back .last .1 .1 .0) (c .walk-back .result)
-    (c .before .before .before .enum-told .given .1) (c .walk-back .ensures)
+    let at-walk = c .before in
+    let at-told = at-walk .before .before .before .before in
+    let at-scan = at-told .before .before in
+    let a = at-scan .before .before .before .before .args in
+    made (a .plan .now) (a .first .now) _ (a .rows .now) (a .lasting .now) (at-scan .scan .ensures .firsts) _ _ _ _
+    (at-walk .walk-back .result) (no-fault at-told) (at-walk .walk-back .ensures)
 
 pub holds-spec : {M : Type 1} → statement M
 holds-spec =
-    tie.close (tie.spec scan-requires enum-known-r returns enum-told walk-back-requires returns-2)
+    tie.close
+    (tie.spec (λ c κs. search needs) (λ c. search needs) returns (λ c. search needs) (λ c. search needs)
+    (λ c κs. no-fault (c .before .before .before)) returns-2)

@@ -1,40 +1,36 @@
--- `rows::wanted_before` meets its contract, case by case.
+-- `rows::wanted_before` meets its contract: a take serves one, where one is wanted.
+use Prim.Native.Nat.{ℕ, zero, suc, _+_, _-_, _≤_}
+use mathlib.Core.Bool.{Bool, cond}
+use mathlib.Core.Path.{_≡_, refl}
 use native.Mathlib.Numerals.{add-one}
-use Rattle.rows.specs.Lasting.{wantedBefore}
-use Rattle.rows.proofs.Verbs.{takes-1, takes-not, gives-2, gives-not}
 use native.Mathlib.Omega.{arith}
+use lib.Dec.{ltb}
+use mir.Val.{boolByte}
 use borrow.Author.Needs.{needs}
+use borrow.Author.Tests.{lt-ltb}
+use Rattle.model.specs.Line.{isTake, isGive}
+use Rattle.rows.specs.Lasting.{wantedBefore}
 use Rattle.rows.proofs.wanted_before.Statement.{statement}
 use Rattle.rows.proofs.wanted_before.Tie as tie
 
+serves : (n : ℕ) → (boolByte (ltb 0 n) ≤ n) × (n - boolByte (ltb 0 n) ≡ n - 1)
+serves zero = (omega arith, refl)
+serves (suc n) = rw (lt-ltb 0 (suc n) (omega arith)) (omega arith, refl)
+
+before : (l n : ℕ) {given r : ℕ} {gives takes : Bool} → gives ≡ isGive l → given ≡ cond gives (n + 1) n
+    → takes ≡ isTake l → r ≡ cond takes (n - boolByte (ltb 0 n)) given → r ≡ wantedBefore l n
+unfolding wantedBefore
+before l n eg e et er = let s = serves n .1 in let m = add-one n in cc
+
 returns : tie.Need-returns
-unfolding wantedBefore
 returns c =
-    let a = c .before .before .args in
-    rw (takes-1 (a .l) (omega (arith, c .before .if1 .taken)), c .if2 .taken)
-
-sub-result : tie.Need-sub-result
-sub-result c = search needs
-
-returns-2 : tie.Need-returns-2
-unfolding wantedBefore
-returns-2 c = let a = c .before .before .args in rw (takes-1 (a .l) (c .before .if1 .taken))
-
-add-result : tie.Need-add-result
-add-result c = search needs
-
-returns-3 : tie.Need-returns-3
-unfolding wantedBefore
-returns-3 c =
-    let a = c .before .before .args in
-    rw (takes-not (a .l) (c .before .if1 .left), gives-2 (a .l) (c .if3 .taken)) (add-one (a .after))
-
-returns-4 : tie.Need-returns-4
-unfolding wantedBefore
-returns-4 c =
-    let a = c .before .before .args in
-    rw (takes-not (a .l) (c .before .if1 .left), gives-not (a .l) (c .if3 .left))
+    let at-given = c .before .before in
+    let a = at-given .before .before .args in
+    before (a .l) (a .after) (at-given .before .is-give .ensures) (at-given .choose .ensures)
+    (c .before .is-take .ensures) (c .choose2 .ensures)
 
 pub wanted-before-spec : {M : Type 1} → statement M
 wanted-before-spec =
-    tie.close (tie.spec returns sub-result returns-2 add-result returns-3 returns-4)
+    tie.close
+    (tie.spec (λ c. search needs) (λ c. serves (c .args .after) .0) (λ c κs. search needs) (λ c. search needs)
+    (λ c κs. search needs) (λ c κs. search needs) (λ c κs. search needs) returns)

@@ -1,96 +1,82 @@
 -- `verdict::judge` meets its contract: the outcome by what its tests found.
 use mathlib.Core.Option.{none}
-use mathlib.Core.Path.{_≡_, sym, _∙_}
+use mathlib.Core.Path.{_≡_, _∙_, ap}
 use native.Mathlib.Omega.{arith}
-use Rattle.model.specs.Board.{devices}
-use Rattle.model.specs.Verdict.{noOrder}
-use Rattle.theory.proofs.WellFormed.{no-fault-exactly}
-use Rattle.plan.proofs.Told.{told, untold}
-use Rattle.verdict.specs.Findings.{barred}
-use Rattle.verdict.proofs.Findings.{is-told, no-order, count-held}
-use Rattle.verdict.proofs.Outcome.{short, without-order, ordered}
 use borrow.Author.Needs.{needs}
+use Rattle.model.specs.Board.{devices}
+use Rattle.model.specs.Sets.{lowestOf}
+use Rattle.model.specs.Verdict.{noOrder}
+use Rattle.rows.specs.Where.{circlesOf}
+use Rattle.verdict.proofs.Steps.{few}
+use Rattle.verdict.proofs.Findings.{two-lasting, leads-back, has-order, count-held}
+use Rattle.verdict.proofs.Outcome.{short, without-order, ordered}
 use Rattle.verdict.proofs.judge.Statement.{statement}
 use Rattle.verdict.proofs.judge.Tie as tie
 
-cast-t12 : tie.Need-cast-t12
-cast-t12 c =
-    let a = c .before .before .before .args in
-    omega (arith, no-fault-exactly devices (a .plan .now) .0 (c .before .before .before .pre .sound) .few)
+length-fits : tie.Need-cast-t13
+length-fits c = omega (arith, few (c .before .before .before .pre .marked))
 
+-- 11
 returns : tie.Need-returns
 returns c =
-    let b = c .before .before .before in
-    short (b .args .plan .now) (b .args .order .now) (b .pre .sound) (c .if1 .taken)
+    let start = c .before .before .before in
+    short (start .args .plan .now) (start .args .order .now) (start .pre .marked .sound) (c .if1 .taken)
 
-barred-requires : tie.Need-barred-requires
-barred-requires c κs = search needs
-
-enum-known-r : tie.Need-enum-known-r
-enum-known-r c = search needs
-
+-- 9
 returns-2 : tie.Need-returns-2
 returns-2 c =
-    let b = c .before .before .before .before .before .before .before in
-    let a = b .args in
-    let r = c .before .r .given .0 .0 in
-    let n = told (barred (a .rows .now) (a .twice)) r
-    (sym (c .before .r .given .1) ∙ c .before .before .before .barred .ensures) in
-    without-order (a .plan .now) (a .order .now) (b .pre .sound) (c .before .before .before .before .if1 .left) r
-    (no-order (a .plan .now) (a .first .now) (a .rows .now) (a .lasting .now) (a .held) (a .twice) (b .pre) _ n)
+    let room = c .before .before in
+    let start = room .before .before .before in
+    without-order (start .args .plan .now) (start .args .order .now) (start .pre .marked .sound) (room .if1 .left) _
+    (two-lasting (start .pre) (c .before .lowest .ensures) (c .if2 .taken))
 
-enum-told : tie.Need-enum-told
-enum-told c = search needs
+-- where 10 is asked for
+abbrev no-9 : tie.After-lowest2 → tie.Else2
+no-9 c = c .before .before
 
--- where neither 9 nor 10 was found, an order is handed out
-none-barred : (c : tie.After-enum-told)
-    → noOrder devices (c .before .before .before .before .before .before .args .plan .now) ≡ none
-none-barred c =
-    let b = c .before .before .before .before .before .before in
-    let a = b .args in
-    let n = untold (barred (a .rows .now) (a .twice))
-    (sym (c .enum-told .given .1) ∙ c .before .before .barred .ensures) in
-    no-order (a .plan .now) (a .first .now) (a .rows .now) (a .lasting .now) (a .held) (a .twice) (b .pre) none n
+abbrev room : tie.After-lowest2 → tie.Else1
+room c = no-9 c .before .before
+
+abbrev start : tie.After-lowest2 → tie.Start
+start c = room c .before .before .before
+
+back : (c : tie.After-lowest2) → c .lowest2 .result ≡ lowestOf devices (circlesOf (start c .args .rows .now))
+back c = c .lowest2 .ensures ∙ ap (lowestOf devices) (c .before .circles .ensures)
+
+-- 10
+returns-3 : tie.Need-returns-3
+returns-3 c =
+    let here = c .before in
+    let a = start here .args in
+    without-order (a .plan .now) (a .order .now) (start here .pre .marked .sound) (room here .if1 .left) _
+    (leads-back (start here .pre) (no-9 here .before .lowest .ensures) (no-9 here .if2 .left) (back here)
+    (c .if3 .taken))
+
+-- neither
+orderly : (c : tie.Else3) → noOrder devices (start (c .before) .args .plan .now) ≡ none
+orderly c =
+    let here = c .before in
+    has-order (start here .pre) (no-9 here .before .lowest .ensures) (no-9 here .if2 .left) (back here) (c .if3 .left)
 
 hand-out-requires : tie.Need-hand-out-requires
 hand-out-requires c κs =
-    let b = c .before .before .before .before .before .before .before in
-    let a = b .args in (
-      (
-        is-told (a .plan .now) (a .first .now) (a .rows .now) (a .lasting .now) (a .held) (a .twice) (b .pre),
-        none-barred (c .before),
-      ),
-      c .before .before .before .before .if1 .left,
-    )
+    let here = c .before .before in
+    let pre = start here .pre in
+    ((pre .marked, pre .listed), (orderly (c .before), room here .if1 .left))
 
-count-requires : tie.Need-count-requires
-count-requires c κs = search needs
-
-same-length : tie.Need-same-length
-same-length c = search needs
-
-returns-3 : tie.Need-returns-3
-returns-3 c =
-    let b = c .before .before .before .before .before .before .before .before .before .before .before in
-    let a = b .args in
-    let n = none-barred (c .before .before .before .before .before) in
-    ordered (a .plan .now) (a .order .now) (b .pre .sound)
-    (c .before .before .before .before .before .before .before .before .if1 .left) (c .count .result) _ n
-    (c .count .ensures
-    ∙ count-held (a .plan .now) (a .first .now) (a .rows .now) (a .lasting .now) (a .held) (a .twice) (b .pre) n)
-    (c .before .before .before .hand-out .ensures)
+returns-4 : tie.Need-returns-4
+returns-4 c =
+    let handed = c .before .before .before in
+    let test = handed .before .before in
+    let here = test .before in
+    let a = start here .args in
+    let pre = start here .pre in
+    ordered (a .plan .now) (a .order .now) (pre .marked .sound) (room here .if1 .left) (c .count .result) _ (orderly
+    test)
+    (c .count .ensures ∙ count-held pre (orderly test)) (handed .hand-out .ensures)
 
 pub judge-spec : {M : Type 1} → statement M
 judge-spec =
     tie.close
-    (tie.spec
-    cast-t12
-    returns
-    barred-requires
-    enum-known-r
-    returns-2
-    enum-told
-    hand-out-requires
-    count-requires
-    same-length
-    returns-3)
+    (tie.spec length-fits returns (λ c κs. search needs) returns-2 (λ c κs. search needs) (λ c κs. search needs)
+    returns-3 hand-out-requires (λ c κs. search needs) (λ c. search needs) returns-4)

@@ -1,50 +1,36 @@
 -- `verdict::order::count` meets its contract: the counts are small.
+use Prim.Native.Nat.{ℕ, _+_, _%_, _≤_}
+use mathlib.Core.Bool.{Bool, true, false}
+use mathlib.Core.Path.{ap}
 use native.Mathlib.Omega.{arith}
-use Rattle.verdict.proofs.Steps.{rise-fits, adds}
+use mir.Val.{boolByte}
+use lib.ListN.{getD}
 use borrow.Author.Needs.{needs}
+use Rattle.model.specs.Board.{devices}
+use Rattle.model.specs.Line.{maxLines}
+use Rattle.verdict.specs.Waiting.{added}
 use Rattle.verdict.proofs.order.count.Statement.{statement}
 use Rattle.verdict.proofs.order.count.Tie as tie
 
-mul-l : tie.Need-mul-l
-mul-l c = search needs
+one-more : (b : Bool) (n : ℕ) → n ≤ maxLines → n + boolByte b ≤ maxLines + 1
+one-more true n h = omega arith
+one-more false n h = omega arith
 
-shared-slice-read-l : tie.Need-shared-slice-read-l
-shared-slice-read-l c = search needs
-
-cast-d : tie.Need-cast-d
-cast-d c = search needs
-
-cast-counts : tie.Need-cast-counts
-cast-counts c = search needs
-
-mul-counts : tie.Need-mul-counts
-mul-counts c = search needs
-
-element-copy-out-counts : tie.Need-element-copy-out-counts
-element-copy-out-counts c = search needs
-
-add-counts : tie.Need-add-counts
-add-counts c =
-    let s = c .before .before in
-    omega (arith, rise-fits (s .args .plan .now) (s .args .counts .now) (s .args .i) (s .pre .1))
-
-element-write-counts : tie.Need-element-write-counts
-element-write-counts c = search needs
+can-rise : tie.Need-add-counts
+can-rise c =
+    let start = c .before .before .before in
+    omega (
+      arith,
+      ap (λ (o : ℕ). getD (start .args .counts .now) (o % devices) 0) (c .before .operand .ensures),
+      one-more (c .before .before .is-take .result) _ (start .pre),
+    )
 
 returns : tie.Need-returns
-returns c =
-    let s = c .before .before in adds (s .args .plan .now) (s .args .counts .now) (s .args .i) (s .pre .1)
+unfolding added
+returns c = rw (c .before .before .is-take .ensures, c .before .operand .ensures)
 
 pub count-spec : {M : Type 1} → statement M
 count-spec =
     tie.close
-    (tie.spec
-    mul-l
-    shared-slice-read-l
-    cast-d
-    cast-counts
-    mul-counts
-    element-copy-out-counts
-    add-counts
-    element-write-counts
-    returns)
+    (tie.spec (λ c κs. search needs) (λ c κs. search needs) (λ c. search needs) (λ c. search needs) (λ c. search needs)
+    (λ c. search needs) can-rise (λ c. search needs) returns)

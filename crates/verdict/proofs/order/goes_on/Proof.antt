@@ -1,60 +1,28 @@
--- `verdict::order::goes_on` meets its contract: the next line is of the job, and its mark decides; or it is of another,
--- or there is none.
+-- `verdict::order::goes_on` meets its contract: the next line's mark decides, where it is of the job.
+use mathlib.Core.Path.{_∙_, sym}
 use native.Mathlib.Omega.{arith}
-use Rattle.verdict.proofs.Steps.{few, next-same, next-other, next-past, none-after, goes-unmarked}
 use borrow.Author.Needs.{needs}
+use Rattle.verdict.proofs.Steps.{few, next-line, goes-unmarked, none-after}
 use Rattle.verdict.proofs.order.goes_on.Statement.{statement}
 use Rattle.verdict.proofs.order.goes_on.Tie as tie
 
-add-n : tie.Need-add-n
-add-n c = search needs
-
-mul-if2 : tie.Need-mul-if2
-mul-if2 c = search needs
-
-shared-slice-read-if2 : tie.Need-shared-slice-read-if2
-shared-slice-read-if2 c = search needs
-
-mul-if2-2 : tie.Need-mul-if2-2
-mul-if2-2 c = search needs
-
-shared-slice-read-if2-2 : tie.Need-shared-slice-read-if2-2
-shared-slice-read-if2-2 c = search needs
-
-element-copy-out-result : tie.Need-element-copy-out-result
-element-copy-out-result c =
-    let s = c .before .before .before .before in
-    omega (arith, c .before .before .before .if1 .taken, few (s .args .plan .now) (s .args .lasting .now) (s .pre .0))
+mark-at : tie.Need-element-copy-out-result
+mark-at c =
+    let start = c .before .before .before in
+    let m = start .pre .0 in
+    omega (arith, few m, next-line m (start .args .i) (sym (c .before .job-follows .ensures) ∙ c .if1 .taken))
 
 returns : tie.Need-returns
 returns c =
-    let s = c .before .before .before .before .before in
-    let p = s .args .plan .now in
-    goes-unmarked p (s .args .lasting .now) (s .pre .0) (s .args .i) (c .before .before .before .before .if1 .taken)
-    (next-same p (s .args .i) (c .before .if2 .taken))
+    let start = c .before .before .before .before in
+    goes-unmarked (start .pre .0) (start .args .i)
+    (sym (c .before .before .job-follows .ensures) ∙ c .before .if1 .taken)
 
+-- the job's last line
 returns-2 : tie.Need-returns-2
 returns-2 c =
-    let s = c .before .before .before .before in
-    let p = s .args .plan .now in none-after p (s .args .i) (next-other p (s .args .i) (c .if2 .left)) .0
-
-returns-3 : tie.Need-returns-3
-returns-3 c =
-    let s = c .before in
-    let p = s .args .plan .now in
-    none-after p (s .args .i) (next-past p (s .args .lasting .now) (s .pre .0) (s .args .i) (s .pre .1) (c .if1 .left))
-    .0
+    let a = c .before .before .before .args in
+    none-after (a .plan .now) (a .i) (sym (c .before .job-follows .ensures) ∙ c .if1 .left) .0
 
 pub goes-on-spec : {M : Type 1} → statement M
-goes-on-spec =
-    tie.close
-    (tie.spec
-    add-n
-    mul-if2
-    shared-slice-read-if2
-    mul-if2-2
-    shared-slice-read-if2-2
-    element-copy-out-result
-    returns
-    returns-2
-    returns-3)
+goes-on-spec = tie.close (tie.spec (λ c κs. search needs) (λ c. search needs) mark-at returns returns-2)

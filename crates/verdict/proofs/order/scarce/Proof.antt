@@ -1,11 +1,12 @@
 -- `verdict::order::scarce` meets its contract: at device d the devices below d are through.
 use mathlib.Core.Path.{_≡_, refl, _∙_, ap}
-use Prim.Native.Nat.{_-_, _≤_}
+use Prim.Native.Nat.{ℕ, _-_, _≤_}
+use native.Mathlib.Numerals.{add-one}
 use native.Mathlib.Omega.{arith}
+use borrow.Author.Needs.{needs}
 use Rattle.model.specs.Board.{devices}
 use Rattle.model.specs.Sets.{empty}
-use Rattle.verdict.specs.Waiting.{scarceBelow}
-use Rattle.verdict.proofs.Steps.{scarce-on}
+use Rattle.verdict.specs.Waiting.{scarceIf, scarceBelow}
 use Rattle.verdict.proofs.order.scarce.Statement.{statement}
 use Rattle.verdict.proofs.order.scarce.Tie as tie
 
@@ -19,45 +20,20 @@ loop-holds : tie.Need-loop-holds Inv-loop μ-loop
 unfolding scarceBelow empty
 loop-holds c = (omega arith, refl)
 
-mul-with-scarce : tie.Need-mul-with-scarce Inv-loop μ-loop
-mul-with-scarce c = omega arith
-
-element-copy-out-with-scarce : tie.Need-element-copy-out-with-scarce Inv-loop μ-loop
-element-copy-out-with-scarce c = c .loop-test .taken
-
-with-scarce-requires : tie.Need-with-scarce-requires Inv-loop μ-loop
-with-scarce-requires c κs = c .before .loop-test .taken
-
-add-d : tie.Need-add-d Inv-loop μ-loop
-add-d c = omega arith
-
-loop-less : tie.Need-loop-less Inv-loop μ-loop
-loop-less c = omega arith
-
 loop-again : tie.Need-loop-again Inv-loop μ-loop
+unfolding scarceBelow scarceIf
 loop-again c =
-    let l = c .before .before .before .loop in (
-      omega arith,
-      scarce-on (c .before .before .before .before .args .counts .now) (l .s) (c .with-scarce .result) (l .d)
-          (l .inv .1) (c .with-scarce .ensures),
-    )
+    let loop = c .before .before .before .before .loop in
+    (omega arith, rw (add-one (loop .d), c .union .ensures, c .before .only-if .ensures, loop .inv .1))
 
 returns : tie.Need-returns Inv-loop μ-loop
 returns c =
-    let l = c .before .loop in
-    let e : l .d ≡ devices = omega arith in l .inv .1 ∙ ap (scarceBelow (c .before .before .args .counts .now)) e
+    let loop = c .before .loop in
+    let e : loop .d ≡ devices = omega arith in
+    loop .inv .1 ∙ ap (scarceBelow (c .before .before .args .counts .now)) e
 
 pub scarce-spec : {M : Type 1} → statement M
 scarce-spec =
     tie.close
-    (tie.spec
-    Inv-loop
-    μ-loop
-    loop-holds
-    mul-with-scarce
-    element-copy-out-with-scarce
-    with-scarce-requires
-    add-d
-    loop-less
-    loop-again
-    returns)
+    (tie.spec Inv-loop μ-loop loop-holds (λ c. search needs) (λ c. search needs) (λ c. omega arith)
+    (λ c κs. search needs) (λ c κs. search needs) (λ c. omega arith) (λ c. omega arith) loop-again returns)

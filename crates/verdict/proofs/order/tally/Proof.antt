@@ -1,10 +1,16 @@
 -- `verdict::order::tally` meets its contract: at line i the first i lines are counted.
+use mathlib.Core.List.{List}
 use mathlib.Core.Path.{_≡_, refl, _∙_, ap}
-use Prim.Native.Nat.{_-_, _≤_}
+use Prim.Native.Nat.{ℕ, _-_, _≤_}
+use native.Mathlib.Numerals.{add-one}
 use native.Mathlib.Omega.{arith}
 use lib.ListN.{length}
-use Rattle.verdict.specs.Waiting.{tallied}
-use Rattle.verdict.proofs.Steps.{tallied-on, tallied-fits}
+use borrow.Author.Needs.{needs}
+use Rattle.model.specs.Board.{devices}
+use Rattle.model.specs.Line.{at}
+use Rattle.theory.proofs.WellFormed.{no-fault-exactly}
+use Rattle.verdict.specs.Waiting.{added, tallied}
+use Rattle.verdict.proofs.Counts.{tallied-small}
 use Rattle.verdict.proofs.order.tally.Statement.{statement}
 use Rattle.verdict.proofs.order.tally.Tie as tie
 
@@ -20,33 +26,31 @@ loop-holds c = (omega arith, refl)
 
 count-requires : tie.Need-count-requires Inv-loop μ-loop
 count-requires c κs =
-    let s = c .before .before .before .before in
-    let l = c .before .before .loop in (
-      c .before .loop-test .taken,
-      tallied-fits (s .args .plan .now) (l .counts) (s .pre) (l .i) (c .before .loop-test .taken) (l .inv .1),
-    )
-
-add-i : tie.Need-add-i Inv-loop μ-loop
-add-i c = omega arith
-
-loop-less : tie.Need-loop-less Inv-loop μ-loop
-loop-less c = omega arith
+    let test = c .before .before in
+    let loop = test .before in
+    let start = loop .before .before in
+    let w = no-fault-exactly devices (start .args .plan .now) .0 (start .pre) in
+    rw (loop .loop .inv .1)
+    (tallied-small (start .args .plan .now) w (loop .loop .i) (omega (arith, w .few, test .loop-test .taken)))
 
 loop-again : tie.Need-loop-again Inv-loop μ-loop
+unfolding tallied
 loop-again c =
-    let s = c .before .before .before .before .before in
-    let l = c .before .before .before .loop in (
+    let loop = c .before .before .before .before in
+    let p = loop .before .before .args .plan .now in (
       omega arith,
-      tallied-on (s .args .plan .now) (l .counts) (c .count .last .1 .0) (l .i) (l .inv .1) (c .count .ensures),
+      rw (add-one (loop .loop .i))
+          (c .count .ensures ∙ ap (λ (ns : List ℕ). added ns (at p (loop .loop .i))) (loop .loop .inv .1)),
     )
 
 returns : tie.Need-returns Inv-loop μ-loop
 returns c =
-    let s = c .before .before .before in
-    let l = c .before .loop in
-    let e : l .i ≡ length (s .args .plan .now) = omega arith in l .inv .1 ∙ ap (tallied (s .args .plan .now)) e
+    let loop = c .before in
+    let p = loop .before .before .args .plan .now in
+    let e : loop .loop .i ≡ length p = omega arith in loop .loop .inv .1 ∙ ap (tallied p) e
 
 pub tally-spec : {M : Type 1} → statement M
 tally-spec =
     tie.close
-    (tie.spec Inv-loop μ-loop loop-holds count-requires add-i loop-less loop-again returns)
+    (tie.spec Inv-loop μ-loop loop-holds (λ c. search needs) (λ c. search needs) count-requires (λ c. omega arith)
+    (λ c. omega arith) loop-again returns)

@@ -1,25 +1,27 @@
--- `verdict::waiting::take_place` meets its contract: the place is in one of the two words.
+-- `verdict::waiting::take_place` meets its contract: the place is in one of the two sets.
+use mathlib.Core.Path.{_∙_, ap}
 use borrow.Author.Needs.{needs}
-use Rattle.verdict.proofs.Words.{taken-job, taken-device}
+use borrow.Author.Tests.{lt-ltb, le-ltb}
+use Rattle.model.specs.Line.{maxJob}
+use Rattle.verdict.specs.Waiting.{taken}
 use Rattle.verdict.proofs.waiting.take_place.Statement.{statement}
 use Rattle.verdict.proofs.waiting.take_place.Tie as tie
 
-job-set-requires : tie.Need-job-set-requires
-job-set-requires c κs = search needs
-
+-- a job's place
 returns : tie.Need-returns
-returns c =
-    let a = c .before .before .before .args in
-    taken-job (a .w) (a .s) (c .before .job-set .result) (c .before .before .if1 .taken) (c .before .job-set .ensures)
+unfolding taken
+returns c = rw (lt-ltb (c .before .before .args .s) maxJob (c .before .if1 .taken), c .with-job .ensures)
 
-device-set-requires : tie.Need-device-set-requires
-device-set-requires c κs = search needs
-
+-- a device's place
 returns-2 : tie.Need-returns-2
+unfolding taken
 returns-2 c =
-    let a = c .before .before .before .args in
-    taken-device (a .w) (a .s) (c .before .device-set .result) (c .before .before .if1 .left)
-    (c .before .device-set .ensures)
+    rw (
+      le-ltb (c .before .before .before .args .s) maxJob (c .before .before .if1 .left),
+      c .union .ensures,
+      c .before .only .ensures,
+    )
 
 pub take-place-spec : {M : Type 1} → statement M
-take-place-spec = tie.close (tie.spec job-set-requires returns device-set-requires returns-2)
+take-place-spec =
+    tie.close (tie.spec (λ c κs. search needs) returns (λ c κs. search needs) (λ c κs. search needs) returns-2)

@@ -1,0 +1,3 @@
+-- What the puts and the number reader answer.
+pub mod Number
+pub mod Puts

@@ -1,0 +1,2 @@
+-- The laws that the proofs of `line` share.
+pub mod Ranges

@@ -1,0 +1,80 @@
+-- Which case of `isStep` the tests of a packed number pick (01, the table of "The plan as text"), with the ranges of
+-- the operands as the code's tables have them.
+use mathlib.Core.Path.{_≡_, refl, sym, _∙_}
+use mathlib.Core.Bool.{Bool, true, false, _||_}
+use mathlib.Core.List.{List, [], _∷_}
+use mathlib.Core.Logic.{_⊎_, inl, inr}
+use Prim.Native.Nat.{ℕ, zero, suc, _-_, _≤_, _<_}
+use native.Mathlib.Omega.{arith}
+use lib.Dec.{leb, ltb}
+use lib.ListN.{getD}
+use borrow.Author.Tests.{le-leb, lt-leb, lt-ltb, le-ltb}
+use Rattle.model.specs.Board.{devices}
+use Rattle.model.specs.Line.{kind, operand, isStep, isLine, operandFits, maxJob}
+use Rattle.theory.proofs.Tests.{le-or-lt}
+use Rattle.theory.specs.Line.{Fits, ofDo, ofDevice, ofStart}
+use Rattle.theory.proofs.Line.{line-parts}
+
+pub or-none : (b : Bool) → (b || false) ≡ b
+or-none true = refl
+or-none false = refl
+
+module _ (D j k o : ℕ) where
+  pub low-job : j < 1 → isStep D j k o ≡ false
+  unfolding isStep
+  low-job h = rw (lt-leb 1 j h)
+
+  pub high-job : maxJob < j → isStep D j k o ≡ false
+  unfolding isStep
+  high-job h = rw (le-leb 1 j (omega arith), lt-leb j maxJob h)
+
+  fits : 1 ≤ j → j ≤ maxJob → isStep D j k o ≡ operandFits D k o
+  unfolding isStep
+  fits low high = rw (le-leb 1 j low, le-leb j maxJob high)
+
+-- ---- the tables of the lowest and the highest operand
+
+abbrev lowest : List ℕ
+lowest = 0 ∷ 0 ∷ 0 ∷ 2 ∷ []
+
+abbrev highest : List ℕ
+highest = 255 ∷ (devices - 1) ∷ (devices - 1) ∷ maxJob ∷ []
+
+on-board : (o : ℕ) → ltb o devices ≡ leb o (devices - 1)
+on-board o = go (le-or-lt devices o)
+  where
+    go : (devices ≤ o) ⊎ (o < devices) → ltb o devices ≡ leb o (devices - 1)
+    go (inl h) = le-ltb o devices h ∙ sym (lt-leb o (devices - 1) (omega arith))
+    go (inr h) = lt-ltb o devices h ∙ sym (le-leb o (devices - 1) (omega arith))
+
+below : (k o : ℕ) → k < 4 → o < getD lowest k 0 → operandFits devices k o ≡ false
+unfolding operandFits
+below zero o h l = absurd (omega arith)
+below (suc zero) o h l = absurd (omega arith)
+below (suc (suc zero)) o h l = absurd (omega arith)
+below (suc (suc (suc zero))) o h l = rw (lt-leb 2 o l)
+below (suc (suc (suc (suc k)))) o h l = absurd (omega arith)
+
+from : (k o : ℕ) → k < 4 → getD lowest k 0 ≤ o → operandFits devices k o ≡ leb o (getD highest k 0)
+unfolding operandFits
+from zero o h l = or-none (leb o 255 || false) ∙ or-none (leb o 255)
+from (suc zero) o h l = or-none (ltb o devices) ∙ on-board o
+from (suc (suc zero)) o h l = or-none (ltb o devices) ∙ on-board o
+from (suc (suc (suc zero))) o h l = rw (le-leb 2 o l)
+from (suc (suc (suc (suc k)))) o h l = absurd (omega arith)
+
+module _ (j k o : ℕ) (low : 1 ≤ j) (high : j ≤ maxJob) (kind : k < 4) where
+  pub low-operand : o < getD lowest k 0 → isStep devices j k o ≡ false
+  low-operand h = fits devices j k o low high ∙ below k o kind h
+
+  pub high-operand : getD lowest k 0 ≤ o → isStep devices j k o ≡ leb o (getD highest k 0)
+  high-operand h = fits devices j k o low high ∙ from k o kind h
+
+-- the operand of a take or a give that is a line's is a device's number
+pub device-operand : (n : ℕ) → isLine devices n ≡ true → kind n < 3 → 1 ≤ kind n → operand n < devices
+device-operand n h l m = go (line-parts devices n h .2)
+  where
+    go : Fits devices (kind n) (operand n) → operand n < devices
+    go (ofDo k b) = absurd (omega arith)
+    go (ofDevice k b) = b
+    go (ofStart k a b) = absurd (omega arith)

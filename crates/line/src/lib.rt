@@ -1,0 +1,100 @@
+// One line as its packed number (01, "Packed" and the table of "The plan as text"): job, kind and operand. No other
+// source takes a packed number apart or puts one together. Every function answers for every number.
+use board::DEVICES;
+use board::LAST_JOB;
+ghost use mathlib.Core.Path.{_≡_};
+ghost use mathlib.Core.Bool.{cond};
+ghost use Prim.Native.Nat.{_%_, _^_};
+ghost use Rattle.model.specs.Line.{pack, job, kind, operand, isTake, isGive, isStart, isLine};
+ghost use Rattle.model.specs.Board.{devices};
+
+// The line's job.
+pub fn job(l: u32) -> u32
+    ensures { λ r. ⌜ r ≡ job l ⌝ }
+{
+    l / 1024
+}
+
+// The kind of its verb: do is 0, take 1, give 2, start 3.
+pub fn kind(l: u32) -> u32
+    ensures { λ r. ⌜ r ≡ kind l ⌝ }
+{
+    l / 256 % 4
+}
+
+// Its operand: an action, a device or a job.
+pub fn operand(l: u32) -> u32
+    ensures { λ r. ⌜ r ≡ operand l ⌝ }
+{
+    l % 256
+}
+
+// Is it a take?
+pub fn is_take(l: u32) -> bool
+    ensures { λ r. ⌜ r ≡ isTake l ⌝ }
+{
+    kind(l) == 1
+}
+
+// Is it a give?
+pub fn is_give(l: u32) -> bool
+    ensures { λ r. ⌜ r ≡ isGive l ⌝ }
+{
+    kind(l) == 2
+}
+
+// Is it a start?
+pub fn is_start(l: u32) -> bool
+    ensures { λ r. ⌜ r ≡ isStart l ⌝ }
+{
+    kind(l) == 3
+}
+
+// The lowest and the highest operand of each kind: do, take, give, start.
+const LOWEST: [u32; 4] = [0, 0, 0, 2];
+
+const HIGHEST: [u32; 4] = [255, DEVICES - 1, DEVICES - 1, LAST_JOB];
+
+// Is the number a line's? It asks tables for the operand's range, so that it has no branch on the kind, which cannot be
+// foretold.
+pub fn is_line(l: u32) -> bool
+    ensures { λ r. ⌜ r ≡ isLine devices l ⌝ }
+{
+    let j = job(l);
+    let k = kind(l) as usize;
+    let o = operand(l);
+    if j < 1 {
+        return false;
+    }
+    if LAST_JOB < j {
+        return false;
+    }
+    if o < LOWEST[k] {
+        return false;
+    }
+    o <= HIGHEST[k]
+}
+
+// The number of a job, a kind and an operand, each of as many bits as it has room for.
+pub fn pack(j: u32, k: u32, o: u32) -> u32
+    ensures { λ r. ⌜ r ≡ pack (j % 2 ^ 22) (k % 4) (o % 256) ⌝ }
+{
+    j % 4194304 * 1024 + k % 4 * 256 + o % 256
+}
+
+// The line with another operand, of eight bits.
+pub fn with_operand(l: u32, o: u32) -> u32
+    ensures { λ r. ⌜ r ≡ pack (job l) (kind l) (o % 256) ⌝ }
+{
+    pack(job(l), kind(l), o)
+}
+
+// The first number, or the other. Where it stands for a branch, the processor has nothing to foretell.
+pub fn choose(first: bool, a: u32, b: u32) -> u32
+    ensures { λ r. ⌜ r ≡ cond first a b ⌝ }
+{
+    if first {
+        return a;
+    }
+    b
+}

@@ -1,0 +1,225 @@
+-- 01, "The plan as text" (one step a line; lines are handed out one after another): three fields that are a line's are
+-- that line's text, and a line's text is read as its three fields. So what is read at a place is the first line of what
+-- stands there, as the definition has it, which parts the text at its newlines; and what the reader hands out is this
+-- line, 2 where none stands there, 3 after line 1,024, or the end.
+use Prim.Native.Nat.{ℕ, _+_, _%_, _^_, _≤_, _<_}
+use mathlib.Core.Bool.{Bool, true, false}
+use mathlib.Core.List.{List, [], _∷_, _++_, append-assoc, flatten}
+use mathlib.Core.Option.{Option, none, some}
+use mathlib.Core.Path.{_≡_, refl, sym, _∙_, ap}
+use native.Mathlib.Numerals.{add-one}
+use native.Mathlib.Omega.{arith}
+use lib.Dec.{eqb}
+use lib.ListN.{length, drop, length-append, length-drop, drop-of-length-le}
+use lib.Seq.{drop-drop, drop-append-seam}
+use borrow.Author.Tests.{lt-ltb}
+use Rattle.model.specs.Line.{pack, job, kind, operand, isLine, lineNumber, maxLines, maxBytes}
+use Rattle.model.specs.Text.{tab, newline, isDigit, verbs, tabbed, inFront, linesOf, packedLine, lineText}
+use Rattle.model.specs.Text.{handedLine, nextLine}
+use Rattle.model.specs.declared.Refusal.the-variants.{TextTooLong, Malformed, TooManyLines}
+use Rattle.model.specs.declared.Cursor.{Cursor}
+use Rattle.model.specs.declared.LineAnswer.{LineAnswer}
+use Rattle.theory.proofs.Tests.{clash}
+use Rattle.theory.proofs.Line.{job-pack, kind-pack, operand-pack, pack-parts, kind-small, line-parts}
+use Rattle.theory.proofs.Fields.{line-first, flatten-lines}
+use Rattle.theory.proofs.Spelling.{line-ends, packed-text, text-packed}
+use Rattle.theory.proofs.Reader.{handed-many, handed-malformed, handed-line}
+use Rattle.lines.specs.Fields.{spelling, fieldAt}
+use Rattle.lines.specs.Verbs.{word, verbAt}
+use Rattle.lines.specs.Lines.{LineThere, SpeltAt, handedAt}
+use Rattle.lines.specs.declared.Field.{Field}
+use Rattle.lines.specs.declared.Verb.{Verb}
+use Rattle.lines.specs.declared.Spelt.{Spelt}
+use Rattle.lines.proofs.Fields.{field-whole, Spells, field-sound}
+use Rattle.lines.proofs.Verbs.{verb-whole, SpellsVerb, verb-sound}
+
+-- ---- a line's text and its three fields
+
+line-fields : (n : ℕ) → lineText n ≡ spelling tab (job n) ++ (word (kind n) ++ spelling newline (operand n))
+unfolding lineText tabbed spelling word
+line-fields n = simp append-assoc
+
+operand-byte : (n : ℕ) → operand n ≤ 255
+unfolding operand
+operand-byte n = omega arith
+
+-- past what stands at a place
+past : (text f rest : List ℕ) (i : ℕ) → drop i text ≡ f ++ rest → drop (i + length f) text ≡ rest
+past text f rest i e = sym (drop-drop (length f) i text) ∙ (ap (drop (length f)) e ∙ drop-append-seam f rest)
+
+module _ (text : List ℕ) (i : ℕ) where
+  -- job, verb and operand were read, each with the place past it
+  pub record Read (j a k b o e : ℕ) : Type 0 where
+    pub of-job : fieldAt tab i (drop i text) ≡ Field.Number j a
+    pub of-verb : verbAt a (drop a text) ≡ Verb.Kind k b
+    pub of-operand : fieldAt newline b (drop b text) ≡ Field.Number o e
+
+  -- a line's text is read so
+  line-read : (D n : ℕ) → LineThere D text i n → (a b e : ℕ) × Read (job n) a (kind n) b (operand n) e
+  unfolding isDigit verbs
+  line-read D n l =
+      let j : List ℕ = spelling tab (job n) in
+      let k : List ℕ = word (kind n) in
+      let o : List ℕ = spelling newline (operand n) in
+      let a : ℕ = i + length j in
+      let b : ℕ = a + length k in
+      let x : drop i text ≡ j ++ (k ++ (o ++ l .rest)) =
+      l .whole ∙ (ap (λ (f : List ℕ). f ++ l .rest) (line-fields n) ∙ simp append-assoc) in
+      let y : drop a text ≡ k ++ (o ++ l .rest) = past text j (k ++ (o ++ l .rest)) i x in
+      let z : drop b text ≡ o ++ l .rest = past text k (o ++ l .rest) a y in (
+        a,
+        b,
+        b + length o,
+        record {
+          of-job = rw x (field-whole tab i (job n) _ refl (omega (arith, line-parts D n (l .line) .1)));
+          of-verb = rw y (verb-whole a (kind n) (o ++ l .rest) (kind-small n));
+          of-operand = rw z (field-whole newline b (operand n) (l .rest) refl (operand-byte n));
+        },
+      )
+
+  module _ (D : ℕ) where
+    -- so no line stands where a field is wrong
+    pub no-job : fieldAt tab i (drop i text) ≡ Field.Wrong → SpeltAt D text i Spelt.Malformed
+    no-job x n l =
+        let r = line-read D n l .3 in
+        let z : _≡_ {A = ℕ} 0 1 = cc in
+        omega arith
+
+    pub no-verb : (j a : ℕ) → fieldAt tab i (drop i text) ≡ Field.Number j a → verbAt a (drop a text) ≡ Verb.Wrong
+        → SpeltAt D text i Spelt.Malformed
+    no-verb j a x y n l =
+        let r = line-read D n l .3 in
+        let z : _≡_ {A = ℕ} 0 1 = cc in
+        omega arith
+
+    pub no-operand : (j a k b : ℕ) → fieldAt tab i (drop i text) ≡ Field.Number j a
+        → verbAt a (drop a text) ≡ Verb.Kind k b → fieldAt newline b (drop b text) ≡ Field.Wrong
+        → SpeltAt D text i Spelt.Malformed
+    no-operand j a k b x y z n l =
+        let r = line-read D n l .3 in
+        let z : _≡_ {A = ℕ} 0 1 = cc in
+        omega arith
+
+    -- the number that the code packs of the three
+    module _ {j a k b o e : ℕ} (r : Read j a k b o e) (n : ℕ) (c : n ≡ pack (j % 2 ^ 22) (k % 4) (o % 256)) where
+      x : Spells tab i (drop i text) j a
+      x = field-sound tab i (drop i text) j a (r .of-job)
+
+      y : SpellsVerb a (drop a text) k b
+      y = verb-sound a (drop a text) k b (r .of-verb)
+
+      z : Spells newline b (drop b text) o e
+      z = field-sound newline b (drop b text) o e (r .of-operand)
+
+      packed : n ≡ pack j k o
+      unfolding verbs
+      packed =
+          let u : j % 2 ^ 22 ≡ j = omega (arith, x .small) in
+          let v : k % 4 ≡ k = omega (arith, y .small) in
+          let w : o % 256 ≡ o = omega (arith, z .small) in
+          c ∙ rw (u, v, w)
+
+      -- where it is no line's, none stands there
+      pub no-line : isLine D n ≡ false → SpeltAt D text i Spelt.Malformed
+      no-line f m l =
+          let q = line-read D m l .3 in
+          let same : pack (job m) (kind m) (operand m) ≡ pack j k o = cc in
+          clash (isLine D m) (l .line) (rw (sym (pack-parts m) ∙ (same ∙ sym packed)) f)
+
+      -- where it is a line's, what was read is its text
+      pub line-there : isLine D n ≡ true → SpeltAt D text i (Spelt.Line n e)
+      unfolding verbs
+      line-there t =
+          let u : drop a text ≡ x .rest =
+          ap (λ (p : ℕ). drop p text) (x .ends) ∙ past text (spelling tab j) (x .rest) i (x .whole) in
+          let v : drop b text ≡ y .rest =
+          ap (λ (p : ℕ). drop p text) (y .ends) ∙ past text (word k) (y .rest) a (y .whole) in
+          let w : lineText n ≡ spelling tab j ++ (word k ++ spelling newline o) =
+          line-fields n
+          ∙ rw (
+            packed,
+            job-pack j k o (y .small) (omega (arith, z .small)),
+            kind-pack j k o (y .small) (omega (arith, z .small)),
+            operand-pack j k o (omega (arith, z .small)),
+          ) in (
+            record {
+              rest = z .rest;
+              line = t;
+              whole =
+                  rw w
+                  (simp append-assoc
+                  (x .whole
+                  ∙ ap (λ (l : List ℕ). spelling tab j ++ l)
+                  (sym u ∙ (y .whole ∙ ap (λ (l : List ℕ). word k ++ l) (sym v ∙ z .whole)))));
+            },
+            rw w (simp length-append (omega (arith, x .ends, y .ends, z .ends))),
+          )
+
+-- ---- what the reader hands out
+
+-- where something stands, there is a first line
+some-line : (s : List ℕ) → 1 ≤ length s → (l : List ℕ) × (ls : List (List ℕ)) × (linesOf s ≡ l ∷ ls)
+unfolding linesOf
+some-line [] h = absurd (omega arith)
+some-line (b ∷ s) h = go (eqb b newline) (linesOf s)
+  where
+    go : (t : Bool) (ls : List (List ℕ))
+        → (l : List ℕ) × (ms : List (List ℕ))
+        × (elim t [ true ↦ (b ∷ []) ∷ ls | false ↦ inFront b ls ] ≡ l ∷ ms)
+    go true ls = (b ∷ [], ls, refl)
+    go false [] = (b ∷ [], [], refl)
+    go false (l ∷ ls) = (b ∷ l, ls, refl)
+
+module _ (D : ℕ) (text : List ℕ) (i n : ℕ) where
+  -- nothing stands past the end
+  pub handed-none : length text ≤ i → LineAnswer.End ≡ handedAt D text i n
+  unfolding handedLine linesOf
+  handed-none h = rw (drop-of-length-le text h)
+
+  -- something stands after line 1,024
+  pub handed-over : i < length text → maxLines ≤ n → LineAnswer.Refused TooManyLines ≡ handedAt D text i n
+  handed-over h m =
+      let r = some-line (drop i text) (simp length-drop (omega arith)) in
+      rw (r .2) (sym (handed-many D (record { offset = i; lines = n }) (r .0) (r .1) m))
+
+  module _ (few : n < maxLines) where
+    abbrev here : Cursor
+    here = record { offset = i; lines = n }
+
+    -- the line that was read
+    pub handed-read : (l e : ℕ) → SpeltAt D text i (Spelt.Line l e)
+        → LineAnswer.Line l (record { offset = e; lines = n + 1 }) ≡ handedAt D text i n
+    handed-read l e r =
+        let w = line-ends l in
+        let first : linesOf (lineText l ++ r .0 .rest) ≡ lineText l ∷ linesOf (r .0 .rest) =
+        rw (w .whole, append-assoc) (line-first (w .body) (r .0 .rest) (w .clean)) in
+        rw (r .1, add-one n, r .0 .whole, first)
+        (sym (handed-line D here (lineText l) (linesOf (r .0 .rest)) l few (packed-text D l (r .0 .line))))
+
+    -- none was read
+    pub handed-wrong : D ≤ 256 → i < length text → SpeltAt D text i Spelt.Malformed
+        → LineAnswer.Refused (Malformed (n + 1)) ≡ handedAt D text i n
+    unfolding lineNumber flatten
+    handed-wrong d h q =
+        let r = some-line (drop i text) (simp length-drop (omega arith)) in
+        rw (add-one n, r .2)
+        (sym (handed-malformed D here (r .0) (r .1) few (go (r .0) (r .1) (r .2) (packedLine D (r .0)) refl)))
+      where
+        go : (l : List ℕ) (ls : List (List ℕ)) → linesOf (drop i text) ≡ l ∷ ls → (o : Option ℕ) → packedLine D l ≡ o
+            → o ≡ none
+        go l ls e none p = refl
+        go l ls e (some m) p =
+            let r = text-packed D d l m p in
+            absurd
+            (q m
+            (record {
+              rest = flatten ls;
+              line = r .1;
+              whole = rw (r .0) (sym (flatten-lines (drop i text)) ∙ ap flatten e);
+            }))
+
+-- 1 comes first
+pub next-long : (D : ℕ) (text : List ℕ) (c : Cursor) → maxBytes < length text
+    → LineAnswer.Refused TextTooLong ≡ nextLine D text c
+unfolding nextLine
+next-long D text c h = rw (lt-ltb maxBytes (length text) h)

@@ -1,0 +1,2 @@
+-- The laws that the proofs of `mates` share.
+pub mod Mates

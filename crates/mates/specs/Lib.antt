@@ -1,0 +1,2 @@
+-- What the contracts of this room cite beside the definitions of `model`.
+pub mod Found

@@ -1,0 +1,110 @@
+-- `plan::checked_line` meets its contract: the first three tests are `misplaced`, and `rule` does the rest.
+use mathlib.Core.Bool.{true}
+use mathlib.Core.Option.{none}
+use mathlib.Core.Path.{_≡_, sym, _∙_}
+use Prim.Native.Nat.{_<_}
+use native.Mathlib.Omega.{arith}
+use lib.Dec.{eqb}
+use lib.ListN.{set}
+use Rattle.model.specs.Board.{devices}
+use Rattle.model.specs.Line.{isLine, maxLines}
+use Rattle.model.specs.Sets.{empty}
+use Rattle.theory.proofs.Line.{line-parts}
+use Rattle.plan.specs.Walk.{placeFault, heldIn, nextBy}
+use Rattle.plan.proofs.Answers.{told, untold}
+use Rattle.plan.proofs.Stacks.{held-or-none}
+use Rattle.plan.proofs.Steps.{in-place, stops, goes-on, walking}
+use borrow.Author.Needs.{needs}
+use Rattle.plan.proofs.checked_line.Statement.{statement}
+use Rattle.plan.proofs.checked_line.Tie as tie
+
+-- 3, 2 or 4
+returns : tie.Need-returns
+returns c =
+    let a = c .before .before .before .before .args in
+    let r = c .before .r .given in (
+      stops devices (a .n) (a .i) (a .prev) (a .first .now) (a .starter .now) (heldIn (a .depth) (a .stack .now))
+          (r .0 .0)
+          (told (placeFault devices (a .n) (a .i) (a .prev)) (r .0 .0)
+          (sym (r .1) ∙ c .before .before .before .misplaced .ensures)),
+      tt,
+    )
+
+-- none of them
+placed : (c : tie.After-job)
+    → let a = c .before .before .before .before .args in placeFault devices (a .n) (a .i) (a .prev) ≡ none
+placed c =
+    let a = c .before .before .before .before .args in
+    untold (placeFault devices (a .n) (a .i) (a .prev))
+    (sym (c .before .enum-told .given .1) ∙ c .before .before .before .misplaced .ensures)
+
+few : (c : tie.After-job)
+    → let a = c .before .before .before .before .args in (a .i < maxLines) × (isLine devices (a .n) ≡ true)
+few c =
+    let a = c .before .before .before .before .args in
+    let p = in-place devices (a .n) (a .i) (a .prev) (placed c) in (p .0, p .1)
+
+element-copy-out-choose : tie.Need-element-copy-out-choose
+element-copy-out-choose c =
+    omega (arith, c .job .ensures, line-parts devices (c .before .before .before .before .args .n) (few c .1) .1)
+
+add-choose : tie.Need-add-choose
+add-choose c = record { fits = omega (arith, few (c .before) .0) }
+
+cast-choose : tie.Need-cast-choose
+cast-choose c = omega (arith, few (c .before) .0)
+
+element-write-first : tie.Need-element-write-first
+element-write-first c = element-copy-out-choose (c .before .before)
+
+rule-requires : tie.Need-rule-requires
+unfolding empty
+rule-requires c κs =
+    let j = c .before .before .before .before .before .before in
+    let s = j .before .before .before .before in
+    let a = s .args in (
+      few j .0,
+      few j .1,
+      rw (c .before .before .before .choose2 .ensures, c .before .before .choose3 .ensures)
+          (held-or-none (a .depth) (a .held) (a .stack .now) (s .pre .holding) (eqb (j .job .result) (a .prev))),
+      s .pre .starter-long,
+    )
+
+returns-2 : tie.Need-returns-2
+returns-2 c =
+    let f = c .rule in
+    let v = c .before .before .before .before .before in
+    let j = v .before .before in
+    let s = j .before .before .before .before in
+    let a = s .args in
+    let first = set (a .first .now) (j .job .result) (v .choose .result) in (
+      goes-on devices (a .n) (a .i) (a .prev) (a .first .now) (a .starter .now)
+          (nextBy (f .result) (f .last .1 .1 .1 .1 .0) first (f .last .1 .1 .1 .1 .1 .0)) (a .depth)
+          (c .before .before .before .before .choose2 .result) (j .job .result) (v .choose .result) (a .stack .now)
+          (placed j) (j .job .ensures) (v .choose .ensures) (c .before .before .before .before .choose2 .ensures)
+          (f .ensures .0 first),
+      walking (f .result) (f .last .1 .1 .1 .1 .0) (a .first .now) (f .last .1 .1 .1 .1 .1 .0) (j .job .result)
+          (v .choose .result) (f .ensures .1 .0) (s .pre .first-long) (f .ensures .1 .1),
+    )
+
+pub checked-line-spec : {M : Type 1} → statement M
+checked-line-spec =
+    tie.close
+    (tie.spec
+    (λ c κs. search needs)
+    (λ c. search needs)
+    returns
+    (λ c. search needs)
+    (λ c κs. search needs)
+    (λ c. search needs)
+    (λ c. search needs)
+    element-copy-out-choose
+    add-choose
+    cast-choose
+    (λ c κs. search needs)
+    (λ c. search needs)
+    element-write-first
+    (λ c κs. search needs)
+    (λ c κs. search needs)
+    rule-requires
+    returns-2)

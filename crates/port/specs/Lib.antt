@@ -1,2 +1,0 @@
--- What the contracts of `port` cite beside `model`.
-pub mod Promises

@@ -1,0 +1,293 @@
+-- What follows from what the entries for C and Rust promise (01, "Refusal numbers"): what a caller reads off the
+-- number, a count or by its halves a refusal, is the answer of the entry behind, so that one number for two values
+-- loses nothing; it is below 2^32 exactly if that entry succeeded; from there on everything lent is as it was. The line
+-- entry gives 0 exactly at the end. For no count, length or place of an entry has more than 32 bits.
+use Prim.Native.Nat.{ℕ, suc, _+_, _*_, _<_, _≤_}
+use mathlib.Core.Bool.{true, not}
+use mathlib.Core.List.{List}
+use mathlib.Core.Logic.{_↔_}
+use mathlib.Core.Option.{Option, none, some}
+use mathlib.Core.Path.{_≡_, refl, sym, _∙_, ap}
+use native.Mathlib.Omega.{arith}
+use lib.Dec.{lit≤, eqb}
+use lib.ListN.{length, getD}
+use Rattle.model.specs.Board.{devices}
+use Rattle.model.specs.Lists.{upFrom, positions}
+use Rattle.model.specs.Answers.{numberOf, placeOf, lineValues, readValues, writeValues, tableValues, verdictValues}
+use Rattle.model.specs.Answers.{moveValues}
+use Rattle.model.specs.Line.{job, isLine, lineNumber}
+use Rattle.model.specs.Text.{spelt, cursorAfter, cursorFrom, lineFrom}
+use Rattle.model.specs.WellFormed.{WellFormed}
+use Rattle.model.specs.Move.{edited, way, rewritten, changed, askedAt, moveRefusal}
+use Rattle.model.specs.Entries.{outcome, reading, writing, tabling, judging, moving}
+use Rattle.model.specs.declared.Refusal.{Refusal}
+use Rattle.model.specs.declared.LineAnswer.{LineAnswer}
+use Rattle.model.specs.declared.ReadAnswer.{ReadAnswer}
+use Rattle.model.specs.declared.WriteAnswer.{WriteAnswer}
+use Rattle.model.specs.declared.TableAnswer.{TableAnswer}
+use Rattle.model.specs.declared.VerdictAnswer.{VerdictAnswer}
+use Rattle.model.specs.declared.MoveAnswer.{MoveAnswer}
+use Rattle.theory.specs.WellFormed.{Broken}
+use Rattle.theory.specs.Verdict.{NoOrder, twice, back}
+use Rattle.theory.specs.Text.{TextBroken, tooLong, spells}
+use Rattle.theory.proofs.Answers.{number-range, one-refusal}
+use Rattle.theory.proofs.Lists.{those-length}
+use Rattle.theory.proofs.Line.{line-parts}
+use Rattle.theory.proofs.WellFormed.{take-line}
+use Rattle.theory.proofs.Claims.{length-upFrom}
+use Rattle.theory.proofs.Way.{falls-below, way-falls}
+use Rattle.theory.proofs.Move.{asked-take}
+use Rattle.theory.proofs.Text.{text-length}
+use Rattle.theory.proofs.Reader.{RightAnswer, next-right}
+use Rattle.theory.proofs.Offsets.{StandsAt, from-stands, one-past}
+use Rattle.theory.proofs.Printed.{broken-bounds, held-few}
+use Rattle.refusals.specs.InOne.{inOne}
+use Rattle.promises.specs.Outcome.{MeetsInOne, faulty, short, further}
+use Rattle.promises.specs.Text.{ReadsAs, Asked}
+use Rattle.promises.specs.Move.{NotMoved, notATake, noSuchDevice, staleTable, takeOfHeld}
+use Rattle.promises.specs.ForC.{HandsOutForC, ReadsForC, WritesForC, TablesForC, JudgesForC, MovesForC, word}
+use Rattle.promises.specs.ForC.{StandsFor, aCount, aRefusal, ReadOff, LineStandsFor, theEnd, aLine, noLine}
+use Rattle.promises.specs.ForC.{AskedForC}
+use Rattle.promises.proofs.Tight.{by-refusal, by-none}
+use Rattle.promises.proofs.Outcome.{Answers, Entry, tests, outcomeOf, Case, listed-exactly, passed-exactly}
+use Rattle.promises.proofs.Outcome.{not-both}
+use Rattle.promises.proofs.Text.{readEntry, writeEntry, read-line-by-line}
+use Rattle.promises.proofs.Table as table
+use Rattle.promises.proofs.Verdict as verdict
+use Rattle.promises.proofs.Move as move
+
+-- ---- one law
+
+-- a number stands for one answer
+pub one-number : {A : Type 0} (x : Answers A) (n : ℕ) (a b : A) → StandsFor (x .done) (x .refused) n a
+    → StandsFor (x .done) (x .refused) n b → a ≡ b
+one-number x n a b (aCount h) (aCount g) = refl
+one-number x n a b (aCount h) (aRefusal r g e f) = absurd (omega arith)
+one-number x n a b (aRefusal r g e f) (aCount h) = absurd (omega arith)
+one-number x n a b (aRefusal r g e f) (aRefusal s h u v) = ap (x .refused) (one-refusal r s (e ∙ sym u) (f ∙ sym v))
+
+-- no value of an entry has more than 32 bits
+record Small {A L S : Type 0} {B F : Refusal → Type 0} (e : Entry A L S B F) : Type 0 where
+  broken : (r : Refusal) → B r → placeOf r < word
+  needed : S → e .needed < word
+  further : S → (r : Refusal) → F r → placeOf r < word
+  count : S → e .count < word
+
+module _ {A L S : Type 0} {B F : Refusal → Type 0} (e : Entry A L S B F) (s : Small e) where
+  place-small : (r : Refusal) → Case e r → placeOf r < word
+  place-small r (faulty q b) = s .broken q b
+  place-small r (short w h) = s .needed w
+  place-small r (further q w h f) = s .further w q f
+
+  abbrev Says : ℕ → L → Type 0
+  Says n left = ReadOff (e .answers .values) (e .answers .done) (e .answers .refused) (outcomeOf e) (e .lent) n left
+
+  -- a success, and a refusal
+  reads-count : (n : ℕ) (left : L) → MeetsInOne (e .answers .values) (outcomeOf e) n left → tests e ≡ none
+      → Says n left
+  unfolding outcome
+  reads-count n left m h = record {
+    answer = e .answers .done n;
+    behind = rw is (by-none (e .answers .refused) (e .answers .done (e .count)) (e .new) (e .lent) (tests e) left h
+        (rw h at (m .leaves)));
+    stands = aCount small;
+    below = (λ b. (n, refl), λ b. small);
+    kept = λ b. absurd (omega (arith, small));
+  }
+    where
+      is : n ≡ e .count
+      is = let z = (rw h at (m .answers)) ∙ ap inOne (e .answers .of-done (e .count)) in omega (arith, z)
+
+      small : n < word
+      small = omega (arith, is, s .count (passed-exactly e .0 h .0))
+
+  reads-refusal : (n : ℕ) (left : L) → MeetsInOne (e .answers .values) (outcomeOf e) n left → (r : Refusal)
+      → tests e ≡ some r → Says n left
+  unfolding outcome
+  reads-refusal n left m r h = record {
+    answer = e .answers .refused r;
+    behind = rw leaves
+        (by-refusal (e .answers .refused) (e .answers .done (e .count)) (e .new) (e .lent) (tests e) r h);
+    stands = aRefusal r (omega (arith, is, number-range r .0)) (omega (arith, is, small)) (omega (arith, is, small));
+    below = (
+      λ b. absurd (omega (arith, is, number-range r .0)),
+      λ k. absurd (not-both (e .answers) (k .0) r (sym (k .1))),
+    );
+    kept = λ b. leaves;
+  }
+    where
+      leaves : left ≡ e .lent
+      leaves = rw h at (m .leaves)
+
+      is : n ≡ numberOf r * word + placeOf r
+      is = (rw h at (m .answers)) ∙ ap inOne (e .answers .of-refused r)
+
+      small : placeOf r < word
+      small = place-small r (listed-exactly e r .0 h)
+
+  says : (n : ℕ) (left : L) → MeetsInOne (e .answers .values) (outcomeOf e) n left → Says n left
+  says n left m = go (tests e) refl
+    where
+      go : (x : Option Refusal) → tests e ≡ x → Says n left
+      go none h = reads-count n left m h
+      go (some r) h = reads-refusal n left m r h
+
+-- ---- the entries
+
+-- a plan's faults are at lines of at most 1,025
+fault-small : (p : List ℕ) (r : Refusal) → Broken devices p r → placeOf r < word
+fault-small p r b = omega (arith, broken-bounds devices p r b .1)
+
+pub read-number : (text lent : List ℕ) (n : ℕ) (left : List ℕ) → ReadsForC text lent n left
+    → ReadOff readValues ReadAnswer.Lines ReadAnswer.Refused (reading devices text lent) lent n left
+unfolding reading
+read-number text lent = says (readEntry text lent) (record {
+  broken = text-small;
+  needed = λ w. omega (arith, w .1 .few);
+  further = λ w r f. absurd f;
+  count = λ w. omega (arith, w .1 .few);
+})
+  where
+    text-small : (r : Refusal) → TextBroken devices text r → placeOf r < word
+    text-small r (tooLong h) = omega arith
+    text-small r (spells q h b) = fault-small (spelt devices text) q b
+
+pub write-number : (plan lent : List ℕ) (n : ℕ) (left : List ℕ) → WritesForC plan lent n left
+    → ReadOff writeValues WriteAnswer.Bytes WriteAnswer.Refused (writing devices plan lent) lent n left
+unfolding writing
+write-number plan lent = says (writeEntry plan lent) (record {
+  broken = fault-small plan;
+  needed = λ w. omega (arith, w .few, text-length devices plan (w .lines));
+  further = λ w r f. absurd f;
+  count = λ w. omega (arith, w .few, text-length devices plan (w .lines));
+})
+
+pub table-number : (plan lent : List ℕ) (n : ℕ) (left : List ℕ) → TablesForC plan lent n left
+    → ReadOff tableValues TableAnswer.Lines TableAnswer.Refused (tabling devices plan lent) lent n left
+unfolding tabling
+table-number plan lent = says (table.entry plan lent) (record {
+  broken = fault-small plan;
+  needed = λ w. omega (arith, w .few);
+  further = λ w r f. absurd f;
+  count = λ w. omega (arith, w .few);
+})
+
+pub verdict-number : (plan lent : List ℕ) (n : ℕ) (left : List ℕ) → JudgesForC plan lent n left
+    → ReadOff verdictValues VerdictAnswer.Held VerdictAnswer.Refused (judging devices plan lent) lent n left
+unfolding judging
+verdict-number plan lent = says (verdict.entry plan lent) (record {
+  broken = fault-small plan;
+  needed = λ w. omega (arith, w .few);
+  further = λ w. device-small;
+  count = λ w. omega (arith, held-few devices plan);
+})
+  where
+    device-small : (r : Refusal) → NoOrder devices plan r → placeOf r < word
+    device-small r (twice d h l f) = omega arith
+    device-small r (back d f h l g) = omega arith
+
+-- no move changes more sets than the plan has lines
+changed-few : (p t u : List ℕ) → changed p t u ≤ length p
+unfolding changed positions
+changed-few p t u =
+    omega (
+      arith,
+      those-length (λ i. not (eqb (getD u i 0) (getD t i 0))) (upFrom 0 (length p)),
+      length-upFrom 0 (length p),
+    )
+
+-- line and device are numbers of 32 bits
+pub move-number : (p t : List ℕ) (line device : ℕ) → line < word → device < word → (n : ℕ) (p′ t′ : List ℕ)
+    → MovesForC p t line device n p′ t′
+    → ReadOff moveValues MoveAnswer.Changed MoveAnswer.Refused (moving devices p t line device)
+    (record { plan = p; sets = t }) n (record { plan = p′; sets = t′ })
+unfolding moving moveRefusal lineNumber
+move-number p t line device lineSmall deviceSmall n p′ t′ =
+    says (move.entry p t line device) (record {
+      broken = fault-small p;
+      needed = λ w. omega (arith, w .few);
+      further = place-fits;
+      count = λ w. omega (
+        arith,
+        w .few,
+        changed-few p t
+            (rewritten (edited p (askedAt line) device) t (way p (askedAt line))),
+      );
+    })
+    n (record { plan = p′; sets = t′ })
+  where
+    i : ℕ
+    i = askedAt line
+
+    place-fits : WellFormed devices p → (r : Refusal) → NotMoved p t line device r → placeOf r < word
+    place-fits w r (notATake x) = lineSmall
+    place-fits w r (noSuchDevice x h) = deviceSmall
+    place-fits w r (staleTable k x h s) =
+        omega (
+          arith,
+          falls-below (suc i) k (way p i) (way-falls p i) (s .onWay),
+          take-line p i (asked-take p line x),
+          w .few,
+        )
+    place-fits w r (takeOfHeld q x h f e b) = fault-small (edited p i device) q b
+
+-- ---- the line entry
+
+-- a line's number is not 0, and has 32 bits
+line-small : (n : ℕ) → isLine devices n ≡ true → (0 < n) × (n < word)
+unfolding job
+line-small n h = let r = line-parts devices n h in (omega (arith, r .0), omega (arith, r .1))
+
+pub line-number : (text : List ℕ) (offset n : ℕ) → HandsOutForC text offset n
+    → LineStandsFor n (lineFrom devices text offset)
+unfolding lineFrom
+line-number text offset n m =
+    go (lineFrom devices text offset) (next-right devices (lit≤ tt) text (cursorFrom text offset)) (m .answers)
+  where
+    go : (a : LineAnswer) → RightAnswer devices a → n ≡ inOne (lineValues a) → LineStandsFor n a
+    go (LineAnswer.Line l next) h e =
+        let z : l ≡ n = omega arith in
+        let b = line-small l h in
+        rw z (aLine next (omega (arith, b .0)) (omega (arith, b .1)))
+    go (LineAnswer.Refused r) h e =
+        noLine r (omega (arith, number-range r .0)) (omega (arith, h .1)) (omega (arith, h .1))
+    go LineAnswer.End h e = theEnd e
+
+-- 0 exactly at the end
+pub end-exactly : (text : List ℕ) (offset n : ℕ) → HandsOutForC text offset n
+    → (n ≡ 0) ↔ (lineFrom devices text offset ≡ LineAnswer.End)
+end-exactly text offset n m =
+    (λ e. go e (lineFrom devices text offset) (line-number text offset n m), λ e. rw e at (m .answers))
+  where
+    go : n ≡ 0 → (a : LineAnswer) → LineStandsFor n a → a ≡ LineAnswer.End
+    go e a (theEnd h) = refl
+    go e a (aLine next h g) = absurd (omega arith)
+    go e a (noLine r h f g) = absurd (omega arith)
+
+-- Asked again and again by the numbers alone, past the newline of each line that came, it is the reader of a text and
+-- an offset that is asked so.
+module _ (text : List ℕ) (offset number : ℕ → ℕ) (asked : AskedForC text offset number) where
+  pub asked-so : Asked text offset (λ k. lineFrom devices text (offset k))
+  unfolding cursorAfter cursorFrom
+  asked-so = record {
+    begins = asked .begins;
+    answers = λ k. refl;
+    goesOn = λ k. go k (lineFrom devices text (offset k)) (line-number text (offset k) (number k) (asked .answers k))
+        (from-stands devices text (offset k));
+  }
+    where
+      go : (k : ℕ) (a : LineAnswer) → LineStandsFor (number k) a → StandsAt text (offset k) a
+          → offset (suc k) ≡ cursorAfter (cursorFrom text (offset k)) a .offset
+      go k a (theEnd h) s = asked .ended k h
+      go k a (aLine next h g) s =
+          one-past text (offset k) (offset (suc k)) (next .offset) (asked .goesOn k h g) (s .1)
+      go k a (noLine r h f g) s = asked .refused k h
+
+  -- and a text that is read comes number by number, and then noughts
+  pub numbers-come : (lent left : List ℕ) (n : ℕ) → ReadsAs text lent (ReadAnswer.Lines n) left
+      → ((i : ℕ) → i < n → number i ≡ getD left i 0) × ((k : ℕ) → n ≤ k → number k ≡ 0)
+  numbers-come lent left n m =
+      let r = read-line-by-line text offset (λ k. lineFrom devices text (offset k)) asked-so lent left n m in (
+        λ i h. let q = r .0 i h in asked .answers i .answers ∙ rw (q .1) (omega arith),
+        λ k h. asked .answers k .answers ∙ rw (r .1 k h),
+      )

@@ -1,0 +1,71 @@
+-- A promise leaves one outcome per input (01, "How tight the statements are"): any two that meet it are equal, in the
+-- answer and in what is left. It is enough that answers with the same values are the same, which `theory/Answers` has
+-- of each enum. Then how a promise is met, and handed on as one number.
+use Prim.Native.Nat.{ℕ}
+use mathlib.Core.List.{List}
+use mathlib.Core.Option.{Option, none, some}
+use mathlib.Core.Path.{_≡_, refl, sym, _∙_, ap}
+use Rattle.model.specs.Board.{devices}
+use Rattle.model.specs.Text.{nextLine}
+use Rattle.model.specs.Entries.{Outcome, outcome}
+use Rattle.model.specs.declared.Refusal.{Refusal}
+use Rattle.model.specs.declared.Cursor.{Cursor}
+use Rattle.model.specs.declared.LineAnswer.{LineAnswer}
+use Rattle.theory.proofs.Answers.{one-line-answer}
+use Rattle.refusals.specs.InOne.{inOne}
+use Rattle.promises.specs.Outcome.{Meets, MeetsInOne}
+use Rattle.promises.specs.Text.{HandsOutAs}
+use Rattle.promises.specs.Screen.{ScreensAs}
+use Rattle.promises.specs.ForC.{HandsOutForC}
+
+module _ {A L : Type 0} {values : A → List ℕ} {o : Outcome A L} where
+  -- what has the outcome's answer and leaves its lists meets the promise
+  pub meets : {a : A} {left : L} → a ≡ o .answer → left ≡ o .left → Meets values o a left
+  meets e f = record { answers = ap values e; leaves = f }
+
+  -- one outcome meets it
+  pub one-outcome : ((a b : A) → values a ≡ values b → a ≡ b) → (a b : A) (left other : L) → Meets values o a left
+      → Meets values o b other → (a ≡ b) × (left ≡ other)
+  one-outcome same a b left other x y = (same a b (x .answers ∙ sym (y .answers)), x .leaves ∙ sym (y .leaves))
+
+  -- and it is that of `model`
+  pub the-outcome : ((a b : A) → values a ≡ values b → a ≡ b) → (a : A) (left : L) → Meets values o a left
+      → (a ≡ o .answer) × (left ≡ o .left)
+  the-outcome same a left x = one-outcome same a (o .answer) left (o .left) x (meets refl refl)
+
+  -- an answer handed on as one number
+  pub in-one : {a b : A} {left : L} {n : ℕ} → Meets values o a left → a ≡ b → n ≡ inOne (values b)
+      → MeetsInOne values o n left
+  in-one x e m = record { answers = m ∙ ap inOne (ap values (sym e) ∙ x .answers); leaves = x .leaves }
+
+  pub one-in-one : (m n : ℕ) (left other : L) → MeetsInOne values o m left → MeetsInOne values o n other
+      → (m ≡ n) × (left ≡ other)
+  one-in-one m n left other x y = (x .answers ∙ sym (y .answers), x .leaves ∙ sym (y .leaves))
+
+-- ---- met by what the tests of an entry answer
+
+module _ {A L : Type 0} {values : A → List ℕ} (refused : Refusal → A) (a : A) (new lent : L) where
+  pub by-refusal : (tests : Option Refusal) (r : Refusal) → tests ≡ some r
+      → Meets values (outcome refused tests a new lent) (refused r) lent
+  unfolding outcome
+  by-refusal tests r e = rw e (meets refl refl)
+
+  pub by-none : (tests : Option Refusal) (left : L) → tests ≡ none → left ≡ new
+      → Meets values (outcome refused tests a new lent) a left
+  unfolding outcome
+  by-none tests left e f = rw e (meets refl f)
+
+-- ---- the line reader and the screens' entry
+
+pub one-line : (text : List ℕ) (c : Cursor) (a b : LineAnswer) → HandsOutAs text c a → HandsOutAs text c b → a ≡ b
+one-line text c a b x y = one-line-answer a b (x .answers ∙ sym (y .answers))
+
+pub the-line : (text : List ℕ) (c : Cursor) (a : LineAnswer) → HandsOutAs text c a → a ≡ nextLine devices text c
+the-line text c a x = one-line-answer a (nextLine devices text c) (x .answers)
+
+pub one-line-in-one : (text : List ℕ) (offset a b : ℕ) → HandsOutForC text offset a → HandsOutForC text offset b → a ≡ b
+one-line-in-one text offset a b p q = cc
+
+pub one-screen : (text lent : List ℕ) (m n : ℕ) (left other : List ℕ) → ScreensAs text lent m left
+    → ScreensAs text lent n other → (m ≡ n) × (left ≡ other)
+one-screen text lent m n left other p q = (cc, cc)

@@ -1,0 +1,76 @@
+-- What the entries for C and Rust promise (01, "Refusal numbers"): the outcome of the entry behind each, its answer as
+-- one number of 64 bits. Then the words for what a caller reads off the number.
+use Prim.Native.Nat.{ℕ, suc, _/_, _%_, _<_, _≤_}
+use mathlib.Core.List.{List}
+use mathlib.Core.Logic.{_↔_}
+use mathlib.Core.Path.{_≡_}
+use Rattle.model.specs.Board.{devices}
+use Rattle.model.specs.Answers.{numberOf, placeOf, lineValues, readValues, writeValues, tableValues}
+use Rattle.model.specs.Answers.{verdictValues, moveValues}
+use Rattle.model.specs.Text.{lineFrom}
+use Rattle.model.specs.Entries.{Outcome, reading, writing, tabling, judging, moving}
+use Rattle.model.specs.declared.Refusal.{Refusal}
+use Rattle.model.specs.declared.Cursor.{Cursor}
+use Rattle.model.specs.declared.LineAnswer.{LineAnswer}
+use Rattle.theory.specs.Text.{PastNewline}
+use Rattle.refusals.specs.InOne.{inOne}
+use Rattle.promises.specs.Outcome.{Meets, MeetsInOne}
+
+-- the line that a reader of the text hands out at an offset
+pub record HandsOutForC (text : List ℕ) (offset answer : ℕ) : Type 0 where
+  pub answers : answer ≡ inOne (lineValues (lineFrom devices text offset))
+
+abbrev pub ReadsForC : List ℕ → List ℕ → ℕ → List ℕ → Type 0
+ReadsForC text lent answer left = MeetsInOne readValues (reading devices text lent) answer left
+
+abbrev pub WritesForC : List ℕ → List ℕ → ℕ → List ℕ → Type 0
+WritesForC plan lent answer left = MeetsInOne writeValues (writing devices plan lent) answer left
+
+abbrev pub TablesForC : List ℕ → List ℕ → ℕ → List ℕ → Type 0
+TablesForC plan lent answer left = MeetsInOne tableValues (tabling devices plan lent) answer left
+
+abbrev pub JudgesForC : List ℕ → List ℕ → ℕ → List ℕ → Type 0
+JudgesForC plan lent answer left = MeetsInOne verdictValues (judging devices plan lent) answer left
+
+abbrev pub MovesForC : List ℕ → List ℕ → ℕ → ℕ → ℕ → List ℕ → List ℕ → Type 0
+MovesForC p t line device answer p′ t′ =
+    MeetsInOne moveValues (moving devices p t line device) answer (record { plan = p′; sets = t′ })
+
+-- ---- what a number says
+
+-- from here on it is a refusal's
+abbrev pub word : ℕ
+word = 4294967296
+
+-- A number stands for one answer: below 2^32 it is the count; from there on the upper half is a refusal's number, and
+-- the lower half its place.
+pub data StandsFor {A : Type 0} (done : ℕ → A) (refused : Refusal → A) (n : ℕ) : A → Type 0 where
+  aCount : n < word → StandsFor done refused n (done n)
+  aRefusal : (r : Refusal) → word ≤ n → numberOf r ≡ n / word → placeOf r ≡ n % word
+      → StandsFor done refused n (refused r)
+
+-- What an entry's number and the lists left say: the answer that it stands for is that of the entry behind; it is below
+-- 2^32 exactly if that succeeded; and from there on everything lent is as it was.
+pub record ReadOff {A L : Type 0} (values : A → List ℕ) (done : ℕ → A) (refused : Refusal → A) (o : Outcome A L)
+    (lent : L) (n : ℕ) (left : L) : Type 0 where
+  pub answer : A
+  pub behind : Meets values o answer left
+  pub stands : StandsFor done refused n answer
+  pub below : (n < word) ↔ ((k : ℕ) × (answer ≡ done k))
+  pub kept : word ≤ n → left ≡ lent
+
+-- the same of the line entry, which is lent nothing to write to: 0 is the end, and no line's number
+pub data LineStandsFor (n : ℕ) : LineAnswer → Type 0 where
+  theEnd : n ≡ 0 → LineStandsFor n LineAnswer.End
+  aLine : (next : Cursor) → 0 < n → n < word → LineStandsFor n (LineAnswer.Line n next)
+  noLine : (r : Refusal) → word ≤ n → numberOf r ≡ n / word → placeOf r ≡ n % word
+      → LineStandsFor n (LineAnswer.Refused r)
+
+-- The line entry asked again and again by a caller who has its numbers alone: it begins at offset 0, and goes on past
+-- the newline of a line that came; where none came, it stays.
+pub record AskedForC (text : List ℕ) (offset number : ℕ → ℕ) : Type 0 where
+  pub begins : offset 0 ≡ 0
+  pub answers : (k : ℕ) → HandsOutForC text (offset k) (number k)
+  pub goesOn : (k : ℕ) → 0 < number k → number k < word → PastNewline text (offset k) (offset (suc k))
+  pub ended : (k : ℕ) → number k ≡ 0 → offset (suc k) ≡ offset k
+  pub refused : (k : ℕ) → word ≤ number k → offset (suc k) ≡ offset k

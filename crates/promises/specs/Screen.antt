@@ -1,0 +1,27 @@
+-- What printing and the screens' entry promise (01, "Plans with their verdicts", its last part). Of a text and a lent
+-- buffer, the count and the buffer left are those of the outcome that `model` defines.
+use Prim.Native.Nat.{ℕ, _≤_, _<_}
+use mathlib.Core.List.{List}
+use mathlib.Core.Path.{_≡_}
+use lib.ListN.{length, take}
+use Rattle.model.specs.Board.{devices}
+use Rattle.model.specs.Entries.{reading, judging}
+use Rattle.model.specs.Printed.{screening, screenRoom}
+use Rattle.model.specs.declared.ReadAnswer.{ReadAnswer}
+
+pub record ScreensAs (text lent : List ℕ) (count : ℕ) (left : List ℕ) : Type 0 where
+  pub counts : count ≡ screening devices text lent .count
+  pub leaves : left ≡ screening devices text lent .out
+
+-- Printing is lent a plan's list and an order's too, to work in. The order's is left as the verdict on what was read
+-- leaves it, if a plan was read.
+abbrev pub orderAfter : ReadAnswer → List ℕ → List ℕ → List ℕ
+orderAfter (ReadAnswer.Lines n) plan order = judging devices (take n plan) order .left
+orderAfter (ReadAnswer.Refused r) plan order = order
+
+-- with too little room for what is printed both stay as they were
+pub record PrintsAs (text plan order lent : List ℕ) (count : ℕ) (plan′ order′ left : List ℕ) : Type 0 where
+  pub screens : ScreensAs text lent count left
+  pub idle : length lent < screenRoom → (plan′ ≡ plan) × (order′ ≡ order)
+  pub reads : screenRoom ≤ length lent → plan′ ≡ reading devices text plan .left
+  pub judges : screenRoom ≤ length lent → order′ ≡ orderAfter (reading devices text plan .answer) plan′ order

@@ -1,2 +1,0 @@
--- What the contracts of this room cite beside the definitions of `model`.
-pub mod Promises

@@ -1,0 +1,129 @@
+-- 01, "Refusal numbers" (its order): what the lines that were gathered say of the text. Where the reader stops, an
+-- earlier line's own fault decides over the refusal; where it comes to the end, the lines are the plan that the text
+-- spells.
+use Prim.Native.Nat.{ℕ, suc, _+_, _≤_, _<_}
+use mathlib.Core.Bool.{Bool, true, false, cond}
+use mathlib.Core.List.{List, [], _∷_, map}
+use mathlib.Core.Option.{Option, none, some, Option·getD, Option·none-ne-some}
+use mathlib.Core.Path.{_≡_, refl, sym, _∙_, ap}
+use native.Mathlib.Omega.{arith}
+use lib.Dec.{leb}
+use lib.ListN.{length, take, drop, length-append}
+use lib.Seq.{take-at}
+use Rattle.model.specs.Answers.{firstRefusal, refuseIf}
+use Rattle.model.specs.Board.{devices}
+use Rattle.model.specs.Line.{isLine, lineNumber, maxLines}
+use Rattle.model.specs.Lists.{over}
+use Rattle.model.specs.Text.{packedLine, linesOf, spelt}
+use Rattle.model.specs.WellFormed.{lineFault, firstFault}
+use Rattle.model.specs.declared.Refusal.{Refusal}
+use Rattle.model.specs.declared.Refusal.the-variants.{Malformed, TooManyLines}
+use Rattle.theory.proofs.Text.{numberIn}
+use Rattle.theory.proofs.Line.{zero-no-line}
+use Rattle.lines.specs.Gathered.{handedOut, stopsWith, gathered, GathersAs}
+use Rattle.lines.specs.declared.Gathered.{Gathered}
+use Rattle.lines.proofs.Gathering.{all-room, gathers-over}
+
+fault-many : (D : ℕ) (b : List ℕ) (l : ℕ) → leb maxLines (length b) ≡ true → lineFault D b l ≡ some TooManyLines
+unfolding lineFault
+fault-many D b l e = rw e
+
+fault-malformed : (D : ℕ) (b : List ℕ) (l : ℕ) → leb maxLines (length b) ≡ false → isLine D l ≡ false
+    → lineFault D b l ≡ some (Malformed (lineNumber (length b)))
+unfolding lineFault
+fault-malformed D b l e f = rw (e, f)
+
+-- the fault of the first line that has one: of those handed out, and then the refusal
+pub first-found : (D : ℕ) (b : List ℕ) (ls : List (List ℕ))
+    → firstFault D b (map (numberIn D) ls)
+    ≡ firstRefusal (firstFault D b (handedOut D (length b) ls) ∷ stopsWith D (length b) ls ∷ [])
+unfolding firstFault handedOut stopsWith firstRefusal
+first-found D b [] = refl
+first-found D b (l ∷ ls) =
+    go (leb maxLines (length b)) refl (packedLine D l) refl (λ m. first-found D (m ∷ b) ls)
+  where
+    go : (t : Bool) → leb maxLines (length b) ≡ t → (o : Option ℕ) → packedLine D l ≡ o
+        → ((m : ℕ) → firstFault D (m ∷ b) (map (numberIn D) ls)
+        ≡ firstRefusal (firstFault D (m ∷ b) (handedOut D (suc (length b)) ls) ∷ stopsWith D (suc (length b)) ls ∷ []))
+        → firstFault D b (Option·getD o 0 ∷ map (numberIn D) ls)
+        ≡ firstRefusal
+        (firstFault D b (cond t [] (elim o [ none ↦ [] | some m ↦ m ∷ handedOut D (suc (length b)) ls ]))
+        ∷ cond t (some TooManyLines)
+        (elim o [ none ↦ some (Malformed (lineNumber (length b))) | some m ↦ stopsWith D (suc (length b)) ls ])
+        ∷ [])
+    go true e o q ih = rw (fault-many D b (Option·getD o 0) e, firstFault)
+    go false e none q ih = rw (fault-malformed D b 0 e (zero-no-line D), firstFault)
+    go false e (some m) q ih = own (lineFault D b m) (ih m)
+      where
+        rest : Option Refusal
+        rest = firstFault D (m ∷ b) (handedOut D (suc (length b)) ls)
+
+        own : (f : Option Refusal)
+            → firstFault D (m ∷ b) (map (numberIn D) ls) ≡ firstRefusal (rest ∷ stopsWith D (suc (length b)) ls ∷ [])
+            → elim f [ some r ↦ some r | none ↦ firstFault D (m ∷ b) (map (numberIn D) ls) ]
+            ≡ firstRefusal (elim f [ some r ↦ some r | none ↦ rest ] ∷ stopsWith D (suc (length b)) ls ∷ [])
+        own none ih = ih
+        own (some r) ih = refl
+
+-- at the end, all lines were handed out
+all-found : (D n : ℕ) (ls : List (List ℕ)) → stopsWith D n ls ≡ none → handedOut D n ls ≡ map (numberIn D) ls
+unfolding handedOut stopsWith
+all-found D n [] e = refl
+all-found D n (l ∷ ls) e = go (leb maxLines n) (packedLine D l) refl (all-found D (suc n) ls) e
+  where
+    go : (t : Bool) (o : Option ℕ) → packedLine D l ≡ o
+        → (stopsWith D (suc n) ls ≡ none → handedOut D (suc n) ls ≡ map (numberIn D) ls)
+        → cond t (some TooManyLines)
+        (elim o [ none ↦ some (Malformed (lineNumber n)) | some m ↦ stopsWith D (suc n) ls ]) ≡ none
+        → cond t [] (elim o [ none ↦ [] | some m ↦ m ∷ handedOut D (suc n) ls ]) ≡ Option·getD o 0 ∷ map (numberIn D) ls
+    go true o q ih e = absurd (Option·none-ne-some TooManyLines (sym e))
+    go false none q ih e = absurd (Option·none-ne-some (Malformed (lineNumber n)) (sym e))
+    go false (some m) q ih e = rw (ih e)
+
+pub all-spelt : (D : ℕ) (text : List ℕ) → stopsWith D 0 (linesOf text) ≡ none
+    → handedOut D 0 (linesOf text) ≡ spelt D text
+unfolding spelt
+all-spelt D text e = all-found D 0 (linesOf text) e
+
+-- ---- what the answer says of the list
+
+-- its first n entries are the lines handed out
+pub record Front (text : List ℕ) (n : ℕ) (left : List ℕ) : Type 0 where
+  pub within : n ≤ length left
+  pub few : n ≤ maxLines
+  pub lines : take n left ≡ handedOut devices 0 (linesOf text)
+
+module _ (text lent left : List ℕ) (long : length lent ≡ maxLines) where
+  abbrev out : List ℕ
+  out = handedOut devices 0 (linesOf text)
+
+  front : (n : ℕ) (a : Gathered) → n ≡ length out → GathersAs text lent a left → Front text n left
+  unfolding over
+  front n a e g =
+      let few = all-room devices (linesOf text) in
+      let l = gathers-over text lent a left long g in
+      record {
+        within = rw (l, length-append) (omega arith);
+        few = omega arith;
+        lines = rw l (take-at out (drop (length out) lent) n (sym e));
+      }
+
+  pub stopped-front : (n : ℕ) (r : Refusal) → GathersAs text lent (Gathered.Stopped n r) left
+      → Front text n left × (stopsWith devices 0 (linesOf text) ≡ some r)
+  unfolding gathered
+  stopped-front n r g = go (stopsWith devices 0 (linesOf text)) (g .answers)
+    where
+      go : (o : Option Refusal) → Gathered.Stopped n r ≡ gathered (length out) o
+          → Front text n left × (o ≡ some r)
+      go none e = let z : _≡_ {A = ℕ} 0 1 = cc in absurd (omega arith)
+      go (some q) e = (front n (Gathered.Stopped n r) (cc) g, cc)
+
+  pub all-front : (n : ℕ) → GathersAs text lent (Gathered.All n) left
+      → Front text n left × (stopsWith devices 0 (linesOf text) ≡ none)
+  unfolding gathered
+  all-front n g = go (stopsWith devices 0 (linesOf text)) (g .answers)
+    where
+      go : (o : Option Refusal) → Gathered.All n ≡ gathered (length out) o
+          → Front text n left × (o ≡ none)
+      go none e = (front n (Gathered.All n) (cc) g, refl)
+      go (some q) e = let z : _≡_ {A = ℕ} 0 1 = cc in absurd (omega arith)

@@ -1,0 +1,35 @@
+-- `rows::join_line` meets its contract: the job of a line has its place.
+use Prim.Native.Nat.{ℕ, _<_}
+use mathlib.Core.Bool.{Bool}
+use mathlib.Core.List.{List}
+use mathlib.Core.Path.{_≡_, ap}
+use lib.ListN.{getD, set}
+use borrow.Author.Needs.{needs}
+use Rattle.model.specs.Board.{devices}
+use Rattle.model.specs.Line.{job}
+use Rattle.claims.specs.Claim.{operands, claimOf}
+use Rattle.claims.proofs.Claimed.{job-place}
+use Rattle.rows.specs.Lasting.{rowJoined}
+use Rattle.rows.specs.Holds.{JoinedOn}
+use Rattle.rows.proofs.join_line.Statement.{statement}
+use Rattle.rows.proofs.join_line.Tie as tie
+
+has-place : (c : tie.After-job) → c .job .result < operands
+has-place c = rw (c .job .ensures) (job-place devices (c .before .args .l) (c .before .pre .0))
+
+joined-on : {l j s : ℕ} {lasts : Bool} {rs claimed rs′ : List ℕ} → j ≡ job l
+    → s ≡ claimOf l (getD claimed j 0) claimed → rs′ ≡ rowJoined l lasts (getD claimed j 0) rs
+    → JoinedOn l lasts rs claimed s rs′ (set claimed j s)
+joined-on {l} {j} {s} {lasts} {rs} {claimed} e es er =
+    record { setIs = cc; rowsAre = cc; claimedIs = ap (λ (k : ℕ). set claimed k s) e }
+
+returns : tie.Need-returns
+returns c =
+    let at-row = c .before .before in
+    joined-on (at-row .before .before .before .job .ensures) (c .claim .ensures) (at-row .join-row .ensures)
+
+pub join-line-spec : {M : Type 1} → statement M
+join-line-spec =
+    tie.close
+    (tie.spec (λ c κs. search needs) (λ c. search needs) (λ c. search needs) has-place (λ c κs. search needs)
+    (λ c κs. search needs) (λ c. search needs) (λ c. has-place (c .before .before .before .before .before)) returns)

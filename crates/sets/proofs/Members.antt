@@ -1,0 +1,144 @@
+-- Members of what code makes of sets: of one device of a board, of both of two sets, of one of them alone, of one
+-- without the other; how many members there are with one more or less; and the lowest. All of it over the number of
+-- devices D. With `theory/proofs/Sets.antt` this is every law about sets as numbers.
+use Prim.Native.Nat.{ℕ, zero, suc, _+_, _-_, _/_, _%_, _^_, _<_, _≤_, min}
+use mathlib.Core.Bool.{Bool, true, false, cond, not, _&&_}
+use mathlib.Core.List.{List}
+use mathlib.Core.Logic.{_⊎_, inl, inr}
+use mathlib.Core.Option.{Option, none, some, Option·getD}
+use mathlib.Core.Path.{_≡_, refl, sym, _∙_, ap}
+use native.Mathlib.Nat.{lt-of-le-of-lt}
+use native.Mathlib.Omega.{arith}
+use lib.Bits.{bitAnd, bitXor, and-shr, and-step, and-le-l, xor-shr, xor-step, xor-lt, xor-zero-r}
+use lib.Dec.{eqb, ltb}
+use lib.ListN.{length}
+use borrow.Author.Tests.{eqb-true, eqb-false, eq-eqb, ne-eqb, lt-ltb, le-ltb}
+use Rattle.model.specs.Lists.{has, those, upFrom, firstOf}
+use Rattle.model.specs.Sets.{empty, only, member, lowestOf}
+use Rattle.theory.proofs.Tests.{clash, test, le-or-lt}
+use Rattle.theory.proofs.Lists.{has-upFrom, upFrom-has, those-same, Answer, first-answer, first-lowest}
+use Rattle.theory.proofs.Sets.{member-empty, member-only, empty-below, only-below}
+use Rattle.sets.specs.Only.{onlyOf}
+use Rattle.sets.specs.Both.{both, differ, without}
+
+-- ---- one device
+
+pub only-of : (D d : ℕ) → d < D → onlyOf D d ≡ only d
+unfolding onlyOf
+only-of D d h = rw (lt-ltb d D h)
+
+pub member-only-of : (D d e : ℕ) → e < D → member (onlyOf D d) e ≡ eqb d e
+unfolding onlyOf
+member-only-of D d e h = go (le-or-lt D d)
+  where
+    go : (D ≤ d) ⊎ (d < D) → member (cond (ltb d D) (only d) empty) e ≡ eqb d e
+    go (inl a) = rw (le-ltb d D a) (member-empty e ∙ sym (ne-eqb d e (λ q. omega arith)))
+    go (inr a) = rw (lt-ltb d D a) (member-only d e)
+
+-- put in on a test
+pub member-only-if : (D : ℕ) (put : Bool) (d e : ℕ) → e < D
+    → member (cond put (onlyOf D d) empty) e ≡ (put && eqb d e)
+member-only-if D true d e h = member-only-of D d e h
+member-only-if D false d e h = member-empty e
+
+pub only-of-below : (D d : ℕ) → onlyOf D d < 2 ^ D
+unfolding onlyOf
+only-of-below D d = go (le-or-lt D d)
+  where
+    go : (D ≤ d) ⊎ (d < D) → cond (ltb d D) (only d) empty < 2 ^ D
+    go (inl a) = rw (le-ltb d D a) (empty-below D)
+    go (inr a) = rw (lt-ltb d D a) (only-below D d a)
+
+-- ---- two sets
+
+-- binary digits: a test of every pair of them
+digits : (P : ℕ → ℕ → Type 0) → P 0 0 → P 0 1 → P 1 0 → P 1 1 → (u v : ℕ) → u < 2 → v < 2 → P u v
+digits P a b c d zero zero h k = a
+digits P a b c d zero (suc zero) h k = b
+digits P a b c d zero (suc (suc v)) h k = absurd (omega arith)
+digits P a b c d (suc zero) zero h k = c
+digits P a b c d (suc zero) (suc zero) h k = d
+digits P a b c d (suc zero) (suc (suc v)) h k = absurd (omega arith)
+digits P a b c d (suc (suc u)) v h k = absurd (omega arith)
+
+pub member-both : (s t d : ℕ) → member (both s t) d ≡ (member s d && member t d)
+unfolding member both
+member-both s t d =
+    ap (λ (x : ℕ). eqb (x % 2) 1) (and-shr s t d)
+    ∙ ap (λ (x : ℕ). eqb x 1)
+    (let e : bitAnd (s / 2 ^ d) (t / 2 ^ d) % 2 ≡ min (s / 2 ^ d % 2) (t / 2 ^ d % 2) =
+    omega (arith, and-step (s / 2 ^ d) (t / 2 ^ d)) in e)
+    ∙ digits (λ u v. eqb (min u v) 1 ≡ (eqb u 1 && eqb v 1)) refl refl refl refl
+    (s / 2 ^ d % 2) (t / 2 ^ d % 2) (omega arith) (omega arith)
+
+pub member-differ : (s t d : ℕ) → member (differ s t) d ≡ cond (member t d) (not (member s d)) (member s d)
+unfolding member differ
+member-differ s t d =
+    ap (λ (x : ℕ). eqb (x % 2) 1) (xor-shr s t d)
+    ∙ ap (λ (x : ℕ). eqb x 1) (low (s / 2 ^ d) (t / 2 ^ d))
+    ∙ digits (λ u v. eqb (lib.Bits.differ u v) 1 ≡ cond (eqb v 1) (not (eqb u 1)) (eqb u 1)) refl refl refl refl
+    (s / 2 ^ d % 2) (t / 2 ^ d % 2) (omega arith) (omega arith)
+  where
+    low : (x y : ℕ) → bitXor x y % 2 ≡ lib.Bits.differ (x % 2) (y % 2)
+    low x y =
+        omega (
+          arith,
+          xor-step x y,
+          digits (λ u v. lib.Bits.differ u v < 2) (omega arith) (omega arith) (omega arith) (omega arith)
+              (x % 2) (y % 2) (omega arith) (omega arith),
+        )
+
+pub member-without : (s t d : ℕ) → member (without s t) d ≡ (member s d && not (member t d))
+unfolding without
+member-without s t d = member-differ s (both s t) d ∙ rw (member-both s t d) (go (member s d) (member t d))
+  where
+    go : (a b : Bool) → cond (a && b) (not a) a ≡ (a && not b)
+    go true true = refl
+    go true false = refl
+    go false b = refl
+
+pub both-below : (D s t : ℕ) → s < 2 ^ D → both s t < 2 ^ D
+unfolding both
+both-below D s t h = lt-of-le-of-lt (and-le-l s t) h
+
+pub differ-below : (D s t : ℕ) → s < 2 ^ D → t < 2 ^ D → differ s t < 2 ^ D
+unfolding differ
+differ-below D s t h k = xor-lt D s t h k
+
+pub without-below : (D s t : ℕ) → s < 2 ^ D → without s t < 2 ^ D
+unfolding without
+without-below D s t h = differ-below D s (both s t) h (both-below D s t h)
+
+-- ---- the lowest
+
+pub data Lowest (D s : ℕ) : ℕ → Type 0 where
+  found : (m : ℕ) → m < D → member s m ≡ true → ((k : ℕ) → k < m → member s k ≡ false) → Lowest D s m
+  nothing : ((k : ℕ) → k < D → member s k ≡ false) → Lowest D s D
+
+pub lowest : (D s : ℕ) → Lowest D s (lowestOf D s)
+unfolding lowestOf
+lowest D s = go (firstOf (member s) (upFrom 0 D)) refl (first-answer (member s) (upFrom 0 D))
+  where
+    go : (o : Option ℕ) → firstOf (member s) (upFrom 0 D) ≡ o → Answer (member s) (upFrom 0 D) o
+        → Lowest D s (Option·getD o D)
+    go none e a = nothing (λ k h. a k (upFrom-has 0 D k (omega arith) (omega arith)))
+    go (some m) e a =
+        found m (omega (arith, has-upFrom 0 D m (a .0) .1)) (a .1)
+        (λ k h. first-lowest (member s) 0 D m e k (omega arith) h)
+
+pub lowest-at-most : (D s : ℕ) → lowestOf D s ≤ D
+lowest-at-most D s = go (lowestOf D s) (lowest D s)
+  where
+    go : (m : ℕ) → Lowest D s m → m ≤ D
+    go m (found k h e low) = omega arith
+    go m (nothing f) = omega arith
+
+-- ---- one device put in or taken out
+
+pub member-turned : (D s o d : ℕ) → d < D
+    → member (differ s (onlyOf D o)) d ≡ cond (eqb o d) (not (member s d)) (member s d)
+member-turned D s o d h = member-differ s (onlyOf D o) d ∙ rw (member-only-of D o d h)
+
+pub differ-empty : (s : ℕ) → differ s empty ≡ s
+unfolding differ empty
+differ-empty s = xor-zero-r s

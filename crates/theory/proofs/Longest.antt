@@ -1,0 +1,238 @@
+-- The screens' room is no byte too much (01, "Plans with their verdicts": 4,027): the print of some plan has just so
+-- many. In it job 1 takes ten devices for good, and then does nothing up to line 1,024; so its one legal order is that
+-- of the line numbers.
+use Prim.Native.Nat.{ℕ, zero, suc, _+_, _/_, _%_, _<_, _≤_}
+use mathlib.Core.Bool.{Bool, true, false, cond, not, _&&_}
+use mathlib.Core.List.{List, [], _∷_, _++_, map}
+use mathlib.Core.Logic.{_⊎_, inl, inr}
+use mathlib.Core.Option.{Option, none, some}
+use mathlib.Core.Path.{_≡_, refl, sym, _∙_, ap}
+use native.Mathlib.Omega.{arith}
+use lib.Dec.{eqb, ltb}
+use lib.ListN.{length, length-map}
+use borrow.Author.Tests.{not-false, eqb-true, eq-eqb, ltb-true, lt-ltb}
+use Rattle.model.specs.Board.{devices}
+use Rattle.model.specs.Lists.{upFrom, positions, any, has, those}
+use Rattle.model.specs.Answers.{firstRefusal}
+use Rattle.model.specs.Line.{job, kind, operand, isTake, isGive, isStart, starts, at, lineNumber, maxLines}
+use Rattle.model.specs.Text.{spelt, textOf}
+use Rattle.model.specs.WellFormed.{fault}
+use Rattle.model.specs.Mate.{takesAt, deviceAt, takes, mate, isNone, lasting}
+use Rattle.model.specs.Legal.{givenBack, held, MayFollow, Follow, Legal}
+use Rattle.model.specs.Handed.{handed}
+use Rattle.model.specs.Verdict.{noOrder, heldAtEnd}
+use Rattle.model.specs.Entries.{textFault}
+use Rattle.model.specs.Printed.{printedOrder, printedBy, printed, screenRoom}
+use Rattle.theory.proofs.Tests.{clash, falsely, and-split, and-both, tests-agree, le-or-lt}
+use Rattle.theory.proofs.Lists.{has-upFrom, upFrom-has, position-has, any-found, any-at}
+use Rattle.theory.proofs.Lists.{those-same}
+use Rattle.theory.proofs.Line.{start-parts}
+use Rattle.theory.proofs.WellFormed.{line-any, start-line, give-line, take-line}
+use Rattle.theory.proofs.Claims.{length-upFrom, getD-upFrom}
+use Rattle.theory.proofs.Successors.{Why, sameJob, starter, why, earlier-precedes}
+use Rattle.theory.proofs.Mate.{pair}
+use Rattle.theory.proofs.Verdict.{accepted-is-legal, legal-order-exactly, held-number}
+use Rattle.theory.proofs.Text.{written-read}
+use Rattle.theory.proofs.Printed.{legal-length, printed-is}
+
+-- ---- the plan
+
+lineThere : ℕ → ℕ
+lineThere i = cond (ltb i 10) (1280 + i) 1024
+
+plan : List ℕ
+unfolding lineThere
+plan = map lineThere (upFrom 0 maxLines)
+
+-- What is computed of it: it has no fault, and all lines are of job 1, no give, no start.
+sound : fault devices plan ≡ none
+unfolding fault plan upFrom
+sound = refl
+
+gives-none : any isGive plan ≡ false
+unfolding any isGive plan upFrom
+gives-none = refl
+
+starts-none : any isStart plan ≡ false
+unfolding any isStart plan upFrom
+starts-none = refl
+
+others-none : any (λ l. not (eqb (job l) 1)) plan ≡ false
+unfolding any job plan upFrom
+others-none = refl
+
+plan-length : length plan ≡ maxLines
+unfolding plan
+plan-length = length-map (upFrom 0 maxLines) lineThere ∙ length-upFrom 0 maxLines
+
+there : (i : ℕ) → i < maxLines → at plan i ≡ lineThere i
+unfolding plan
+there i h = let z : 0 + i ≡ i = omega arith in getD-upFrom lineThere 0 maxLines i h ∙ ap lineThere z
+
+of-job : (i : ℕ) → i < maxLines → job (at plan i) ≡ 1
+of-job i h =
+    eqb-true (job (at plan i)) 1
+    (not-false (eqb (job (at plan i)) 1)
+    (falsely (not (eqb (job (at plan i)) 1))
+    (λ t. clash (any (λ l. not (eqb (job l) 1)) plan)
+    (line-any (λ l. not (eqb (job l) 1)) plan i (omega (arith, plan-length)) t) others-none)))
+
+no-give : (i : ℕ) → isGive (at plan i) ≡ true → ⊥
+no-give i t = clash (any isGive plan) (line-any isGive plan i (give-line plan i t) t) gives-none
+
+no-start : (i j : ℕ) → starts (at plan i) j ≡ true → ⊥
+no-start i j t =
+    clash (any isStart plan) (line-any isStart plan i (start-line plan i j t) (start-parts (at plan i) j t .0))
+    starts-none
+
+-- a take is of the device of its place, and the first ten lines are
+of-take : (i : ℕ) → isTake (at plan i) ≡ true → (i < 10) × (operand (at plan i) ≡ i)
+unfolding lineThere isTake kind operand
+of-take i t = rw e (go (ltb i 10) refl (rw e at t))
+  where
+    e : at plan i ≡ lineThere i
+    e = there i (omega (arith, take-line plan i t, plan-length))
+
+    go : (b : Bool) → ltb i 10 ≡ b → isTake (cond b (1280 + i) 1024) ≡ true
+        → (i < 10) × (operand (cond b (1280 + i) 1024) ≡ i)
+    go true q t = let lt = ltb-true i 10 q in (lt, omega arith)
+    go false q t = clash false t refl
+
+is-take : (i : ℕ) → i < 10 → isTake (at plan i) ≡ true
+unfolding lineThere isTake kind
+is-take i h = rw (there i (omega arith), lt-ltb i 10 h) (eq-eqb ((1280 + i) / 256 % 4) 1 (omega arith))
+
+-- ---- the order of the line numbers is legal, and no other
+
+up-snoc : (i n : ℕ) → upFrom i n ++ ((i + n) ∷ []) ≡ upFrom i (suc n)
+unfolding upFrom
+up-snoc i zero = ap (λ (k : ℕ). k ∷ []) (omega arith)
+up-snoc i (suc n) =
+    let z : i + suc n ≡ suc i + n = omega arith in rw z (ap (λ (xs : List ℕ). i ∷ xs) (up-snoc (suc i) n))
+
+up-next : (i : ℕ) → upFrom 0 i ++ (i ∷ []) ≡ upFrom 0 (suc i)
+up-next i = let z : 0 + i ≡ i = omega arith in rw z at (up-snoc 0 i)
+
+-- after the lines before it, a line may follow
+may-follow : (i : ℕ) → i < maxLines → MayFollow plan (upFrom 0 i) i
+unfolding takes takesAt deviceAt held
+may-follow i h = record {
+  line = omega (arith, plan-length);
+  once = falsely (has i (upFrom 0 i)) (λ m. omega (arith, has-upFrom 0 i i m .1));
+  after = λ k lt q. before-it k (why plan k i q);
+  free = λ d t. falsely (held plan (upFrom 0 i) d) (λ m. free d t (any-found _ (upFrom 0 i) m));
+}
+  where
+    before-it : (k : ℕ) → Why plan k i → has k (upFrom 0 i) ≡ true
+    before-it k (sameJob lt e) = upFrom-has 0 i k (omega arith) (omega arith)
+    before-it k (starter s) = absurd (no-start k (job (at plan i)) s)
+
+    free : (d : ℕ) → takes plan i d ≡ true
+        → (k : ℕ) × (has k (upFrom 0 i) ≡ true) × ((takes plan k d && not (givenBack plan (upFrom 0 i) k)) ≡ true) → ⊥
+    free d t r =
+        let a = and-split (isTake (at plan i)) (eqb (operand (at plan i)) d) t in
+        let b = and-split (takes plan (r .0) d) (not (givenBack plan (upFrom 0 i) (r .0))) (r .2) in
+        let c = and-split (isTake (at plan (r .0))) (eqb (operand (at plan (r .0))) d) (b .0) in
+        omega (
+          arith,
+          has-upFrom 0 i (r .0) (r .1) .1,
+          of-take i (a .0) .1,
+          eqb-true (operand (at plan i)) d (a .1),
+          of-take (r .0) (c .0) .1,
+          eqb-true (operand (at plan (r .0))) d (c .1),
+        )
+
+follow : (n i : ℕ) → i + n ≡ maxLines → Follow plan (upFrom 0 i) (upFrom i n)
+unfolding upFrom
+follow zero i e = tt
+follow (suc n) i e = (may-follow i (omega arith), rw (up-next i) (follow n (suc i) (omega arith)))
+
+by-number : Legal plan (upFrom 0 maxLines)
+unfolding upFrom
+by-number = record {
+  steps = follow maxLines 0 refl;
+  whole = λ i h. upFrom-has 0 maxLines i (omega arith) (omega (arith, plan-length));
+}
+
+only-so : (o : List ℕ) (i : ℕ) → Follow plan (upFrom 0 i) o → o ≡ upFrom i (length o)
+unfolding upFrom
+only-so [] i f = refl
+only-so (x ∷ o) i f =
+    let e = same (le-or-lt i x) (le-or-lt x i) in
+    rw e (ap (λ (xs : List ℕ). i ∷ xs) (only-so o (suc i) (rw (e, up-next i) at (f .1))))
+  where
+    inPlan : x < maxLines
+    inPlan = omega (arith, f .0 .line, plan-length)
+
+    same : (i ≤ x) ⊎ (x < i) → (x ≤ i) ⊎ (i < x) → x ≡ i
+    same (inl a) (inl b) = omega arith
+    same (inr a) b = clash (has x (upFrom 0 i)) (upFrom-has 0 i x (omega arith) (omega arith)) (f .0 .once)
+    same (inl a) (inr b) =
+        let h = earlier-precedes plan i x b (of-job i (omega (arith, inPlan)) ∙ sym (of-job x inPlan)) in
+        absurd (omega (arith, has-upFrom 0 i i (f .0 .after i (omega (arith, plan-length, inPlan)) h) .1))
+
+no-refusal : noOrder devices plan ≡ none
+no-refusal =
+    legal-order-exactly devices plan sound .0 (upFrom 0 maxLines, by-number)
+
+handed-legal : Legal plan (handed plan)
+handed-legal = accepted-is-legal devices plan sound no-refusal
+
+handed-is : handed plan ≡ upFrom 0 maxLines
+unfolding upFrom
+handed-is =
+    only-so (handed plan) 0 (handed-legal .steps)
+    ∙ ap (upFrom 0) (legal-length plan (handed plan) handed-legal ∙ plan-length)
+
+-- ---- ten devices stay held
+
+stays-held : (d : ℕ) → any (λ i. lasting plan i d) (positions plan) ≡ ltb d 10
+unfolding lasting takes takesAt deviceAt isNone
+stays-held d = tests-agree (any (λ i. lasting plan i d) (positions plan)) (ltb d 10) to from
+  where
+    to : any (λ i. lasting plan i d) (positions plan) ≡ true → ltb d 10 ≡ true
+    to h =
+        let r = any-found (λ i. lasting plan i d) (positions plan) h in
+        let a = and-split (takes plan (r .0) d) (isNone (mate plan (r .0))) (r .2) in
+        let b = and-split (isTake (at plan (r .0))) (eqb (operand (at plan (r .0))) d) (a .0) in
+        let t = of-take (r .0) (b .0) in
+        lt-ltb d 10 (omega (arith, t .0, t .1, eqb-true (operand (at plan (r .0))) d (b .1)))
+
+    lasts : (m : Option ℕ) → mate plan d ≡ m → isNone m ≡ true
+    lasts none e = refl
+    lasts (some m) e = absurd (no-give m (pair plan d m e .gives))
+
+    from : ltb d 10 ≡ true → any (λ i. lasting plan i d) (positions plan) ≡ true
+    from h =
+        let lt = ltb-true d 10 h in
+        let t = is-take d lt in
+        any-at (λ i. lasting plan i d) (positions plan) d (position-has plan d (omega (arith, plan-length)))
+        (and-both (takes plan d d) (isNone (mate plan d))
+        (and-both (isTake (at plan d)) (eqb (operand (at plan d)) d) t
+        (eq-eqb (operand (at plan d)) d (of-take d t .1)))
+        (lasts (mate plan d) refl))
+
+ten-held : heldAtEnd devices plan ≡ 10
+unfolding those upFrom
+ten-held =
+    held-number devices plan handed-legal
+    ∙ ap length
+    (those-same (λ d. any (λ i. lasting plan i d) (positions plan)) (λ d. ltb d 10) (upFrom 0 devices)
+    (λ d h. stays-held d))
+
+-- ---- what is printed
+
+counted : length (printedOrder (map lineNumber (upFrom 0 maxLines)) 10) ≡ screenRoom
+unfolding printedOrder upFrom lineNumber
+counted = refl
+
+-- The theorem: a text's print has as many bytes as the screens' room.
+pub longest : (text : List ℕ) × (length (printed devices text) ≡ screenRoom)
+unfolding printedBy firstRefusal
+longest = (textOf plan, ap length print ∙ counted)
+  where
+    w : (spelt devices (textOf plan) ≡ plan) × (textFault devices (textOf plan) ≡ none)
+    w = written-read devices plan sound
+
+    print : printed devices (textOf plan) ≡ printedOrder (map lineNumber (upFrom 0 maxLines)) 10
+    print = printed-is devices (textOf plan) ∙ rw (w .0, w .1, no-refusal, handed-is, ten-held)

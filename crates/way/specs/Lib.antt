@@ -1,0 +1,4 @@
+-- What the contracts of this room cite beside the definitions of `model`; and what its callers know.
+pub mod Back
+pub mod Join
+pub mod Known
