@@ -32,7 +32,7 @@ static const char *const WORDS[][2] = {
     [GIMMERSKIP_TWO_LASTING] = {"two jobs would hold device ", " to the end"},
     [GIMMERSKIP_LEADS_BACK] = {"device ", " leads back to itself"},
     [GIMMERSKIP_LIST_TOO_SHORT] = {"a list is too short, it needs a length of ", ""},
-    [GIMMERSKIP_NOT_A_TAKE] = {"line ", " is not a take of the plan"},
+    [GIMMERSKIP_NOT_A_TAKE] = {"line ", " is no take of the plan"},
     [GIMMERSKIP_NO_SUCH_DEVICE] = {"there is no device ", ""},
     [GIMMERSKIP_STALE_TABLE] = {"line ", " has a stale set in the table"},
 };
@@ -117,7 +117,7 @@ static int show(const uint8_t *text, size_t n, uint32_t line, uint32_t device) {
 }
 
 int main(int argc, char **argv) {
-    /* One byte more than a text may have, so that one too many is seen. */
+    /* One byte more than a text may have, by which a longer one is known. */
     static uint8_t text[GIMMERSKIP_MAX_BYTES + 1];
     size_t n = sizeof PLAN - 1;
     memcpy(text, PLAN, n);

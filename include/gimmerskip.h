@@ -41,7 +41,7 @@ enum gimmerskip_refusal {
     GIMMERSKIP_GIVE_WITHOUT_TAKE = 7,    /* the given device is not the latest its job still holds; that line */
     GIMMERSKIP_TAKE_OF_HELD = 8,         /* the job already holds the device it takes; that line */
     GIMMERSKIP_TWO_LASTING = 9,          /* more than one lasting take of a device; the lowest such device */
-    GIMMERSKIP_LEADS_BACK = 10,          /* a device leads back to itself; the lowest such device */
+    GIMMERSKIP_LEADS_BACK = 10,          /* a device leads to itself again; the lowest such device */
     GIMMERSKIP_LIST_TOO_SHORT = 11,      /* the list to fill is too short; the length it needs */
     GIMMERSKIP_NOT_A_TAKE = 12,          /* the line to move is no take of the plan; the line that was asked */
     GIMMERSKIP_NO_SUCH_DEVICE = 13,      /* a claim cannot move to a device over 31; the device that was asked */

@@ -1,6 +1,7 @@
 // The board and the limits of a plan, for all code (01, "The plan as text"). The definitions have them in
 // model/specs/Board.antt and model/specs/Line.antt; a proof that puts one for the other fails where they differ. No
-// other source has these numbers: a house with more devices changes DEVICES and, past 32, the type of a set.
+// other source has these numbers. DEVICES is the width of Set: a house with another number of devices changes both.
+// With a number that is no type's width, `member`, `count` and `lowest` of `sets` need a mask besides.
 
 // How many devices there are, from 0 on.
 pub const DEVICES: u32 = 32;

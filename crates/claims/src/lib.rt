@@ -1,5 +1,6 @@
 // The table of claims (01, "Claims and rows"): one set a line, worked out in one pass from the end.
 use board::Set;
+use line::EACH_OPERAND;
 use model::Refusal;
 use model::TableAnswer;
 use plan::Checked;
@@ -13,10 +14,6 @@ ghost use Rattle.model.specs.Claims.{table};
 ghost use Rattle.model.specs.Board.{devices};
 ghost use Rattle.claims.specs.Claim.{ownOf, claimWith, begunOf, claimOf};
 ghost use Rattle.promises.specs.Table.{TablesAs};
-
-// A list with an entry for each number that an operand can be has so many. A job's entry is that of its number, so
-// that what a line starts is found without a test.
-pub const EACH_OPERAND: usize = 256;
 
 // A line's own claim: its device, if it is a take.
 pub fn own(l: u32) -> Set
@@ -33,7 +30,7 @@ pub fn joined(l: u32, next: Set, begun: Set) -> Set
 }
 
 // Of a start, what the started job claims: `claimed` has for each job the claim set of the first of its lines that
-// the pass from the end has met.
+// the pass from the end has met, and an entry for each operand, so that what a line starts is found without a test.
 fn begun(l: u32, claimed: &[Set; EACH_OPERAND]) -> Set
     ensures { λ r. ⌜ r ≡ begunOf l (now (claimed .entry)) ⌝ }
 {

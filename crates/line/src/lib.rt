@@ -8,25 +8,46 @@ ghost use Prim.Native.Nat.{_%_, _^_};
 ghost use Rattle.model.specs.Line.{pack, job, kind, operand, isTake, isGive, isStart, isLine};
 ghost use Rattle.model.specs.Board.{devices};
 
+// So many numbers has an operand room for, from 0 on.
+pub const OPERANDS: u32 = 256;
+
+// The highest of them: a number above is no operand.
+pub const LAST_OPERAND: u32 = OPERANDS - 1;
+
+// A list with an entry for each number that an operand can be has so many.
+pub const EACH_OPERAND: usize = OPERANDS as usize;
+
+// So many kinds of line there are, a verb each.
+const KINDS: u32 = 4;
+
+// A list with an entry for each kind has so many.
+pub const EACH_KIND: usize = KINDS as usize;
+
+// So many numbers has a line of one job room for. The job stands above them, in the rest of the word.
+const OF_A_JOB: u32 = KINDS * OPERANDS;
+
+// So many jobs has the rest of the word room for: 22 bits.
+const JOBS: u32 = 4194304;
+
 // The line's job.
 pub fn job(l: u32) -> u32
     ensures { λ r. ⌜ r ≡ job l ⌝ }
 {
-    l / 1024
+    l / OF_A_JOB
 }
 
 // The kind of its verb: do is 0, take 1, give 2, start 3.
 pub fn kind(l: u32) -> u32
     ensures { λ r. ⌜ r ≡ kind l ⌝ }
 {
-    l / 256 % 4
+    l / OPERANDS % KINDS
 }
 
 // Its operand: an action, a device or a job.
 pub fn operand(l: u32) -> u32
     ensures { λ r. ⌜ r ≡ operand l ⌝ }
 {
-    l % 256
+    l % OPERANDS
 }
 
 // Is it a take?
@@ -51,9 +72,9 @@ pub fn is_start(l: u32) -> bool
 }
 
 // The lowest and the highest operand of each kind: do, take, give, start.
-const LOWEST: [u32; 4] = [0, 0, 0, 2];
+const LOWEST: [u32; EACH_KIND] = [0, 0, 0, 2];
 
-const HIGHEST: [u32; 4] = [255, DEVICES - 1, DEVICES - 1, LAST_JOB];
+const HIGHEST: [u32; EACH_KIND] = [LAST_OPERAND, DEVICES - 1, DEVICES - 1, LAST_JOB];
 
 // Is the number a line's? It asks tables for the operand's range, so that it has no branch on the kind, which cannot be
 // foretold.
@@ -79,7 +100,7 @@ pub fn is_line(l: u32) -> bool
 pub fn pack(j: u32, k: u32, o: u32) -> u32
     ensures { λ r. ⌜ r ≡ pack (j % 2 ^ 22) (k % 4) (o % 256) ⌝ }
 {
-    j % 4194304 * 1024 + k % 4 * 256 + o % 256
+    j % JOBS * OF_A_JOB + k % KINDS * OPERANDS + o % OPERANDS
 }
 
 // The line with another operand, of eight bits.

@@ -17,7 +17,7 @@ use Rattle.model.specs.Lists.{all}
 use Rattle.model.specs.Text.{isDigit, isNumber, valueAfter, number, decimal}
 use Rattle.theory.proofs.Tests.{clash, and-split, le-or-lt}
 use Rattle.theory.proofs.Numbers.{decimal-digits, number-decimal, decimal-number}
-use Rattle.lines.specs.Fields.{spelling, upTo, within, fieldOf, fieldAt, joinedBy, noughtAt, digitsAt}
+use Rattle.lines.specs.Fields.{spelling, beforeEnd, within, fieldOf, fieldAt, joinedBy, noughtAt, digitsAt}
 use Rattle.lines.specs.declared.Field.{Field}
 
 -- ---- one digit more
@@ -155,8 +155,8 @@ valued-over v i (some f) h = rw (lt-leb (valueAfter v f) 255 (omega (arith, valu
     go true = refl
     go false = refl
 
-digits-valued : (end v i : ℕ) (s : List ℕ) → v ≤ 255 → digitsAt end v i s ≡ valued v i (upTo end s)
-unfolding digitsAt upTo valued all valueAfter within
+digits-valued : (end v i : ℕ) (s : List ℕ) → v ≤ 255 → digitsAt end v i s ≡ valued v i (beforeEnd end s)
+unfolding digitsAt beforeEnd valued all valueAfter within
 digits-valued end v i [] h = refl
 digits-valued end v i (b ∷ s) h =
     go (eqb b end) (isDigit b) (leb w 255) refl refl (λ k. digits-valued end w (suc i) s k)
@@ -165,15 +165,15 @@ digits-valued end v i (b ∷ s) h =
     w = v * 10 + (b - 48)
 
     go : (t d u : Bool) → isDigit b ≡ d → leb w 255 ≡ u
-        → (w ≤ 255 → digitsAt end w (suc i) s ≡ valued w (suc i) (upTo end s))
+        → (w ≤ 255 → digitsAt end w (suc i) s ≡ valued w (suc i) (beforeEnd end s))
         → cond t (Field.Number v (suc i))
         (cond (leb (cond d w 256) 255) (digitsAt end (cond d w 256) (suc i) s) Field.Wrong)
-        ≡ valued v i (cond t (some []) (Option·map (λ f. b ∷ f) (upTo end s)))
+        ≡ valued v i (cond t (some []) (Option·map (λ f. b ∷ f) (beforeEnd end s)))
     go true d u p q ih = let e : suc i ≡ i + 1 = omega arith in rw (le-leb v 255 h, e)
-    go false false u p q ih = sym (valued-wrong v i b (upTo end s) p)
+    go false false u p q ih = sym (valued-wrong v i b (beforeEnd end s) p)
     go false true false p q ih =
-        rw q (sym (valued-more v i b (upTo end s) p ∙ valued-over w (suc i) (upTo end s) (leb-false w 255 q)))
-    go false true true p q ih = rw q (ih (leb-true w 255 q) ∙ sym (valued-more v i b (upTo end s) p))
+        rw q (sym (valued-more v i b (beforeEnd end s) p ∙ valued-over w (suc i) (beforeEnd end s) (leb-false w 255 q)))
+    go false true true p q ih = rw q (ih (leb-true w 255 q) ∙ sym (valued-more v i b (beforeEnd end s) p))
 
 -- ---- the field by its first byte
 
@@ -188,9 +188,9 @@ is-number b (c ∷ f) e = rw e
 
 -- nought stands alone
 field-nought : (end i : ℕ) (s : List ℕ) → end < 48 → fieldAt end i (48 ∷ s) ≡ noughtAt end (suc i) s
-unfolding fieldAt upTo noughtAt fieldOf within number
+unfolding fieldAt beforeEnd noughtAt fieldOf within number
 field-nought end i [] h = rw (ne-eqb 48 end (λ e. omega arith))
-field-nought end i (c ∷ s) h = rw (ne-eqb 48 end (λ e. omega arith)) (go (eqb c end) (upTo end s))
+field-nought end i (c ∷ s) h = rw (ne-eqb 48 end (λ e. omega arith)) (go (eqb c end) (beforeEnd end s))
   where
     go : (t : Bool) (o : Option (List ℕ))
         → fieldOf i (Option·map (λ f. 48 ∷ f) (cond t (some []) (Option·map (λ f. c ∷ f) o)))
@@ -216,29 +216,29 @@ field-valued i b (some f) z = rw (is-number b f z) (go (all isDigit (b ∷ f)))
 
 field-digits : (end i b : ℕ) (s : List ℕ) → end < 48 → eqb b 48 ≡ false
     → fieldAt end i (b ∷ s) ≡ cond (leb (joinedBy 0 b) 255) (digitsAt end (joinedBy 0 b) (suc i) s) Field.Wrong
-unfolding fieldAt upTo fieldOf joinedBy
+unfolding fieldAt beforeEnd fieldOf joinedBy
 field-digits end i b s h z = go (eqb b end) (isDigit b) refl refl
   where
     w : ℕ
     w = 0 * 10 + (b - 48)
 
     go : (t d : Bool) → eqb b end ≡ t → isDigit b ≡ d
-        → fieldOf i (cond t (some []) (Option·map (λ f. b ∷ f) (upTo end s)))
+        → fieldOf i (cond t (some []) (Option·map (λ f. b ∷ f) (beforeEnd end s)))
         ≡ cond (leb (cond d w 256) 255) (digitsAt end (cond d w 256) (suc i) s) Field.Wrong
     go true false e d = refl
     go true true e d = absurd (omega (arith, eqb-true b end e, digit-range b d .0))
-    go false false e d = field-valued i b (upTo end s) z ∙ valued-wrong 0 i b (upTo end s) d
+    go false false e d = field-valued i b (beforeEnd end s) z ∙ valued-wrong 0 i b (beforeEnd end s) d
     go false true e d =
         let r = digit-range b d in
         rw (le-leb w 255 (omega arith))
-        (field-valued i b (upTo end s) z
-        ∙ (valued-more 0 i b (upTo end s) d ∙ sym (digits-valued end w (suc i) s (omega arith))))
+        (field-valued i b (beforeEnd end s) z
+        ∙ (valued-more 0 i b (beforeEnd end s) d ∙ sym (digits-valued end w (suc i) s (omega arith))))
 
 -- ---- the field at a place, as the code reads it
 
 module _ (end i : ℕ) (s : List ℕ) where
   pub field-none : length s ≤ i → Field.Wrong ≡ fieldAt end i (drop i s)
-  unfolding fieldAt upTo
+  unfolding fieldAt beforeEnd
   field-none h = rw (drop-of-length-le s h)
 
   module _ (h : i < length s) (l : end < 48) where
@@ -260,8 +260,8 @@ module _ (end i : ℕ) (s : List ℕ) where
 -- ---- a number's text
 
 front-of : (end : ℕ) (f rest : List ℕ) → isDigit end ≡ false → all isDigit f ≡ true
-    → upTo end (f ++ (end ∷ rest)) ≡ some f
-unfolding upTo all
+    → beforeEnd end (f ++ (end ∷ rest)) ≡ some f
+unfolding beforeEnd all
 front-of end [] rest n d = rw (eq-eqb end end refl)
 front-of end (b ∷ f) rest n d =
     let r = and-split (isDigit b) (all isDigit f) d in
@@ -287,10 +287,10 @@ abbrev Front : ℕ → List ℕ → Option (List ℕ) → Type 0
 Front end s none = Unit {0}
 Front end s (some f) = (rest : List ℕ) × (s ≡ f ++ (end ∷ rest))
 
-front : (end : ℕ) (s : List ℕ) → Front end s (upTo end s)
-unfolding upTo
+front : (end : ℕ) (s : List ℕ) → Front end s (beforeEnd end s)
+unfolding beforeEnd
 front end [] = tt
-front end (b ∷ s) = go (eqb b end) refl (upTo end s) (front end s)
+front end (b ∷ s) = go (eqb b end) refl (beforeEnd end s) (front end s)
   where
     go : (t : Bool) → eqb b end ≡ t → (o : Option (List ℕ)) → Front end s o
         → Front end (b ∷ s) (cond t (some []) (Option·map (λ f. b ∷ f) o))
@@ -304,7 +304,7 @@ no-number {A} {v} {k} e = let z : _≡_ {A = ℕ} 0 1 = cc in absurd (omega arit
 -- what is read as a number is its text
 pub field-sound : (end i : ℕ) (s : List ℕ) (v k : ℕ) → fieldAt end i s ≡ Field.Number v k → Spells end i s v k
 unfolding fieldAt fieldOf within spelling
-field-sound end i s v k e = go (upTo end s) (front end s) e
+field-sound end i s v k e = go (beforeEnd end s) (front end s) e
   where
     fits : (f : List ℕ) → Front end s (some f) → (w : ℕ) → number f ≡ some w → (t : Bool) → leb w 255 ≡ t
         → cond t (Field.Number w (i + suc (length f))) Field.Wrong ≡ Field.Number v k → Spells end i s v k

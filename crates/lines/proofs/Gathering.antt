@@ -1,4 +1,4 @@
--- 01, "The plan as text" (lines are handed out one after another): the lines of a text gathered. After n of them the
+-- 01, "The plan as text" (the line reader, asked again and again): the lines of a text gathered. After n of them the
 -- reader stands past just these, and their numbers stand in front of the lent list. Then that a promise of `gather`
 -- leaves one outcome per input.
 use Prim.Native.Nat.{ℕ, suc, _+_, _≤_, _<_}

@@ -1,7 +1,7 @@
--- 01, "The plan as text" (one step a line; lines are handed out one after another): three fields that are a line's are
--- that line's text, and a line's text is read as its three fields. So what is read at a place is the first line of what
--- stands there, as the definition has it, which parts the text at its newlines; and what the reader hands out is this
--- line, 2 where none stands there, 3 after line 1,024, or the end.
+-- 01, "The plan as text" (the line reader, asked once): three fields that are a line's are that line's text, and a
+-- line's text is read as its three fields. So what is read at a place is the first line of what stands there, as the
+-- definition has it, which parts the text at its newlines; and what the reader hands out is this line, 2 where none
+-- stands there, 3 after line 1,024, or the end.
 use Prim.Native.Nat.{ℕ, _+_, _%_, _^_, _≤_, _<_}
 use mathlib.Core.Bool.{Bool, true, false}
 use mathlib.Core.List.{List, [], _∷_, _++_, append-assoc, flatten}

@@ -1,5 +1,5 @@
--- Bytes as one number, the first lowest (01, "The plan as text": verbs are matched byte for byte): the first byte and
--- the rest of them, how large the number is, and how the number of the eight bytes at a place tells the word there.
+-- Bytes as one number, the first lowest (01, "The plan as text", by which verbs are compared): the first byte and the
+-- rest of them, how large the number is, and how the number of the eight bytes at a place tells the word there.
 use Prim.Native.Nat.{ℕ, zero, suc, _+_, _-_, _*_, _^_, _/_, _%_, _≤_, _<_}
 use mathlib.Core.Bool.{Bool, true, false, cond, _&&_}
 use mathlib.Core.List.{List, [], _∷_}

@@ -1,6 +1,6 @@
--- 01, "The plan as text" (verbs are matched byte for byte): the tables of the verbs at a byte and at a kind, the verb
--- at a place as the code compares it, and that it is read from its text, and from no other. Nothing here is said verb
--- by verb: what has to hold of each is computed over the list of them.
+-- 01, "The plan as text" (a verb's bytes are exactly its name): the tables of the verbs at a byte and at a kind, the
+-- verb at a place as the code compares it, and that it is read from its text, and from no other. Nothing here is said
+-- verb by verb: what has to hold of each is computed over the list of them.
 use Prim.Native.Nat.{ℕ, zero, suc, _+_, _-_, _*_, _^_, _%_, _≤_, _<_}
 use mathlib.Core.Bool.{Bool, true, false, cond, _&&_}
 use mathlib.Core.List.{List, [], _∷_, _++_, map, headD, append-assoc}

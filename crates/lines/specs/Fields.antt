@@ -15,9 +15,9 @@ unfolding decimal
 spelling end v = decimal v ++ (end ∷ [])
 
 -- the bytes in front of the first that ends the field
-unfoldable pub upTo : ℕ → List ℕ → Option (List ℕ)
-upTo end [] = none
-upTo end (b ∷ s) = cond (eqb b end) (some []) (Option·map (λ f. b ∷ f) (upTo end s))
+unfoldable pub beforeEnd : ℕ → List ℕ → Option (List ℕ)
+beforeEnd end [] = none
+beforeEnd end (b ∷ s) = cond (eqb b end) (some []) (Option·map (λ f. b ∷ f) (beforeEnd end s))
 
 -- the number that they spell, with the place past the field; over 255 it is no line's
 unfoldable pub within : ℕ → Option ℕ → Field
@@ -30,8 +30,8 @@ fieldOf i none = Field.Wrong
 fieldOf i (some f) = within (i + suc (length f)) (number f)
 
 unfoldable pub fieldAt : ℕ → ℕ → List ℕ → Field
-unfolding fieldOf upTo
-fieldAt end i s = fieldOf i (upTo end s)
+unfolding fieldOf beforeEnd
+fieldAt end i s = fieldOf i (beforeEnd end s)
 
 -- the value v with one digit more; over 255 if the byte is none
 unfoldable pub joinedBy : ℕ → ℕ → ℕ

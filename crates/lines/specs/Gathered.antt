@@ -1,4 +1,4 @@
--- 01, "The plan as text" (lines are handed out one after another): what `gather` promises. The numbers that the reader
+-- 01, "The plan as text" (the line reader, asked again and again): what `gather` promises. The numbers that the reader
 -- hands out until it refuses or comes to the end are written to the lent list, from its first entry on; every other
 -- entry stays as it was. (That an array behind a reference has 1,024 entries is not told to the proofs, so this is said
 -- by the stores, for a list of any length; in one of 1,024 all have room, as proofs/Gathering.antt shows.)

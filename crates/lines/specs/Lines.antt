@@ -1,5 +1,5 @@
--- 01, "The plan as text" (one step a line): the line at a place of a text, by the text that lines have, and what the
--- reader hands out there.
+-- 01, "The plan as text" (the line reader, asked once): the line at a place of a text, by the text that lines
+-- have, and what the reader hands out there.
 use Prim.Native.Nat.{ℕ, _+_}
 use mathlib.Core.Bool.{true}
 use mathlib.Core.List.{List, _++_}

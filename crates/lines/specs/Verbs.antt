@@ -1,4 +1,4 @@
--- 01, "The plan as text" (verbs are matched byte for byte): the verb at a place. A verb's first byte tells which it can
+-- 01, "The plan as text" (a verb's bytes are exactly its name): the verb at a place. Its first byte tells which it can
 -- be, since no two begin with the same; then its bytes are compared, as one number.
 use Prim.Native.Nat.{ℕ, _+_, _-_, _*_, _^_, _%_}
 use mathlib.Core.Bool.{Bool, true, false, cond}

@@ -2,6 +2,9 @@
 // lines of a text gathered one after another.
 use board::MOST_BYTES;
 use board::MOST_LINES;
+use line::EACH_KIND;
+use line::LAST_OPERAND;
+use line::OPERANDS;
 use model::Cursor;
 use model::LineAnswer;
 use model::Refusal;
@@ -23,13 +26,13 @@ enum Field {
     Wrong,
 }
 
-// The value v with one digit more; 256, which is no line's, if the byte is none. The last four bits of a digit's byte
-// are its value.
+// The value v with one digit more; past every operand and job, if the byte is none. The last four bits of a digit's
+// byte are its value.
 fn joined(v: u32, b: u8) -> u32
     requires { ⌜ v ≤ 9999 ⌝ }
     ensures { λ r. ⌜ r ≡ joinedBy v b ⌝ }
 {
-    line::choose((48 <= b) & (b <= 57), v * 10 + b as u32 % 16, 256)
+    line::choose((b'0' <= b) & (b <= b'9'), v * 10 + b as u32 % 16, OPERANDS)
 }
 
 // Nought, if the byte that ends its field stands at the place.
@@ -45,7 +48,8 @@ fn nought(text: &[u8], at: usize, end: u8) -> Field
     Field::Wrong
 }
 
-// The number whose digits before the place make v, with those that stand there; over 255 it is no line's.
+// The number whose digits before the place make v, with those that stand there; past the last operand it is no
+// line's.
 fn more_digits(text: &[u8], from: usize, end: u8, v: u32) -> Field
     requires { ⌜ v ≤ 255 ⌝ }
     ensures { λ r. ⌜ r ≡ digitsAt end v from (drop from (now (text .entry))) ⌝ }
@@ -58,7 +62,7 @@ fn more_digits(text: &[u8], from: usize, end: u8, v: u32) -> Field
             return Field::Number(value, at + 1);
         }
         value = joined(value, b);
-        if 255 < value {
+        if LAST_OPERAND < value {
             return Field::Wrong;
         }
         at += 1;
@@ -81,7 +85,7 @@ fn two_digits(text: &[u8], at: usize, end: u8, v: u32) -> Field
     let two = joined(one, c);
     let value = line::choose(b == end, v, line::choose(c == end, one, two));
     let more = line::choose(b == end, 0, line::choose(c == end, 1, 2));
-    if 255 < value {
+    if LAST_OPERAND < value {
         return Field::Wrong;
     }
     more_digits(text, at + more as usize, end, value)
@@ -97,14 +101,14 @@ fn field_at(text: &[u8], from: usize, end: u8) -> Field
         return Field::Wrong;
     }
     let b = text[from];
-    if b == 48 {
+    if b == b'0' {
         return nought(text, from + 1, end);
     }
     let v = joined(0, b);
-    if 255 < v {
+    if LAST_OPERAND < v {
         return Field::Wrong;
     }
-    if end == 9 {
+    if end == b'\t' {
         return more_digits(text, from + 1, end, v);
     }
     two_digits(text, from + 1, end, v)
@@ -118,9 +122,7 @@ enum Verb {
     Wrong,
 }
 
-// How many verbs there are, and how many bytes.
-const VERBS: usize = 4;
-
+// A list with an entry for each byte has so many.
 const BYTES: usize = 256;
 
 // The first n bytes at the place, eight at most, as one number, the first lowest.
@@ -154,7 +156,7 @@ fn eight_bytes(text: &[u8], at: usize) -> u64
 fn list_verb(
     lengths: &mut [u8; BYTES],
     kinds: &mut [u8; BYTES],
-    numbers: &mut [u64; VERBS],
+    numbers: &mut [u64; EACH_KIND],
     k: u8,
     verb: &[u8],
 )
@@ -169,7 +171,7 @@ fn list_verb(
 }
 
 // The verbs, one a line, in the order of their kinds. No two begin with the same byte.
-fn list_verbs(lengths: &mut [u8; BYTES], kinds: &mut [u8; BYTES], numbers: &mut [u64; VERBS])
+fn list_verbs(lengths: &mut [u8; BYTES], kinds: &mut [u8; BYTES], numbers: &mut [u64; EACH_KIND])
     requires { ⌜ tables (now lengths) (now kinds) (now numbers) ≡ noVerbs ⌝ }
     ensures { λ r. ⌜ tables (now (lengths .exit)) (now (kinds .exit)) (now (numbers .exit)) ≡ allVerbs ⌝ }
 {
@@ -186,7 +188,7 @@ fn verb_at(
     at: usize,
     lengths: &[u8; BYTES],
     kinds: &[u8; BYTES],
-    numbers: &[u64; VERBS],
+    numbers: &[u64; EACH_KIND],
 ) -> Verb
     requires { ⌜ tables (now lengths) (now kinds) (now numbers) ≡ allVerbs ⌝ }
     ensures { λ r. ⌜ r ≡ verbAt at (drop at (now (text .entry))) ⌝ }
@@ -220,18 +222,18 @@ fn spelt_at(
     from: usize,
     lengths: &[u8; BYTES],
     kinds: &[u8; BYTES],
-    numbers: &[u64; VERBS],
+    numbers: &[u64; EACH_KIND],
 ) -> Spelt
     requires { ⌜ tables (now lengths) (now kinds) (now numbers) ≡ allVerbs ⌝ }
     ensures { λ r. ⌜ SpeltAt devices (now (text .entry)) from r ⌝ }
 {
-    let Field::Number(j, a) = field_at(text, from, 9) else {
+    let Field::Number(j, a) = field_at(text, from, b'\t') else {
         return Spelt::Malformed;
     };
     let Verb::Kind(k, b) = verb_at(text, a, lengths, kinds, numbers) else {
         return Spelt::Malformed;
     };
-    let Field::Number(o, e) = field_at(text, b, 10) else {
+    let Field::Number(o, e) = field_at(text, b, b'\n') else {
         return Spelt::Malformed;
     };
     let n = line::pack(j, k, o);
@@ -248,7 +250,7 @@ fn handed(
     lines: usize,
     lengths: &[u8; BYTES],
     kinds: &[u8; BYTES],
-    numbers: &[u64; VERBS],
+    numbers: &[u64; EACH_KIND],
 ) -> LineAnswer
     requires { ⌜ tables (now lengths) (now kinds) (now numbers) ≡ allVerbs ⌝ }
     ensures { λ r. ⌜ r ≡ handedAt devices (now (text .entry)) offset lines ⌝ }
@@ -286,7 +288,7 @@ pub fn next_line(text: &[u8], c: Cursor) -> LineAnswer
     let lines = c.lines;
     let mut lengths = [0u8; BYTES];
     let mut kinds = [0u8; BYTES];
-    let mut numbers = [0u64; VERBS];
+    let mut numbers = [0u64; EACH_KIND];
     list_verbs(&mut lengths, &mut kinds, &mut numbers);
     handed(text, offset, lines, &lengths, &kinds, &numbers)
 }
@@ -306,7 +308,7 @@ pub fn gather(text: &[u8], lines: &mut [u32; MOST_LINES]) -> Gathered
 {
     let mut lengths = [0u8; BYTES];
     let mut kinds = [0u8; BYTES];
-    let mut numbers = [0u64; VERBS];
+    let mut numbers = [0u64; EACH_KIND];
     list_verbs(&mut lengths, &mut kinds, &mut numbers);
     let mut offset: usize = 0;
     let mut n: usize = 0;

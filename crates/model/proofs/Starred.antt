@@ -57,7 +57,7 @@ unfoldable pub planE : List ℕ
 unfolding _takes_ _gives_ _starts_
 planE = 1 takes 0 ∷ 1 starts 2 ∷ 1 gives 0 ∷ 2 takes 0 ∷ []
 
-pub planF : List ℕ
+unfoldable pub planF : List ℕ
 unfolding _takes_ _gives_ _starts_
 planF = 1 takes 0 ∷ 1 starts 2 ∷ 2 takes 0 ∷ 2 gives 0 ∷ []
 

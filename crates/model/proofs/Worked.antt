@@ -12,9 +12,11 @@ use mathlib.Core.Path.{_≡_, refl}
 use lib.ListN.{replicate}
 use Rattle.model.specs.Answers.{refusalValues, lineValues, readValues, writeValues, tableValues}
 use Rattle.model.specs.Answers.{verdictValues, moveValues}
-use Rattle.model.specs.Line.{isStep}
+use Rattle.model.specs.Line.{isStep, lineNumber}
 use Rattle.model.specs.Text.{spelt, textOf, nextLine, lineFrom}
 use Rattle.model.specs.WellFormed.{lineFault, fault}
+use Rattle.model.specs.Legal.{held}
+use Rattle.model.specs.Handed.{handed}
 use Rattle.model.specs.Entries.{Outcome, reading, writing, tabling, judging, moving}
 use Rattle.model.specs.Printed.{ScreenOutcome, printed, screening}
 use Rattle.model.specs.Board.{devices}
@@ -23,7 +25,7 @@ use Rattle.model.specs.declared.ReadAnswer.{ReadAnswer}
 use Rattle.model.specs.declared.WriteAnswer.{WriteAnswer}
 use Rattle.model.specs.declared.TableAnswer.{TableAnswer}
 use Rattle.model.specs.declared.VerdictAnswer.{VerdictAnswer}
-use Rattle.model.proofs.Starred.{_does_, _takes_, _gives_, _starts_, planA}
+use Rattle.model.proofs.Starred.{_does_, _takes_, _gives_, _starts_, planA, planF, moved}
 
 -- the bytes of a text, which has none but those of ASCII
 pub bytes : String → List ℕ
@@ -41,10 +43,10 @@ pub faultOf : List ℕ → List ℕ
 unfolding valuesOf fault
 faultOf p = valuesOf (fault devices p)
 
--- and of one more line after so many
-pub faultAfter : ℕ → List ℕ
+-- and of a line after so many others
+pub faultAfter : ℕ → ℕ → List ℕ
 unfolding valuesOf lineFault _does_
-faultAfter lines = valuesOf (lineFault devices (replicate lines (1 does 0)) (1 does 0))
+faultAfter lines l = valuesOf (lineFault devices (replicate lines (1 does 0)) l)
 
 -- answer and list, of a list of so many entries
 pub readInto : ℕ → List ℕ → List (List ℕ)
@@ -70,6 +72,11 @@ unfolding judging
 judgedInto room p =
     let o : Outcome VerdictAnswer (List ℕ) = judging devices p (replicate room 99) in
     verdictValues (o .answer) ∷ o .left ∷ []
+
+-- the line numbers of the order handed out
+pub orderOf : List ℕ → List ℕ
+unfolding handed lineNumber
+orderOf p = map lineNumber (handed p)
 
 pub shownIn : ℕ → List ℕ → List (List ℕ)
 unfolding screening
@@ -109,19 +116,34 @@ unfolding bytes
 wideText = bytes "64\tdo\t255\n10\ttake\t31\n9\tgive\t10\n1\tstart\t64\n1\tdo\t0\n"
 
 -- none is a line: empty; a carriage return; a capital; a nought or a sign in front; an operand or a job that is not
--- there; a field too many; blanks for tabs; two tabs; numbers past their ranges; no verb; no newline
+-- there; a field too many; blanks for tabs; two tabs; numbers past their ranges; a word that is no verb; the bytes next
+-- to the digits; the beginning of a verb, or nothing for it; a field too few; no newline
 pub notLines : List ℕ
 unfolding bytes
 notLines =
     flatMap bytes
     ("\n" ∷ "1\tdo\t7\r\n" ∷ "1\tDo\t7\n" ∷ "1\tdo\t07\n" ∷ "01\tdo\t7\n" ∷ "1\tdo\t+7\n" ∷ "1\tdo\t\n"
     ∷ "\tdo\t7\n" ∷ "1\tdo\t7\t\n" ∷ "1 do 7\n" ∷ "1\t\tdo\t7\n" ∷ "1\tdo\t256\n" ∷ "65\tdo\t7\n"
-    ∷ "1\ttake\t32\n" ∷ "1\tstart\t1\n" ∷ "1\tdone\t7\n" ∷ "1\tdo\t7" ∷ [])
+    ∷ "1\ttake\t32\n" ∷ "1\tstart\t1\n" ∷ "1\tdone\t7\n" ∷ "1\tdo\t:\n" ∷ "1\tdo\t/\n" ∷ "1\td\t7\n"
+    ∷ "1\t\t7\n" ∷ "1\tdo\n" ∷ "1\tdo\t7" ∷ [])
 
 -- 0 leads to 1 and 2, which lead to each other
 pub planRing : List ℕ
 unfolding _takes_ _gives_ _starts_
 planRing = 1 starts 2 ∷ 1 takes 0 ∷ 1 takes 1 ∷ 1 takes 2 ∷ 1 gives 2 ∷ 2 takes 2 ∷ 2 takes 1 ∷ 2 gives 1 ∷ []
+
+-- 0 leads back in four steps, the others in three: 0 to 1, 1 to 2, 2 to 3, 3 to 0 and 1
+pub planFour : List ℕ
+unfolding _takes_ _gives_ _starts_
+planFour =
+    1 starts 2 ∷ 1 starts 3 ∷ 1 takes 3 ∷ 1 takes 0 ∷ 1 takes 1 ∷ 1 gives 1
+    ∷ 2 takes 1 ∷ 2 takes 2 ∷ 2 gives 2
+    ∷ 3 takes 2 ∷ 3 takes 3 ∷ 3 gives 3 ∷ []
+
+-- the lasting take of 0 waits for job 2, which takes 0 too
+pub planWaits : List ℕ
+unfolding _takes_ _gives_ _starts_
+planWaits = 1 starts 2 ∷ 1 takes 0 ∷ 2 takes 1 ∷ 2 takes 0 ∷ 2 gives 0 ∷ []
 
 -- 3 and 5 last twice, and lead to each other
 pub planTwice : List ℕ
@@ -130,20 +152,28 @@ planTwice = 1 starts 2 ∷ 1 takes 5 ∷ 1 takes 3 ∷ 2 takes 3 ∷ 2 takes 5 �
 
 -- The table.
 pub record Worked : Type 0 where
-  -- texts read and written, in lists that are just long enough or one too short
+  -- texts read and written, in lists that are just long enough, one too long or one too short
   pub A-read : readInto 6 textA ≡ (0 ∷ 6 ∷ []) ∷ planA ∷ []
+  pub A-read-long : readInto 7 textA ≡ (0 ∷ 6 ∷ []) ∷ (planA ++ (99 ∷ [])) ∷ []
   pub A-read-short : readInto 5 textA ≡ (11 ∷ 6 ∷ []) ∷ replicate 5 99 ∷ []
   pub A-written : writtenInto 53 planA ≡ (0 ∷ 53 ∷ []) ∷ textA ∷ []
+  pub A-written-long : writtenInto 54 planA ≡ (0 ∷ 53 ∷ []) ∷ (textA ++ (99 ∷ [])) ∷ []
   pub A-written-short : writtenInto 52 planA ≡ (11 ∷ 53 ∷ []) ∷ replicate 52 99 ∷ []
   pub wide-written : textOf wide ≡ wideText
   pub wide-spelt : spelt devices wideText ≡ wide
-  pub not-spelt : spelt devices notLines ≡ replicate 17 0
+  pub not-spelt : spelt devices notLines ≡ replicate 22 0
+  pub not-ended : flatMap (λ s. spelt devices (bytes s)) ("1\tdo\t7\r" ∷ "1\tdo\t7\t" ∷ []) ≡ 0 ∷ 0 ∷ []
   -- what is printed, and shown on the screens
   pub A-printed : printed devices textA ≡ printA
   pub nothing-printed : printed devices [] ≡ bytes "order\t0\t0\n"
   pub refusal-printed : printed devices (bytes "1\ttake\t3\n1\ttake\t3\n") ≡ bytes "refused\t8\t2\n"
+  pub no-order-printed : printed devices (bytes "1\ttake\t0\n1\tstart\t2\n2\ttake\t0\n2\tgive\t0\n")
+      ≡ bytes "refused\t10\t0\n"
+  pub full-printed : printed devices (replicate 12288 10) ≡ bytes "refused\t2\t1\n"
   pub length-printed : printed devices (replicate 12289 10) ≡ bytes "refused\t1\t0\n"
   pub A-shown : shownIn 4027 textA ≡ (22 ∷ []) ∷ (printA ++ replicate 4005 99) ∷ []
+  pub refusal-shown : shownIn 4027 (bytes "1\ttake\t3\n1\ttake\t3\n")
+      ≡ (12 ∷ []) ∷ (bytes "refused\t8\t2\n" ++ replicate 4015 99) ∷ []
   pub A-not-shown : shownIn 4026 textA ≡ (0 ∷ []) ∷ replicate 4026 99 ∷ []
   -- the ranges at their ends
   pub jobs : map (λ j. isStep devices j 0 0) (0 ∷ 1 ∷ 64 ∷ 65 ∷ []) ≡ false ∷ true ∷ true ∷ false ∷ []
@@ -155,24 +185,41 @@ pub record Worked : Type 0 where
   pub next-long : nextAt (replicate 12289 10) 0 0 ≡ 1 ∷ 0 ∷ []
   pub next-full : nextAt (replicate 12288 10) 0 0 ≡ 2 ∷ 1 ∷ []
   pub next-many : nextAt textA 10 1024 ≡ 3 ∷ 1025 ∷ []
+  pub next-many-first : nextAt notLines 0 1024 ≡ 3 ∷ 1025 ∷ []
   pub next-malformed : nextAt notLines 0 5 ≡ 2 ∷ 6 ∷ []
   pub next-last : nextAt textA 10 1023 ≡ 0 ∷ 1 takes 1 ∷ 19 ∷ 1024 ∷ []
   pub next-end : nextAt textA 53 1024 ≡ 0 ∷ []
   pub next-by-offset : lineValues (lineFrom devices textA 19) ≡ 0 ∷ 1 does 7 ∷ 26 ∷ 3 ∷ []
-  -- 2 to 8, with their places
+  -- 2 to 8, with their places, and which comes first
   pub two : map faultOf ((1 does 0 ∷ 0 ∷ []) ∷ (65 does 0 ∷ []) ∷ []) ≡ (2 ∷ 2 ∷ []) ∷ (2 ∷ 1 ∷ []) ∷ []
-  pub three : map faultAfter (1023 ∷ 1024 ∷ []) ≡ [] ∷ (3 ∷ 1025 ∷ []) ∷ []
+  pub three : map (λ lines. faultAfter lines (1 does 0)) (1023 ∷ 1024 ∷ []) ≡ [] ∷ (3 ∷ 1025 ∷ []) ∷ []
+  pub three-first : faultAfter 1024 0 ≡ 3 ∷ 1025 ∷ []
   pub four : map faultOf ((2 does 0 ∷ []) ∷ (1 does 0 ∷ 3 does 0 ∷ []) ∷ []) ≡ (4 ∷ 1 ∷ []) ∷ (4 ∷ 2 ∷ []) ∷ []
+  pub four-falling : faultOf (1 starts 2 ∷ 2 does 0 ∷ 1 does 0 ∷ []) ≡ 4 ∷ 3 ∷ []
+  pub four-first : faultOf (1 does 0 ∷ 3 gives 0 ∷ []) ≡ 4 ∷ 2 ∷ []
   pub five-higher : faultOf (1 does 0 ∷ 2 starts 2 ∷ []) ≡ 5 ∷ 2 ∷ []
+  pub five-lower : faultOf (1 does 0 ∷ 2 does 0 ∷ 3 starts 2 ∷ []) ≡ 5 ∷ 3 ∷ []
   pub five-once : faultOf (1 starts 2 ∷ 1 starts 2 ∷ 2 does 0 ∷ []) ≡ 5 ∷ 2 ∷ []
   pub five-lines : faultOf (1 does 0 ∷ 1 starts 3 ∷ 2 does 0 ∷ []) ≡ 5 ∷ 2 ∷ []
+  pub five-lowest-line : faultOf (1 starts 3 ∷ 1 starts 2 ∷ []) ≡ 5 ∷ 1 ∷ []
   pub six : faultOf (1 does 0 ∷ 2 does 0 ∷ 2 does 0 ∷ []) ≡ 6 ∷ 2 ∷ []
+  pub six-lowest-job : faultOf (1 does 0 ∷ 2 does 0 ∷ 3 does 0 ∷ []) ≡ 6 ∷ 2 ∷ []
   pub seven : faultOf (1 takes 0 ∷ 1 takes 1 ∷ 1 gives 0 ∷ []) ≡ 7 ∷ 3 ∷ []
+  pub seven-first-line : faultOf (1 gives 0 ∷ 1 gives 0 ∷ []) ≡ 7 ∷ 1 ∷ []
+  pub seven-before-five : faultOf (1 starts 2 ∷ 1 gives 0 ∷ []) ≡ 7 ∷ 2 ∷ []
   pub eight : faultOf (1 takes 3 ∷ 1 takes 3 ∷ []) ≡ 8 ∷ 2 ∷ []
+  pub taken-again : faultOf (1 takes 0 ∷ 1 gives 0 ∷ 1 takes 0 ∷ []) ≡ []
+  -- A's device 1 is held where job 1 took it, or job 2, and not once job 2 gave it
+  pub A-held : map (λ done. held planA done 1) ((0 ∷ 1 ∷ []) ∷ (3 ∷ 4 ∷ []) ∷ (3 ∷ 4 ∷ 5 ∷ []) ∷ [])
+      ≡ true ∷ true ∷ false ∷ []
+  -- a lasting take waits for the others of its device, and a job for its start
+  pub waits : orderOf planWaits ≡ 1 ∷ 3 ∷ 4 ∷ 5 ∷ 2 ∷ []
+  pub started-after : orderOf (1 takes 0 ∷ 1 starts 2 ∷ 2 does 0 ∷ []) ≡ 1 ∷ 2 ∷ 3 ∷ []
   -- of lasting takes the lowest device first; 9 before 10, and the lowest device of those that there are
   pub lowest-first : judgedInto 3 (1 starts 2 ∷ 1 takes 1 ∷ 2 takes 0 ∷ []) ≡ (0 ∷ 2 ∷ []) ∷ (1 ∷ 3 ∷ 2 ∷ []) ∷ []
   pub nine : judgedInto 5 planTwice ≡ (9 ∷ 3 ∷ []) ∷ replicate 5 99 ∷ []
   pub ten : judgedInto 8 planRing ≡ (10 ∷ 1 ∷ []) ∷ replicate 8 99 ∷ []
+  pub ten-four : judgedInto 12 planFour ≡ (10 ∷ 0 ∷ []) ∷ replicate 12 99 ∷ []
   -- what is broken comes before 11, and 11 before the rest
   pub read-broken : readInto 0 (bytes "2\tdo\t0\n") ≡ (4 ∷ 1 ∷ []) ∷ [] ∷ []
   pub written-broken : writtenInto 0 (2 does 0 ∷ []) ≡ (4 ∷ 1 ∷ []) ∷ [] ∷ []
@@ -193,24 +240,35 @@ pub record Worked : Type 0 where
   pub eight-moved : movedWith planA tableA 5 0 ≡ 8 ∷ 5 ∷ []
   pub eight-below : movedWith planA tableA 4 1 ≡ 8 ∷ 5 ∷ []
   pub not-moved : movedWith planA tableA 5 1 ≡ 0 ∷ 0 ∷ []
+  -- a refused move leaves plan and sets; a lasting take moves alone; F, which has no order, can be moved, and the way
+  -- goes on past the start to line 1
+  pub eight-leaves : moved planA 5 0 ≡ (8 ∷ 5 ∷ []) ∷ planA ∷ (tableA ++ (99 ∷ [])) ∷ []
+  pub lasting-moved : movedWith planA tableA 4 2 ≡ 0 ∷ 2 ∷ []
+  pub F-moved : movedWith planF (1 ∷ 1 ∷ 1 ∷ 0 ∷ []) 3 1 ≡ 0 ∷ 3 ∷ []
 
 pub worked : Worked
-unfolding bytes valuesOf faultOf faultAfter readInto writtenInto tabledInto judgedInto shownIn nextAt movedWith
-    lineFrom textA printA tableA wide wideText notLines planRing planTwice planA
+unfolding bytes valuesOf faultOf faultAfter readInto writtenInto tabledInto judgedInto orderOf shownIn nextAt movedWith
+    lineFrom textA printA tableA wide wideText notLines planRing planFour planWaits planTwice planA planF moved held
 worked =
     record {
       A-read = refl;
+      A-read-long = refl;
       A-read-short = refl;
       A-written = refl;
+      A-written-long = refl;
       A-written-short = refl;
       wide-written = refl;
       wide-spelt = refl;
       not-spelt = refl;
+      not-ended = refl;
       A-printed = refl;
       nothing-printed = refl;
       refusal-printed = refl;
+      no-order-printed = refl;
+      full-printed = refl;
       length-printed = refl;
       A-shown = refl;
+      refusal-shown = refl;
       A-not-shown = refl;
       jobs = refl;
       codes = refl;
@@ -220,22 +278,36 @@ worked =
       next-long = refl;
       next-full = refl;
       next-many = refl;
+      next-many-first = refl;
       next-malformed = refl;
       next-last = refl;
       next-end = refl;
       next-by-offset = refl;
       two = refl;
       three = refl;
+      three-first = refl;
       four = refl;
+      four-falling = refl;
+      four-first = refl;
       five-higher = refl;
+      five-lower = refl;
       five-once = refl;
       five-lines = refl;
+      five-lowest-line = refl;
       six = refl;
+      six-lowest-job = refl;
       seven = refl;
+      seven-first-line = refl;
+      seven-before-five = refl;
       eight = refl;
+      taken-again = refl;
+      A-held = refl;
+      waits = refl;
+      started-after = refl;
       lowest-first = refl;
       nine = refl;
       ten = refl;
+      ten-four = refl;
       read-broken = refl;
       written-broken = refl;
       tabled-broken = refl;
@@ -252,4 +324,7 @@ worked =
       eight-moved = refl;
       eight-below = refl;
       not-moved = refl;
+      eight-leaves = refl;
+      lasting-moved = refl;
+      F-moved = refl;
     }

@@ -1,5 +1,6 @@
 -- 01, "Refusal numbers": the number and the place of each refusal, and for each answer its values: 0 where the entry
--- succeeded, else the refusal's number; then what the case carries. The end of the lines is 0 alone.
+-- succeeded, else the refusal's number; then what the case carries. The end of the lines is 0 alone. And how the tests
+-- of an entry decide: by the first that refuses.
 use Prim.Native.Nat.{ℕ}
 use mathlib.Core.Bool.{Bool, true, false}
 use mathlib.Core.List.{List, [], _∷_}

@@ -21,14 +21,14 @@ own p i = cond (takesAt p i) (only (deviceAt p i)) empty
 -- the union of the sets of a table at some places
 unfoldable pub joined : List ℕ → List ℕ → ℕ
 unfolding unionOf
-joined t places = unionOf (map (λ o. getD t o 0) places)
+joined t places = unionOf (map (λ k. getD t k 0) places)
 
 -- the table, from the plan's end; the first list has the own claims of the lines in the second
 unfoldable pub tableOf : List ℕ → List ℕ → List ℕ
 unfolding union joined successors
 tableOf [] ls = []
-tableOf (o ∷ os) [] = []
-tableOf (o ∷ os) (l ∷ ls) = let t : List ℕ = tableOf os ls in union o (joined t (successors l ls)) ∷ t
+tableOf (c ∷ cs) [] = []
+tableOf (c ∷ cs) (l ∷ ls) = let t : List ℕ = tableOf cs ls in union c (joined t (successors l ls)) ∷ t
 
 unfoldable pub table : List ℕ → List ℕ
 unfolding tableOf own positions

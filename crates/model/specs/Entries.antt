@@ -1,5 +1,6 @@
 -- The outcome of each entry: its answer and the contents of every lent list, for every input. A refusal leaves what
--- was lent as it was; a success leaves what lies past the last entry written (01, "Refusal numbers").
+-- was lent as it was; a success leaves what lies past the last entry written (01, "Refusal numbers"). The line reader
+-- writes to nothing that is lent, and its outcome is `Text.nextLine`; the screens' entry stands in `Printed`.
 use Prim.Native.Nat.{ℕ}
 use mathlib.Core.List.{List, [], _∷_, map}
 use mathlib.Core.Option.{Option, none, some}
@@ -32,9 +33,6 @@ unfoldable pub outcome : {A L : Type 0} → (Refusal → A) → Option Refusal �
 outcome refused none answer new lent = record { answer = answer; left = new }
 outcome refused (some r) answer new lent = record { answer = refused r; left = lent }
 
--- The line reader writes to nothing that is lent; its outcome is `Text.nextLine`. The screens' entry stands in
--- `Printed`.
-
 -- the fault of a text, if it has one: 1, then those of the plan that it spells
 unfoldable pub textFault : ℕ → List ℕ → Option Refusal
 unfolding firstRefusal refuseIf fault spelt
@@ -63,11 +61,14 @@ tabling D p lent =
     outcome TableAnswer.Refused (firstRefusal (fault D p ∷ tooShort (length lent) (length p) ∷ []))
     (TableAnswer.Lines (length p)) (over (table p) lent) lent
 
--- The verdict, with the order's line numbers in a lent list.
+-- The verdict, with the order's line numbers in a lent list. Its tests: 2 to 8, 11, then 9 and 10.
+abbrev pub verdictRefusal : ℕ → List ℕ → List ℕ → Option Refusal
+verdictRefusal D p lent = firstRefusal (fault D p ∷ tooShort (length lent) (length p) ∷ noOrder D p ∷ [])
+
 unfoldable pub judging : ℕ → List ℕ → List ℕ → Outcome VerdictAnswer (List ℕ)
 unfolding outcome firstRefusal fault tooShort noOrder heldAtEnd handed lineNumber over
 judging D p lent =
-    outcome VerdictAnswer.Refused (firstRefusal (fault D p ∷ tooShort (length lent) (length p) ∷ noOrder D p ∷ []))
+    outcome VerdictAnswer.Refused (verdictRefusal D p lent)
     (VerdictAnswer.Held (heldAtEnd D p)) (over (map lineNumber (handed p)) lent) lent
 
 -- The move: plan and table are lent, and both are rewritten.

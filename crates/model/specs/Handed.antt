@@ -62,7 +62,8 @@ handedAfter zero p done = []
 handedAfter (suc turns) p done =
     let lines : List ℕ = turn p (undone p done) in lines ++ handedAfter turns p (done ++ lines)
 
--- the order handed out, by positions; each turn does a line, so there are no more turns than lines
+-- The order handed out, by positions. Where the plan has an order each turn does a line at least, so there are no more
+-- turns than lines; where it has none, turns come to do nothing, and the list is short.
 unfoldable pub handed : List ℕ → List ℕ
 unfolding handedAfter
 handed p = handedAfter (length p) p []

@@ -3,6 +3,7 @@
 pub mod Lists
 pub mod Sets
 pub mod Answers
+pub mod InOne
 pub mod Line
 pub mod Text
 pub mod WellFormed

@@ -75,7 +75,7 @@ unfoldable pub hasLines : List ℕ → ℕ → Bool
 unfolding any job
 hasLines p j = any (λ l. eqb (job l) j) p
 
--- where the first line of job j stands among some lines: a list of at most one place
+-- where the first line of job j stands among some lines: a list of one place or of none, since successors are a list
 unfoldable pub firstLine : ℕ → List ℕ → List ℕ
 unfolding job
 firstLine j [] = []

@@ -41,7 +41,7 @@ unfoldable pub firstOf : (ℕ → Bool) → List ℕ → Option ℕ
 firstOf f [] = none
 firstOf f (x ∷ xs) = elim (f x) [ true ↦ some x | false ↦ firstOf f xs ]
 
--- of x and the one found so far, the one with the lower key
+-- of x and the one found so far, the one with the lower key; x where the keys are equal
 unfoldable pub lower : (ℕ → ℕ) → ℕ → Option ℕ → Option ℕ
 lower key x none = some x
 lower key x (some y) = elim (ltb (key y) (key x)) [ true ↦ some y | false ↦ some x ]

@@ -22,8 +22,8 @@ unfoldable pub takes : List ℕ → ℕ → ℕ → Bool
 unfolding takesAt deviceAt
 takes p i d = takesAt p i && eqb (deviceAt p i) d
 
--- among the lines from position i on, at some depth; the search ends where the lines of job j end, which stand
--- together
+-- the mate, looked for among the lines from position i on, at some depth; the search ends where the lines of job j
+-- end, which stand together
 unfoldable pub mateIn : ℕ → ℕ → ℕ → List ℕ → Option ℕ
 unfolding job isTake isGive
 mateIn j depth i [] = none

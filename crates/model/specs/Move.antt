@@ -79,7 +79,7 @@ unfolding refuseIf
 ofNumber n none = none
 ofNumber n (some r) = refuseIf (eqb (numberOf r) n) r
 
--- the tests, in their order
+-- The tests, in their order. Of a plan without a fault the edited one has none but 8 (shown in `theory`, Edited).
 unfoldable pub moveRefusal : ℕ → List ℕ → List ℕ → ℕ → ℕ → Option Refusal
 unfolding firstRefusal fault tooShort refuseIf isTakeOf refuseAt firstOf stale way ofNumber edited askedAt lineNumber
 moveRefusal D p t line device =

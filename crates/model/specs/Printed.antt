@@ -48,7 +48,8 @@ printed D text =
     let p : List ℕ = spelt D text in
     printedBy (firstRefusal (textFault D text ∷ noOrder D p ∷ [])) (map lineNumber (handed p)) (heldAtEnd D p)
 
--- The screens' entry: the number of bytes written, and the buffer; with too little room 0, and nothing is written.
+-- The screens' entry: the number of bytes written, and the buffer. Under 4,027 bytes the number is 0 and the buffer
+-- stays as it was. No print is longer: its first line has 14 bytes at most, and the numbers 1 to 1,024 have 4,013.
 abbrev pub screenRoom : ℕ
 screenRoom = 4027
 

@@ -71,11 +71,11 @@ unfoldable pub verbFault : List ℕ → ℕ → Option Refusal
 unfolding firstRefusal refuseIf lineNumber isStart isGive isTake operand job any starts has heldBy isLast
 verbFault b l =
     let n : ℕ = lineNumber (length b) in
-    let held : List ℕ = heldBy (job l) b in
+    let holds : List ℕ = heldBy (job l) b in
     firstRefusal
     (refuseIf (isStart l && (leb (operand l) (job l) || any (λ q. starts q (operand l)) b)) (BadStart n)
-    ∷ refuseIf (isGive l && not (isLast (operand l) held)) (GiveWithoutTake n)
-    ∷ refuseIf (isTake l && has (operand l) held) (TakeOfHeld n)
+    ∷ refuseIf (isGive l && not (isLast (operand l) holds)) (GiveWithoutTake n)
+    ∷ refuseIf (isTake l && has (operand l) holds) (TakeOfHeld n)
     ∷ [])
 
 -- 3, 2, 4, then the verb's own

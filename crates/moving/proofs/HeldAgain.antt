@@ -31,7 +31,7 @@ use Rattle.theory.proofs.Edited.{same-take, same-open, EditOf, edit, open-are-t
 use Rattle.theory.proofs.Edited.{eight-is-all, fault-is-eight}
 use Rattle.mates.specs.Found.{found}
 use Rattle.mates.specs.declared.Found.{Found}
-use Rattle.moving.specs.HeldAgain.{upTo, takesIn, heldAgain}
+use Rattle.moving.specs.HeldAgain.{heldUntil, takesIn, heldAgain}
 use Rattle.moving.proofs.Holding.{none-first}
 
 -- ---- lists of open takes
@@ -81,7 +81,7 @@ unfolding heldAgain
 again-here p i e h = rw (h, heldAgain)
 
 again-later : (p : List ℕ) (i e : ℕ) → has e (heldThere p i) ≡ false
-    → heldAgain p i e ≡ firstOf (takesIn p (job (at p i)) e) (upFrom (suc i) (upTo p (mate p i) - suc i))
+    → heldAgain p i e ≡ firstOf (takesIn p (job (at p i)) e) (upFrom (suc i) (heldUntil p (mate p i) - suc i))
 unfolding heldAgain
 again-later p i e h = rw (h, heldAgain)
 
@@ -90,15 +90,15 @@ module _ (p : List ℕ) (i e : ℕ) (b : Bool) (is : b ≡ has e (heldThere p i)
   pub found-here : b ≡ true → Found.At i ≡ found (heldAgain p i e)
   found-here h = ap found (sym (again-here p i e (sym is ∙ h)))
 
-  pub found-later : b ≡ false → (n : ℕ) → n ≡ upTo p (mate p i) → (r : Found)
+  pub found-later : b ≡ false → (n : ℕ) → n ≡ heldUntil p (mate p i) → (r : Found)
       → r ≡ found (firstOf (takesIn p (job (at p i)) e) (upFrom (suc i) (n - suc i))) → r ≡ found (heldAgain p i e)
   found-later h n z r f = rw (again-later p i e (sym is ∙ h), ← z) f
 
-pub up-to-in : (p : List ℕ) (i : ℕ) → upTo p (mate p i) ≤ length p
-unfolding upTo
-up-to-in p i = go (mate p i) refl
+pub held-until-in : (p : List ℕ) (i : ℕ) → heldUntil p (mate p i) ≤ length p
+unfolding heldUntil
+held-until-in p i = go (mate p i) refl
   where
-    go : (o : Option ℕ) → mate p i ≡ o → upTo p o ≤ length p
+    go : (o : Option ℕ) → mate p i ≡ o → heldUntil p o ≤ length p
     go none m = omega arith
     go (some a) m = omega (arith, pair p i a m .inPlan)
 
@@ -146,8 +146,8 @@ module _ (p q : List ℕ) (i e : ℕ) (rules : Rules p) (taken : isTake (at p i)
   there-held h = rw (d .atTake, d .alike .jobs i, same-above) at (h .1)
 
   -- before its mate the moved take is open, so a take of the new device is one of a held device
-  held-later : (k : ℕ) → i < k → k < upTo p (mate p i) → k < length p → takesIn p j e k ≡ true → TakesHeld q k
-  unfolding TakesHeld takesIn takes takesAt j upTo
+  held-later : (k : ℕ) → i < k → k < heldUntil p (mate p i) → k < length p → takesIn p j e k ≡ true → TakesHeld q k
+  unfolding TakesHeld takesIn takes takesAt j heldUntil
   held-later k lt b h t =
       let s = and-split (eqb (job (at p k)) j) (takes p k e) t in
       let u = and-split (isTake (at p k)) (eqb (deviceAt p k) e) (s .1) in
@@ -156,7 +156,9 @@ module _ (p q : List ℕ) (i e : ℕ) (rules : Rules p) (taken : isTake (at p i)
       (mated-or-open p rules (k - suc i) i k j (omega arith) h taken refl z)
     where
       not-mated : (m : ℕ) → mate p i ≡ some m → m < k → ⊥
-      not-mated m y l = let c : k < upTo p (some m) = subst (λ (o : Option ℕ). k < upTo p o) y b in omega arith
+      not-mated m y l =
+          let c : k < heldUntil p (some m) = subst (λ (o : Option ℕ). k < heldUntil p o) y b in
+          omega arith
 
       go : isTake (at p k) ≡ true → deviceAt p k ≡ e → job (at p k) ≡ j
           → ((m : ℕ) × (mate p i ≡ some m) × (m < k)) ⊎ ((o : ℕ) × (getElem? (openTakes p j k) o ≡ some i))
@@ -169,8 +171,8 @@ module _ (p q : List ℕ) (i e : ℕ) (rules : Rules p) (taken : isTake (at p i)
       )
 
   -- a take of a held device is at the moved line or such a take
-  later-held : (k : ℕ) → i < k → TakesHeld q k → (k < upTo p (mate p i)) × (takesIn p j e k ≡ true)
-  unfolding TakesHeld deviceAt takesIn takes takesAt j upTo
+  later-held : (k : ℕ) → i < k → TakesHeld q k → (k < heldUntil p (mate p i)) × (takesIn p j e k ≡ true)
+  unfolding TakesHeld deviceAt takesIn takes takesAt j heldUntil
   later-held k lt h =
       let u = sym (same-take p q (d .alike) k) ∙ h .0 in
       let r = from-map (deviceAt q) (openTakes p (job (at p k)) k) (operand (at q k)) (rw (held-edited k) at (h .1)) in
@@ -178,7 +180,7 @@ module _ (p q : List ℕ) (i e : ℕ) (rules : Rules p) (taken : isTake (at p i)
     where
       -- an open take is not mated before
       under : isTake (at p k) ≡ true → (n : ℕ) → getElem? (openTakes p (job (at p k)) k) n ≡ some i
-          → (o : Option ℕ) → mate p i ≡ o → k < upTo p o
+          → (o : Option ℕ) → mate p i ≡ o → k < heldUntil p o
       under u n x none m = take-line p k u
       under u n x (some a) m =
           let ne : k ≢ a = λ y. take-not-mate k u (m ∙ ap {B = Option ℕ} some (sym y)) in
@@ -192,7 +194,7 @@ module _ (p q : List ℕ) (i e : ℕ) (rules : Rules p) (taken : isTake (at p i)
       go : isTake (at p k) ≡ true → deviceAt q k ≡ deviceAt p k → (n t : ℕ)
           → getElem? (openTakes p (job (at p k)) k) n ≡ some t → deviceAt q t ≡ operand (at q k)
           → (eqb t i ≡ true) ⊎ (eqb t i ≡ false)
-          → (k < upTo p (mate p i)) × (takesIn p j e k ≡ true)
+          → (k < heldUntil p (mate p i)) × (takesIn p j e k ≡ true)
       go u o n t x y (inl z) =
           let s = eqb-true t i z in
           let x′ = subst (λ (a : ℕ). getElem? (openTakes p (job (at p k)) k) n ≡ some a) s x in
@@ -236,18 +238,18 @@ module _ (p q : List ℕ) (i e : ℕ) (rules : Rules p) (taken : isTake (at p i)
           let lt : i < k = omega arith in
           let r = later-held k lt h in
           again-later p i e (falsely (has e (heldBy j (before p i))) (λ a. first i lt (held-there a)))
-          ∙ first-is-lowest (takesIn p j e) (suc i) (upTo p (mate p i) - suc i) k lt (omega (arith, r .0)) (r .1)
+          ∙ first-is-lowest (takesIn p j e) (suc i) (heldUntil p (mate p i) - suc i) k lt (omega (arith, r .0)) (r .1)
           (λ x a b. falsely (takesIn p j e x)
-          (λ y. first x b (held-later x a (omega (arith, r .0)) (omega (arith, r .0, up-to-in p i)) y)))
+          (λ y. first x b (held-later x a (omega (arith, r .0)) (omega (arith, r .0, held-until-in p i)) y)))
 
   -- and finds nothing where there is none
   finds-none : ((x : ℕ) → x < length p → TakesHeld q x → ⊥) → heldAgain p i e ≡ none
   unfolding j
   finds-none f =
       again-later p i e (falsely (has e (heldBy j (before p i))) (λ a. f i (take-line p i taken) (held-there a)))
-      ∙ none-first (takesIn p j e) (suc i) (upTo p (mate p i) - suc i)
+      ∙ none-first (takesIn p j e) (suc i) (heldUntil p (mate p i) - suc i)
       (λ x b c. falsely (takesIn p j e x)
-      (λ y. f x (omega (arith, up-to-in p i)) (held-later x c (omega arith) (omega (arith, up-to-in p i)) y)))
+      (λ y. f x (omega (arith, held-until-in p i)) (held-later x c (omega arith) (omega (arith, held-until-in p i)) y)))
 
 -- ---- the fault
 

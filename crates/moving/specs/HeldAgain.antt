@@ -19,9 +19,9 @@ pub record At (p : List ℕ) (i : ℕ) : Type 0 where
   pub inPlan : i < length p
 
 -- where the take's device is given back; where it is not, the plan's end
-unfoldable pub upTo : List ℕ → Option ℕ → ℕ
-upTo p none = length p
-upTo p (some m) = m
+unfoldable pub heldUntil : List ℕ → Option ℕ → ℕ
+heldUntil p none = length p
+heldUntil p (some m) = m
 
 -- the line at k is of job j and takes device e
 unfoldable pub takesIn : List ℕ → ℕ → ℕ → ℕ → Bool
@@ -31,11 +31,11 @@ takesIn p j e k = eqb (job (at p k)) j && takes p k e
 -- the moved line itself, where its job holds the new device e there; else the first later take of e in its job before
 -- the device is given back
 unfoldable pub heldAgain : List ℕ → ℕ → ℕ → Option ℕ
-unfolding has heldBy before job firstOf takesIn upFrom upTo mate
+unfolding has heldBy before job firstOf takesIn upFrom heldUntil mate
 heldAgain p i e =
     elim (has e (heldBy (job (at p i)) (before p i))) [
       | true ↦ some i
-      | false ↦ firstOf (takesIn p (job (at p i)) e) (upFrom (suc i) (upTo p (mate p i) - suc i))
+      | false ↦ firstOf (takesIn p (job (at p i)) e) (upFrom (suc i) (heldUntil p (mate p i) - suc i))
     ]
 
 -- a position found stands among n lines

@@ -23,7 +23,7 @@ ghost use Rattle.mates.specs.Found.{found};
 ghost use Rattle.plan.specs.Checked.{checked};
 ghost use Rattle.promises.specs.Move.{MovesAs};
 ghost use Rattle.way.specs.Known.{Scanned, Known};
-ghost use Rattle.moving.specs.HeldAgain.{At, upTo, takesIn, heldAgain, FoundBelow};
+ghost use Rattle.moving.specs.HeldAgain.{At, heldUntil, takesIn, heldAgain, FoundBelow};
 ghost use Rattle.moving.specs.Tested.{Take, askedTests, lastTests, TestsAs, RewritesAs};
 
 // ---- a device that the job holds, looked for in the moved take's job
@@ -88,8 +88,8 @@ fn taken_again(plan: &[u32], i: usize, stop: usize, device: u32) -> Found
 }
 
 // Where the take's device is given back, or the plan's end.
-fn up_to(plan: &[u32], i: usize) -> usize
-    ensures { λ r. ⌜ r ≡ upTo (now (plan .entry)) (mate (now (plan .entry)) i) ⌝ }
+fn held_until(plan: &[u32], i: usize) -> usize
+    ensures { λ r. ⌜ r ≡ heldUntil (now (plan .entry)) (mate (now (plan .entry)) i) ⌝ }
 {
     if let Found::At(m) = mates::mate(plan, i) {
         return m;
@@ -106,7 +106,7 @@ fn held_again(plan: &[u32], i: usize, device: u32) -> Found
     if job_holds(plan, i, device) {
         return Found::At(i);
     }
-    let stop = up_to(plan, i);
+    let stop = held_until(plan, i);
     taken_again(plan, i, stop, device)
 }
 
@@ -214,7 +214,7 @@ fn give_device(plan: &mut [u32], i: usize, device: u32)
     }
 }
 
-// The take at i, and its give if it has one, get the device.
+// Puts the device into the take at i and into the give that is its mate.
 fn edit(plan: &mut [u32], i: usize, device: u32)
     ensures { λ r. ⌜ now (plan .exit) ≡ edited (now (plan .entry)) i (device % 256) ⌝ }
 {

@@ -16,7 +16,7 @@ fn write_printed(text: &[u8], bytes: &[u8]) -> bool
 }
 
 fn main() {
-    // 12,289 bytes, one more than a plan's text may have, so that one too many is seen
+    // one byte more than a plan's text may have: a longer input fills it, and is refused
     let mut input = [0; MOST_BYTES + 1];
     let mut plan = [0u32; MOST_LINES];
     let mut order = [0u16; MOST_LINES];

@@ -140,15 +140,15 @@ module _ (D : ℕ) (p first starter : List ℕ) (t : Tables D p (length p) first
       ap (refuseAt (λ j. NeverStarted (lineNumber (headD (firstLine j p) 0))))
       (first-is-lowest (unstarted p) 1 maxJob k (omega (arith, u .low)) (omega (arith, u .high)) (job-same k u)
       (λ j a b. falsely (unstarted p j) (λ z. lowest j b (same-job j (omega (arith, u .high)) z a))))
-      ∙ ap {B = Option Refusal} (λ z. some (NeverStarted z)) (Tab.first-number k p (getD first k 0) (t .firsts k
-      (u .high)) (u .lined))
+      ∙ ap {B = Option Refusal} (λ z. some (NeverStarted z))
+      (Tab.first-number k p (getD first k 0) (t .firsts k (u .high)) (u .lined))
 
   none-6 : ((j : ℕ) → Unstarted first starter j → ⊥) → neverStarted p ≡ none
   unfolding neverStarted refuseAt unstarted
   none-6 f =
       ap (refuseAt (λ j. NeverStarted (lineNumber (headD (firstLine j p) 0))))
-      (Tab.first-none (unstarted p) 1 maxJob (λ j a b. falsely (unstarted p j) (λ z. f j (same-job j (omega arith) z
-      a))))
+      (Tab.first-none (unstarted p) 1 maxJob
+      (λ j a b. falsely (unstarted p j) (λ z. f j (same-job j (omega arith) z a))))
 
   -- The theorem: where no line has a fault, the tests after the last line find the plan's.
   pub ends-find : (r : Checked) → EndsAs first starter r → firstFault D [] p ≡ none → r ≡ checked (fault D p)

@@ -13,7 +13,7 @@ use Rattle.plan.specs.Checked.{checked}
 use Rattle.plan.specs.Jobs.{firstLines, starters}
 use Rattle.plan.specs.Tables.{Tables}
 use Rattle.plan.specs.Walk.{Walked}
-use Rattle.plan.specs.Ends.{EndsAs, Found, leftBy, ScansAs}
+use Rattle.plan.specs.Ends.{EndsAs, WholeAs, leftBy, ScansAs}
 use Rattle.plan.specs.declared.Checked.{Checked}
 use Rattle.plan.proofs.Answers.{told, untold}
 use Rattle.plan.proofs.LastFaults.{ends-find}
@@ -21,7 +21,7 @@ use Rattle.plan.proofs.Tables.{firsts-are, starters-are}
 
 module _ (p first starter : List ℕ) where
   -- a line is refused
-  pub at-a-line : (f s : List ℕ) (r : Refusal) → Walked p (Checked.Refused r) f s → Found p (Checked.Refused r)
+  pub at-a-line : (f s : List ℕ) (r : Refusal) → Walked p (Checked.Refused r) f s → WholeAs p (Checked.Refused r)
       first starter
   unfolding fault firstRefusal
   at-a-line f s r w =
@@ -32,7 +32,7 @@ module _ (p first starter : List ℕ) where
 
   -- no line is
   pub past-the-lines : (r : Checked) → Walked p Checked.Fine first starter → EndsAs first starter r
-      → Found p r first starter
+      → WholeAs p r first starter
   past-the-lines r w e =
       let t = w .tables refl in record {
         answers = ends-find devices p first starter t r e (untold (firstFault devices [] p) (w .answers));
@@ -40,7 +40,7 @@ module _ (p first starter : List ℕ) where
       }
 
   -- what is left in the lent tables
-  pub scan-refused : (f s : List ℕ) (r : Refusal) → Found p (Checked.Refused r) f s
+  pub scan-refused : (f s : List ℕ) (r : Refusal) → WholeAs p (Checked.Refused r) f s
       → ScansAs p first starter (Checked.Refused r) first starter
   scan-refused f s r w =
       let e = told (fault devices p) r (w .answers) in record {
@@ -49,7 +49,7 @@ module _ (p first starter : List ℕ) where
         starts = cc;
       }
 
-  pub scan-fine : (f s : List ℕ) → Found p Checked.Fine f s → ScansAs p first starter Checked.Fine f s
+  pub scan-fine : (f s : List ℕ) → WholeAs p Checked.Fine f s → ScansAs p first starter Checked.Fine f s
   scan-fine f s w =
       let e = untold (fault devices p) (w .answers) in
       let t = w .tables refl in record {

@@ -88,8 +88,8 @@ module _ (stack : List ℕ) (o : ℕ) where
   below (suc e) depth k =
       rw (getD-set-other stack (suc depth) (suc e) o 0 (λ q. omega arith), below e depth (omega arith))
 
-  pushed : (depth : ℕ) → suc depth < length stack → heldIn (suc depth) (set stack (suc depth) o) ≡ o ∷ heldIn depth
-      stack
+  pushed : (depth : ℕ) → suc depth < length stack
+      → heldIn (suc depth) (set stack (suc depth) o) ≡ o ∷ heldIn depth stack
   unfolding heldIn
   pushed depth h = rw (getD-set-same stack (suc depth) o 0 h, below depth depth (omega arith))
 

@@ -47,10 +47,10 @@ begins D p = record {
     lines = λ k h. absurd (omega arith);
     first-long = refl;
     starter-long = refl;
-    firsts = λ j h. rw (getD-replicate {A = ℕ} (suc maxJob) j 0 0 (omega arith)) (nothing (λ k b. absurd (omega
-        arith)));
-    starters = λ j h. rw (getD-replicate {A = ℕ} (suc maxJob) j 0 0 (omega arith)) (nothing (λ k b. absurd (omega
-        arith)));
+    firsts = λ j h. rw (getD-replicate {A = ℕ} (suc maxJob) j 0 0 (omega arith))
+        (nothing (λ k b. absurd (omega arith)));
+    starters = λ j h. rw (getD-replicate {A = ℕ} (suc maxJob) j 0 0 (omega arith))
+        (nothing (λ k b. absurd (omega arith)));
   };
   jobs = λ k h. absurd (omega arith);
   prev-is = refl;
@@ -159,8 +159,8 @@ module _ (D : ℕ) (p : List ℕ) (i prev : ℕ) (held first starter : List ℕ)
         so-far = s .tables .firsts (job l) (parts .1)
 
         -- the line before is of this job
-        seen : (k : ℕ) → prev ≡ jobBefore p k → job l ≡ prev → First (λ x. eqb (job x) (job l)) p k (getD first (job
-            l) 0)
+        seen : (k : ℕ) → prev ≡ jobBefore p k → job l ≡ prev
+            → First (λ x. eqb (job x) (job l)) p k (getD first (job l) 0)
             → getD first (job l) 0 ≡ 0 → ⊥
         seen zero e q f z = omega (arith, parts .0)
         seen (suc k) e q f z =

@@ -63,8 +63,8 @@ module _ (f : ℕ → Bool) (p : List ℕ) (i : ℕ) where
 -- a table with one entry stored anew
 pub stored : (f : ℕ → ℕ → Bool) (p : List ℕ) (i : ℕ) (t : List ℕ) (o v : ℕ) → length t ≡ suc maxJob → o ≤ maxJob
     → ((j : ℕ) → j ≤ maxJob → First (f j) p i (getD t j 0)) → First (f o) p (suc i) v
-    → ((j : ℕ) → (o ≡ j → ⊥) → f j (at p i) ≡ false) → (j : ℕ) → j ≤ maxJob → First (f j) p (suc i) (getD (set t o
-    v) j 0)
+    → ((j : ℕ) → (o ≡ j → ⊥) → f j (at p i) ≡ false) → (j : ℕ) → j ≤ maxJob
+    → First (f j) p (suc i) (getD (set t o v) j 0)
 stored f p i t o v l b old here other j h = go (test (eqb o j))
   where
     go : (eqb o j ≡ true) ⊎ (eqb o j ≡ false) → First (f j) p (suc i) (getD (set t o v) j 0)
@@ -100,8 +100,8 @@ unfolding numberOfFirst lineNumber
 one-later [] k e = absurd (omega arith)
 one-later (x ∷ xs) k e = ap suc e
 
-pub first-line : (j : ℕ) (p : List ℕ) (m : ℕ) → First (λ l. eqb (job l) j) p (length p) m → numberOfFirst (firstLine
-    j p) ≡ m
+pub first-line : (j : ℕ) (p : List ℕ) (m : ℕ) → First (λ l. eqb (job l) j) p (length p) m
+    → numberOfFirst (firstLine j p) ≡ m
 unfolding firstLine numberOfFirst lineNumber
 first-line j [] m (nothing h) = refl
 first-line j [] m (found k b t low) = absurd (omega arith)

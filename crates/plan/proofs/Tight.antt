@@ -1,5 +1,5 @@
--- How tight the promise of `plan::scan` is (01, "How tight the statements are"): any two outcomes that satisfy it are
--- equal. The answers of `plan::fault`, `plan::lines_fault` and `plan::mate` stand in their contracts as equations.
+-- How tight the promise of `plan::scan` is (01, "How tight the statements are"): it leaves one outcome. The answers
+-- of `plan::fault` and `plan::lines_fault` stand in their contracts as equations.
 use Prim.Native.Nat.{ℕ}
 use mathlib.Core.List.{List}
 use mathlib.Core.Path.{_≡_, sym, _∙_}

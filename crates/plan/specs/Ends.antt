@@ -49,7 +49,7 @@ pub data EndsAs (first starter : List ℕ) : Checked → Type 0 where
       → EndsAs first starter Checked.Fine
 
 -- what the walk and these tests find together: the fault, and the tables where there is none
-pub record Found (p : List ℕ) (answer : Checked) (first starter : List ℕ) : Type 0 where
+pub record WholeAs (p : List ℕ) (answer : Checked) (first starter : List ℕ) : Type 0 where
   pub answers : answer ≡ checked (fault devices p)
   pub tables : answer ≡ Checked.Fine → (first ≡ firstLines p) × (starter ≡ starters p)
 

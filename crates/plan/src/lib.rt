@@ -21,7 +21,7 @@ ghost use Rattle.sets.specs.Both.{differ};
 ghost use Rattle.sets.specs.Only.{onlyOf};
 ghost use Rattle.plan.specs.Checked.{checked};
 ghost use Rattle.plan.specs.Tables.{none-yet, Tables};
-ghost use Rattle.plan.specs.Ends.{lowerOf, earlierOf, EndsAs, Found, ScansAs};
+ghost use Rattle.plan.specs.Ends.{lowerOf, earlierOf, EndsAs, WholeAs, ScansAs};
 ghost use Rattle.plan.specs.Walk.{placeFault, ruleOf, stepOf, heldIn, Holding, Walking, Walked};
 ghost use Rattle.plan.specs.Walk.{breaks, depthAfter, setAfter, nextBy, HoldingBy, WalkingBy};
 
@@ -38,7 +38,7 @@ pub enum After {
 }
 
 // Where the devices held stand, the latest last: above place 0, which is no device's, and with room for one more.
-const PLACES: usize = EACH_DEVICE + 2;
+const STACK_PLACES: usize = EACH_DEVICE + 2;
 
 // The first three tests of the line at position i, after a line of job `prev`, which is 0 before the first. No test
 // asks whether the job is the same, which cannot be foretold.
@@ -72,7 +72,7 @@ fn deeper(depth: u32, takes: bool, gives: bool) -> u32
 // The rule of a do, a take or a give, at position i, without a branch on the verb: verbs come in no order, so that the
 // processor would guess such a branch wrong at every other line. The operand is stored above the devices held whatever
 // the verb; it counts where the depth goes up. Place 0 has a number that no give names.
-fn held_after(i: usize, n: u32, depth: u32, held: Set, stack: &mut [u32; PLACES]) -> After
+fn held_after(i: usize, n: u32, depth: u32, held: Set, stack: &mut [u32; STACK_PLACES]) -> After
     requires { ⌜ (i < maxLines) × (isLine devices n ≡ true) × (isStart n ≡ false) × Holding depth held (now stack) ⌝ }
     ensures led { λ r. ⌜ ((first starter : List ℕ) → nextBy r (now (stack .exit)) first starter
         ≡ ruleOf i n (heldIn depth (now (stack .entry))) first starter) ⌝ }
@@ -101,7 +101,7 @@ fn rule(
     n: u32,
     depth: u32,
     held: Set,
-    stack: &mut [u32; PLACES],
+    stack: &mut [u32; STACK_PLACES],
     starter: &mut [u32; EACH_JOB],
 ) -> After
     requires { ⌜ (i < maxLines) × (isLine devices n ≡ true) × Holding depth held (now stack)
@@ -131,7 +131,7 @@ fn checked_line(
     prev: u32,
     depth: u32,
     held: Set,
-    stack: &mut [u32; PLACES],
+    stack: &mut [u32; STACK_PLACES],
     first: &mut [u32; EACH_JOB],
     starter: &mut [u32; EACH_JOB],
 ) -> After
@@ -157,7 +157,7 @@ fn walk(plan: &[u32], first: &mut [u32; EACH_JOB], starter: &mut [u32; EACH_JOB]
     requires { ⌜ (now first ≡ none-yet) × (now starter ≡ none-yet) ⌝ }
     ensures { λ r. ⌜ Walked (now (plan .entry)) r (now (first .exit)) (now (starter .exit)) ⌝ }
 {
-    let mut stack = [DEVICES; PLACES];
+    let mut stack = [DEVICES; STACK_PLACES];
     let mut depth: u32 = 0;
     let mut held: Set = sets::NONE;
     let mut prev: u32 = 0;
@@ -206,7 +206,8 @@ fn earlier(low: u32, first: u32, starter: u32) -> u32
     line::choose((low == 0) & (starter == 0), first, low)
 }
 
-// The tests after the last line: 5 for jobs without lines, then 6. Job 1 is the one that no line starts.
+// The tests after the last line, of every job but job 1, which no line starts: 5 where one that is started has no line,
+// and where none is so, 6.
 fn ends(first: &[u32; EACH_JOB], starter: &[u32; EACH_JOB]) -> Checked
     requires { ⌜ (length (now first) ≡ suc maxJob) × (length (now starter) ≡ suc maxJob) ⌝ }
     ensures { λ r. ⌜ EndsAs (now (first .entry)) (now (starter .entry)) r ⌝ }
@@ -233,7 +234,7 @@ fn ends(first: &[u32; EACH_JOB], starter: &[u32; EACH_JOB]) -> Checked
 // The fault of a plan, and its tables where it has none.
 fn whole(plan: &[u32], first: &mut [u32; EACH_JOB], starter: &mut [u32; EACH_JOB]) -> Checked
     requires { ⌜ (now first ≡ none-yet) × (now starter ≡ none-yet) ⌝ }
-    ensures { λ r. ⌜ Found (now (plan .entry)) r (now (first .exit)) (now (starter .exit)) ⌝ }
+    ensures { λ r. ⌜ WholeAs (now (plan .entry)) r (now (first .exit)) (now (starter .exit)) ⌝ }
 {
     if let Checked::Refused(r) = walk(plan, first, starter) {
         return Checked::Refused(r);

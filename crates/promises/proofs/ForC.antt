@@ -41,11 +41,11 @@ use Rattle.theory.proofs.Text.{text-length}
 use Rattle.theory.proofs.Reader.{RightAnswer, next-right}
 use Rattle.theory.proofs.Offsets.{StandsAt, from-stands, one-past}
 use Rattle.theory.proofs.Printed.{broken-bounds, held-few}
-use Rattle.refusals.specs.InOne.{inOne}
+use Rattle.model.specs.InOne.{half, inOne}
 use Rattle.promises.specs.Outcome.{MeetsInOne, faulty, short, further}
 use Rattle.promises.specs.Text.{ReadsAs, Asked}
 use Rattle.promises.specs.Move.{NotMoved, notATake, noSuchDevice, staleTable, takeOfHeld}
-use Rattle.promises.specs.ForC.{HandsOutForC, ReadsForC, WritesForC, TablesForC, JudgesForC, MovesForC, word}
+use Rattle.promises.specs.ForC.{HandsOutForC, ReadsForC, WritesForC, TablesForC, JudgesForC, MovesForC}
 use Rattle.promises.specs.ForC.{StandsFor, aCount, aRefusal, ReadOff, LineStandsFor, theEnd, aLine, noLine}
 use Rattle.promises.specs.ForC.{AskedForC}
 use Rattle.promises.proofs.Tight.{by-refusal, by-none}
@@ -68,13 +68,13 @@ one-number x n a b (aRefusal r g e f) (aRefusal s h u v) = ap (x .refused) (one-
 
 -- no value of an entry has more than 32 bits
 record Small {A L S : Type 0} {B F : Refusal → Type 0} (e : Entry A L S B F) : Type 0 where
-  broken : (r : Refusal) → B r → placeOf r < word
-  needed : S → e .needed < word
-  further : S → (r : Refusal) → F r → placeOf r < word
-  count : S → e .count < word
+  broken : (r : Refusal) → B r → placeOf r < half
+  needed : S → e .needed < half
+  further : S → (r : Refusal) → F r → placeOf r < half
+  count : S → e .count < half
 
 module _ {A L S : Type 0} {B F : Refusal → Type 0} (e : Entry A L S B F) (s : Small e) where
-  place-small : (r : Refusal) → Case e r → placeOf r < word
+  place-small : (r : Refusal) → Case e r → placeOf r < half
   place-small r (faulty q b) = s .broken q b
   place-small r (short w h) = s .needed w
   place-small r (further q w h f) = s .further w q f
@@ -98,7 +98,7 @@ module _ {A L S : Type 0} {B F : Refusal → Type 0} (e : Entry A L S B F) (s : 
       is : n ≡ e .count
       is = let z = (rw h at (m .answers)) ∙ ap inOne (e .answers .of-done (e .count)) in omega (arith, z)
 
-      small : n < word
+      small : n < half
       small = omega (arith, is, s .count (passed-exactly e .0 h .0))
 
   reads-refusal : (n : ℕ) (left : L) → MeetsInOne (e .answers .values) (outcomeOf e) n left → (r : Refusal)
@@ -119,10 +119,10 @@ module _ {A L S : Type 0} {B F : Refusal → Type 0} (e : Entry A L S B F) (s : 
       leaves : left ≡ e .lent
       leaves = rw h at (m .leaves)
 
-      is : n ≡ numberOf r * word + placeOf r
+      is : n ≡ numberOf r * half + placeOf r
       is = (rw h at (m .answers)) ∙ ap inOne (e .answers .of-refused r)
 
-      small : placeOf r < word
+      small : placeOf r < half
       small = place-small r (listed-exactly e r .0 h)
 
   says : (n : ℕ) (left : L) → MeetsInOne (e .answers .values) (outcomeOf e) n left → Says n left
@@ -135,7 +135,7 @@ module _ {A L S : Type 0} {B F : Refusal → Type 0} (e : Entry A L S B F) (s : 
 -- ---- the entries
 
 -- a plan's faults are at lines of at most 1,025
-fault-small : (p : List ℕ) (r : Refusal) → Broken devices p r → placeOf r < word
+fault-small : (p : List ℕ) (r : Refusal) → Broken devices p r → placeOf r < half
 fault-small p r b = omega (arith, broken-bounds devices p r b .1)
 
 pub read-number : (text lent : List ℕ) (n : ℕ) (left : List ℕ) → ReadsForC text lent n left
@@ -148,7 +148,7 @@ read-number text lent = says (readEntry text lent) (record {
   count = λ w. omega (arith, w .1 .few);
 })
   where
-    text-small : (r : Refusal) → TextBroken devices text r → placeOf r < word
+    text-small : (r : Refusal) → TextBroken devices text r → placeOf r < half
     text-small r (tooLong h) = omega arith
     text-small r (spells q h b) = fault-small (spelt devices text) q b
 
@@ -182,7 +182,7 @@ verdict-number plan lent = says (verdict.entry plan lent) (record {
   count = λ w. omega (arith, held-few devices plan);
 })
   where
-    device-small : (r : Refusal) → NoOrder devices plan r → placeOf r < word
+    device-small : (r : Refusal) → NoOrder devices plan r → placeOf r < half
     device-small r (twice d h l f) = omega arith
     device-small r (back d f h l g) = omega arith
 
@@ -197,7 +197,7 @@ changed-few p t u =
     )
 
 -- line and device are numbers of 32 bits
-pub move-number : (p t : List ℕ) (line device : ℕ) → line < word → device < word → (n : ℕ) (p′ t′ : List ℕ)
+pub move-number : (p t : List ℕ) (line device : ℕ) → line < half → device < half → (n : ℕ) (p′ t′ : List ℕ)
     → MovesForC p t line device n p′ t′
     → ReadOff moveValues MoveAnswer.Changed MoveAnswer.Refused (moving devices p t line device)
     (record { plan = p; sets = t }) n (record { plan = p′; sets = t′ })
@@ -219,7 +219,7 @@ move-number p t line device lineSmall deviceSmall n p′ t′ =
     i : ℕ
     i = askedAt line
 
-    place-fits : WellFormed devices p → (r : Refusal) → NotMoved p t line device r → placeOf r < word
+    place-fits : WellFormed devices p → (r : Refusal) → NotMoved p t line device r → placeOf r < half
     place-fits w r (notATake x) = lineSmall
     place-fits w r (noSuchDevice x h) = deviceSmall
     place-fits w r (staleTable k x h s) =
@@ -234,7 +234,7 @@ move-number p t line device lineSmall deviceSmall n p′ t′ =
 -- ---- the line entry
 
 -- a line's number is not 0, and has 32 bits
-line-small : (n : ℕ) → isLine devices n ≡ true → (0 < n) × (n < word)
+line-small : (n : ℕ) → isLine devices n ≡ true → (0 < n) × (n < half)
 unfolding job
 line-small n h = let r = line-parts devices n h in (omega (arith, r .0), omega (arith, r .1))
 

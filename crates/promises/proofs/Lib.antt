@@ -1,5 +1,5 @@
--- What is shown of the promises. `Tight`: each leaves one outcome per input. `Outcome`: one law for every entry that is
--- lent a list. The others: what follows, entry by entry. They lean on `model` and `theory` alone, not on code.
+-- What is shown of the promises. `Tight`: each leaves one outcome per input; of `print`, that is shown in `Printing`.
+-- `Outcome`: one law for every entry that is lent a list. The others: what follows, entry by entry.
 pub mod Tight
 pub mod Outcome
 pub mod Text

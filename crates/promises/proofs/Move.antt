@@ -152,7 +152,7 @@ module _ (p t : List ℕ) (line device : ℕ) where
   unfolding moving moveRefusal
   refused-leaves r p′ t′ m = one.refused-leaves (entry p t line device) (MoveAnswer.Refused r) (left p′ t′) m r refl
 
-  -- no verdict refuses a move: plans with verdict 9 or 10 may be moved too
+  -- a move is never refused by 9 or 10
   pub no-verdict-bars : (r : Refusal) (p′ t′ : List ℕ) → MovesAs p t line device (MoveAnswer.Refused r) p′ t′
       → (numberOf r ≢ 9) × (numberOf r ≢ 10)
   unfolding moveRefusal
@@ -182,7 +182,7 @@ module _ (p t : List ℕ) (line device : ℕ) where
           ap (λ (l : Lent). length (l .sets)) f
           ∙ length-rewritten (edited p (askedAt line) device) t (way p (askedAt line))
 
-  -- moving to the present device, where no test refuses, is accepted, with 0, and changes nothing
+  -- unless a test refuses, a claim moved to where it is counts 0, and all stays
   pub unrefused-stays-put : moveRefusal devices p t line device ≡ none → deviceAt p (askedAt line) ≡ device
       → (a : MoveAnswer) (p′ t′ : List ℕ) → MovesAs p t line device a p′ t′
       → (a ≡ MoveAnswer.Changed 0) × (p′ ≡ p) × (t′ ≡ t)

@@ -205,15 +205,16 @@ module _ (text : List ℕ) (offset : ℕ → ℕ) (answer : ℕ → LineAnswer) 
           → Comes text n (nextLine devices text (cursorAt devices text n))
       go (inr long) b c d = rw (lt-ltb maxBytes (length text) long) (tooLong long)
       go (inl short) (inl none) c d =
-          rw (reader-end devices text short n few lines (sym (spelt-length devices text) ∙ all none)) (end (all none))
+          rw (reader-end devices text short n few lines (sym (spelt-length devices text) ∙ all none))
+          (end short (all none))
       go (inl short) (inr b) (inl many) d =
           rw (reader-many devices text short n few lines many (omega (arith, spelt-length devices text)))
-          (tooMany many b)
+          (tooMany short many b)
       go (inl short) (inr b) (inr c) (inl d) =
-          rw (reader-line devices text short n few lines c d) (line (cursorAt devices text (suc n)) c d)
+          rw (reader-line devices text short n few lines c d) (line (cursorAt devices text (suc n)) short c d)
       go (inl short) (inr b) (inr c) (inr d) =
           rw (reader-malformed devices text short n few lines (lit≤ tt) c (omega (arith, spelt-length devices text)) d)
-          (malformed c b d)
+          (malformed short c b d)
 
   -- Where no line came, the same answer comes ever after.
   pub same-ever-after : (k : ℕ) → NoLine (answer k) → (m : ℕ) → answer (k + m) ≡ answer k

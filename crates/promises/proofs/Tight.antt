@@ -12,7 +12,7 @@ use Rattle.model.specs.declared.Refusal.{Refusal}
 use Rattle.model.specs.declared.Cursor.{Cursor}
 use Rattle.model.specs.declared.LineAnswer.{LineAnswer}
 use Rattle.theory.proofs.Answers.{one-line-answer}
-use Rattle.refusals.specs.InOne.{inOne}
+use Rattle.model.specs.InOne.{inOne}
 use Rattle.promises.specs.Outcome.{Meets, MeetsInOne}
 use Rattle.promises.specs.Text.{HandsOutAs}
 use Rattle.promises.specs.Screen.{ScreensAs}

@@ -13,7 +13,7 @@ use Rattle.model.specs.declared.Refusal.{Refusal}
 use Rattle.model.specs.declared.Cursor.{Cursor}
 use Rattle.model.specs.declared.LineAnswer.{LineAnswer}
 use Rattle.theory.specs.Text.{PastNewline}
-use Rattle.refusals.specs.InOne.{inOne}
+use Rattle.model.specs.InOne.{half, inOne}
 use Rattle.promises.specs.Outcome.{Meets, MeetsInOne}
 
 -- the line that a reader of the text hands out at an offset
@@ -38,15 +38,11 @@ MovesForC p t line device answer p′ t′ =
 
 -- ---- what a number says
 
--- from here on it is a refusal's
-abbrev pub word : ℕ
-word = 4294967296
-
 -- A number stands for one answer: below 2^32 it is the count; from there on the upper half is a refusal's number, and
 -- the lower half its place.
 pub data StandsFor {A : Type 0} (done : ℕ → A) (refused : Refusal → A) (n : ℕ) : A → Type 0 where
-  aCount : n < word → StandsFor done refused n (done n)
-  aRefusal : (r : Refusal) → word ≤ n → numberOf r ≡ n / word → placeOf r ≡ n % word
+  aCount : n < half → StandsFor done refused n (done n)
+  aRefusal : (r : Refusal) → half ≤ n → numberOf r ≡ n / half → placeOf r ≡ n % half
       → StandsFor done refused n (refused r)
 
 -- What an entry's number and the lists left say: the answer that it stands for is that of the entry behind; it is below
@@ -56,14 +52,14 @@ pub record ReadOff {A L : Type 0} (values : A → List ℕ) (done : ℕ → A) (
   pub answer : A
   pub behind : Meets values o answer left
   pub stands : StandsFor done refused n answer
-  pub below : (n < word) ↔ ((k : ℕ) × (answer ≡ done k))
-  pub kept : word ≤ n → left ≡ lent
+  pub below : (n < half) ↔ ((k : ℕ) × (answer ≡ done k))
+  pub kept : half ≤ n → left ≡ lent
 
 -- the same of the line entry, which is lent nothing to write to: 0 is the end, and no line's number
 pub data LineStandsFor (n : ℕ) : LineAnswer → Type 0 where
   theEnd : n ≡ 0 → LineStandsFor n LineAnswer.End
-  aLine : (next : Cursor) → 0 < n → n < word → LineStandsFor n (LineAnswer.Line n next)
-  noLine : (r : Refusal) → word ≤ n → numberOf r ≡ n / word → placeOf r ≡ n % word
+  aLine : (next : Cursor) → 0 < n → n < half → LineStandsFor n (LineAnswer.Line n next)
+  noLine : (r : Refusal) → half ≤ n → numberOf r ≡ n / half → placeOf r ≡ n % half
       → LineStandsFor n (LineAnswer.Refused r)
 
 -- The line entry asked again and again by a caller who has its numbers alone: it begins at offset 0, and goes on past
@@ -71,6 +67,6 @@ pub data LineStandsFor (n : ℕ) : LineAnswer → Type 0 where
 pub record AskedForC (text : List ℕ) (offset number : ℕ → ℕ) : Type 0 where
   pub begins : offset 0 ≡ 0
   pub answers : (k : ℕ) → HandsOutForC text (offset k) (number k)
-  pub goesOn : (k : ℕ) → 0 < number k → number k < word → PastNewline text (offset k) (offset (suc k))
+  pub goesOn : (k : ℕ) → 0 < number k → number k < half → PastNewline text (offset k) (offset (suc k))
   pub ended : (k : ℕ) → number k ≡ 0 → offset (suc k) ≡ offset k
-  pub refused : (k : ℕ) → word ≤ number k → offset (suc k) ≡ offset k
+  pub refused : (k : ℕ) → half ≤ number k → offset (suc k) ≡ offset k

@@ -9,7 +9,7 @@ use Rattle.model.specs.Lists.{over}
 use Rattle.model.specs.Entries.{Outcome}
 use Rattle.model.specs.declared.Refusal.{Refusal}
 use Rattle.model.specs.declared.Refusal.the-variants.{ListTooShort}
-use Rattle.refusals.specs.InOne.{inOne}
+use Rattle.model.specs.InOne.{inOne}
 
 pub record Meets {A L : Type 0} (values : A → List ℕ) (o : Outcome A L) (answer : A) (left : L) : Type 0 where
   pub answers : values answer ≡ values (o .answer)

@@ -14,12 +14,14 @@ pub record ScreensAs (text lent : List ℕ) (count : ℕ) (left : List ℕ) : Ty
   pub leaves : left ≡ screening devices text lent .out
 
 -- Printing is lent a plan's list and an order's too, to work in. The order's is left as the verdict on what was read
--- leaves it, if a plan was read.
+-- leaves it, if a plan was read. The plan's is left as reading leaves it: a plan that is read and then refused, by 9 or
+-- 10, stays in it. Beside the screens' buffer, which gets the refusal's line, this is a second list that does not keep
+-- its contents where a plan is refused. No caller in C or Rust meets it: `print` is not exported.
 abbrev pub orderAfter : ReadAnswer → List ℕ → List ℕ → List ℕ
 orderAfter (ReadAnswer.Lines n) plan order = judging devices (take n plan) order .left
 orderAfter (ReadAnswer.Refused r) plan order = order
 
--- with too little room for what is printed both stay as they were
+-- with a buffer under 4,027 bytes both stay as they were
 pub record PrintsAs (text plan order lent : List ℕ) (count : ℕ) (plan′ order′ left : List ℕ) : Type 0 where
   pub screens : ScreensAs text lent count left
   pub idle : length lent < screenRoom → (plan′ ≡ plan) × (order′ ≡ order)

@@ -22,8 +22,8 @@ use Rattle.theory.specs.Text.{TextBroken}
 use Rattle.promises.specs.Outcome.{Meets, Listed, NoFurther, Fills}
 
 -- the line reader is lent nothing to write to
-pub record HandsOutAs (text : List ℕ) (at : Cursor) (answer : LineAnswer) : Type 0 where
-  pub answers : lineValues answer ≡ lineValues (nextLine devices text at)
+pub record HandsOutAs (text : List ℕ) (cursor : Cursor) (answer : LineAnswer) : Type 0 where
+  pub answers : lineValues answer ≡ lineValues (nextLine devices text cursor)
 
 abbrev pub ReadsAs : List ℕ → List ℕ → ReadAnswer → List ℕ → Type 0
 ReadsAs text lent answer left = Meets readValues (reading devices text lent) answer left
@@ -62,13 +62,15 @@ pub record Asked (text : List ℕ) (offset : ℕ → ℕ) (answer : ℕ → Line
   pub answers : (k : ℕ) → answer k ≡ lineFrom devices text (offset k)
   pub goesOn : (k : ℕ) → offset (suc k) ≡ cursorAfter (cursorFrom text (offset k)) (answer k) .offset
 
--- What comes after n lines of a text: the next line, with the number that reading takes for it; or 1, 3 or 2; or,
--- nothing being left, the end.
+-- What comes after n lines of a text: 1, where the text is too long; otherwise the next line, with the number that
+-- reading takes for it; or 3 or 2; or, nothing being left, the end. No two of these hold at once.
 pub data Comes (text : List ℕ) (n : ℕ) : LineAnswer → Type 0 where
   tooLong : maxBytes < length text → Comes text n (LineAnswer.Refused TextTooLong)
-  tooMany : maxLines ≤ n → n < length (spelt devices text) → Comes text n (LineAnswer.Refused TooManyLines)
-  malformed : n < maxLines → n < length (spelt devices text) → isLine devices (at (spelt devices text) n) ≡ false
+  tooMany : length text ≤ maxBytes → maxLines ≤ n → n < length (spelt devices text)
+      → Comes text n (LineAnswer.Refused TooManyLines)
+  malformed : length text ≤ maxBytes → n < maxLines → n < length (spelt devices text)
+      → isLine devices (at (spelt devices text) n) ≡ false
       → Comes text n (LineAnswer.Refused (Malformed (lineNumber n)))
-  line : (next : Cursor) → n < maxLines → isLine devices (at (spelt devices text) n) ≡ true
+  line : (next : Cursor) → length text ≤ maxBytes → n < maxLines → isLine devices (at (spelt devices text) n) ≡ true
       → Comes text n (LineAnswer.Line (at (spelt devices text) n) next)
-  end : length (spelt devices text) ≡ n → Comes text n LineAnswer.End
+  end : length text ≤ maxBytes → length (spelt devices text) ≡ n → Comes text n LineAnswer.End

@@ -2,15 +2,13 @@
 use Prim.Native.Nat.{ℕ, _<_}
 use mathlib.Core.Bool.{true, false}
 use mathlib.Core.List.{List, [], _∷_, map}
-use mathlib.Core.Option.{Option}
 use mathlib.Core.Path.{_≡_}
 use lib.ListN.{length}
 use Rattle.model.specs.Lists.{upFrom, has, those, over}
 use Rattle.model.specs.Line.{lineNumber}
 use Rattle.model.specs.Legal.{held, Legal}
-use Rattle.model.specs.Answers.{verdictValues, firstRefusal, tooShort}
-use Rattle.model.specs.WellFormed.{WellFormed, fault}
-use Rattle.model.specs.Verdict.{noOrder}
+use Rattle.model.specs.Answers.{verdictValues}
+use Rattle.model.specs.WellFormed.{WellFormed}
 use Rattle.model.specs.Entries.{judging}
 use Rattle.model.specs.Board.{devices}
 use Rattle.model.specs.declared.Refusal.{Refusal}
@@ -21,11 +19,6 @@ use Rattle.promises.specs.Outcome.{Meets, Listed}
 
 abbrev pub JudgesAs : List ℕ → List ℕ → VerdictAnswer → List ℕ → Type 0
 JudgesAs plan lent answer left = Meets verdictValues (judging devices plan lent) answer left
-
--- the tests of a verdict, in their order: 2 to 8, 11, then 9 and 10
-abbrev pub tests : List ℕ → List ℕ → Option Refusal
-tests plan lent =
-    firstRefusal (fault devices plan ∷ tooShort (length lent) (length plan) ∷ noOrder devices plan ∷ [])
 
 -- ---- what follows
 

@@ -1,6 +1,6 @@
-// The line reader as one thin struct of the lent text and an offset (01, "Language forms in the code": lines are handed
-// out one after another from the lent text). It has no count of lines: the newlines before the offset give it, and then
-// the reader that stands at a cursor, of the crate `lines`, makes the step.
+// The line reader as one thin struct of the lent text and an offset (01, "Language forms in the code", its form for the
+// line reader). It has no count of lines: the newlines before the offset give it, and then the reader that stands at a
+// cursor, of the crate `lines`, makes the step.
 use model::Cursor;
 use model::LineAnswer;
 ghost use mathlib.Core.Path.{_≡_};

@@ -3,7 +3,7 @@ use board::MOST_LINES;
 use model::Refusal;
 ghost use mathlib.Core.Path.{_≡_};
 ghost use Rattle.model.specs.Answers.{numberOf, placeOf, refusalValues};
-ghost use Rattle.refusals.specs.InOne.{inOne};
+ghost use Rattle.model.specs.InOne.{inOne};
 
 // The place of a line too many.
 const LINE_TOO_MANY: u32 = MOST_LINES as u32 + 1;

@@ -4,7 +4,7 @@ use board::EACH_DEVICE;
 use board::EACH_JOB;
 use board::MOST_LINES;
 use board::Set;
-use claims::EACH_OPERAND;
+use line::EACH_OPERAND;
 use model::Refusal;
 use plan::Checked;
 ghost use mathlib.Core.Path.{_≡_};

@@ -12,7 +12,8 @@ ghost use Rattle.model.specs.Printed.{printedRefusal, printedOrder};
 ghost use Rattle.promises.specs.Screen.{PrintsAs, ScreensAs};
 ghost use Rattle.screen.specs.Shows.{ShowsAs};
 
-// The longest print there is: with a buffer of so many bytes everything fits.
+// The longest print there is: 14 bytes of the longest first line, and 4,013 of the numbers 1 to 1,024, each with its
+// newline. With a buffer of so many bytes everything fits.
 pub const ROOM: usize = 4027;
 
 // A refusal's line.

@@ -93,29 +93,32 @@ pub fn lowest(s: Set) -> u32
     u32::trailing_zeros(s)
 }
 
-// ---- jobs, counted from 0
+// ---- jobs, counted from 0: j stands for job j + 1, and is bit j
 
 // No job.
 pub const NO_JOBS: Jobs = 0;
+
+// The first job alone.
+const FIRST_JOB: Jobs = 1;
 
 // The set of one job; no job past the last.
 fn only_job(j: u32) -> Jobs
     ensures { λ r. ⌜ r ≡ onlyOf maxJob j ⌝ }
 {
     if j < LAST_JOB {
-        return 1u64 << j;
+        return FIRST_JOB << j;
     }
     0
 }
 
-// The set with the job.
+// The set with the job of bit j.
 pub fn with_job(s: Jobs, j: u32) -> Jobs
     ensures { λ r. ⌜ r ≡ union s (onlyOf maxJob j) ⌝ }
 {
     s | only_job(j)
 }
 
-// The set without the job.
+// The set without the job of bit j.
 pub fn without_job(s: Jobs, j: u32) -> Jobs
     ensures { λ r. ⌜ r ≡ without s (onlyOf maxJob j) ⌝ }
 {

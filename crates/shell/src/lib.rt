@@ -1,5 +1,6 @@
-// What a program does with the world around it: standard input into a lent buffer, bytes to standard output, a word on
-// standard error. No other room names the libraries of the system; what their calls do is assumed, not shown.
+// What a program does with the world around it (01, "Plans with their verdicts", its last part: what the program reads
+// and prints): standard input into a lent buffer, bytes to standard output, a word on standard error. No other room
+// names the libraries of the system; what their calls do is assumed, not shown.
 ghost use Rattle.shell.specs.Input.{Brings, Within};
 
 // What one read brought: so many bytes, the end, or nothing since it failed.

@@ -15,7 +15,7 @@ use Rattle.model.specs.Sets.{empty, only, union, member}
 use Rattle.model.specs.Line.{operand, isTake, at}
 use Rattle.model.specs.Mate.{takesAt, deviceAt, takes}
 use Rattle.model.specs.Claims.{successors, own, joined, tableOf, table, beyond}
-pub use Rattle.theory.specs.Claims.{claim, Reach, here, step, Reached}
+use Rattle.theory.specs.Claims.{claim, Reach, here, step, Reached}
 use Rattle.theory.proofs.Tests.{clash, le-or-lt}
 use Rattle.theory.proofs.Line.{inside}
 use Rattle.theory.proofs.Sets.{member-empty, member-only, in-union, in-left, in-right, in-unionOf, unionOf-in}
@@ -59,7 +59,7 @@ pub length-table : (p : List ℕ) → length (table p) ≡ length p
 unfolding table owns
 length-table p = length-tableOf (owns p) p (length-owns p)
 
--- 01's sentence: its own claim, joined with the claim sets of its successors
+-- the claim set is the union of the own claim and of what the table has for the successors
 pub claim-is : (p : List ℕ) (i : ℕ) → i < length p → claim p i ≡ union (own p i) (beyond p (table p) i)
 unfolding table beyond owns positions
 claim-is p i h =

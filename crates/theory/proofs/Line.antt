@@ -13,7 +13,7 @@ use lib.ListN.{length, List·getD-eq-default}
 use borrow.Author.Tests.{eqb-true, eq-eqb, ne-eqb, leb-true, le-leb, ltb-true, lt-ltb}
 use Rattle.model.specs.Line.{pack, job, kind, operand, isTake, isGive, isStart, starts, operandFits, isStep, isLine}
 use Rattle.model.specs.Line.{at, maxJob}
-pub use Rattle.theory.specs.Line.{Fits, ofDo, ofDevice, ofStart}
+use Rattle.theory.specs.Line.{Fits, ofDo, ofDevice, ofStart}
 use Rattle.theory.proofs.Tests.{clash, or-split, or-left, or-right, and-split, and-both, le-or-lt}
 
 -- what a number that is no line has not, a line of the plan has: past the end stands 0

@@ -21,7 +21,7 @@ use Rattle.model.specs.declared.Refusal.{Refusal}
 use Rattle.model.specs.declared.Refusal.the-variants.{TextTooLong}
 use Rattle.model.specs.declared.ReadAnswer.{ReadAnswer}
 use Rattle.model.specs.declared.WriteAnswer.{WriteAnswer}
-pub use Rattle.theory.specs.Text.{AllLines}
+use Rattle.theory.specs.Text.{AllLines}
 use Rattle.theory.specs.Text.{TextBroken, tooLong, spells}
 use Rattle.theory.proofs.Tests.{clash}
 use Rattle.theory.proofs.Fields.{lines-back, flatten-lines}

@@ -15,7 +15,7 @@ use Rattle.model.specs.WellFormed.{Rules}
 use Rattle.model.specs.Legal.{precedes}
 use Rattle.model.specs.Claims.{successors}
 use Rattle.model.specs.Move.{wayIn, way}
-pub use Rattle.theory.specs.Move.{Falls, ends, falls}
+use Rattle.theory.specs.Move.{Falls, ends, falls}
 use Rattle.theory.proofs.Tests.{clash, test, or-split, or-right, le-or-lt}
 use Rattle.theory.proofs.Lists.{has-none, has-head, has-tail, has-cases}
 use Rattle.theory.proofs.WellFormed.{start-line, any-line}

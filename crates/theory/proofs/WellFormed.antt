@@ -22,10 +22,10 @@ use Rattle.model.specs.WellFormed.{emptyStart, neverStarted, fault}
 use Rattle.model.specs.declared.Refusal.{Refusal}
 use Rattle.model.specs.declared.Refusal.the-variants.{Malformed, TooManyLines, JobOutOfSequence, BadStart}
 use Rattle.model.specs.declared.Refusal.the-variants.{NeverStarted, GiveWithoutTake, TakeOfHeld}
-pub use Rattle.theory.specs.WellFormed.{FollowsOn, heldThere, InOrder, BrokenAt, tooMany, malformed}
-pub use Rattle.theory.specs.WellFormed.{outOfSequence, badStart, badGive, takeOfHeld, Broken, atLine, noLines}
-pub use Rattle.theory.specs.WellFormed.{noStart, Sound}
-unfoldable pub use Rattle.theory.specs.WellFormed.{startsEmpty, unstarted}
+use Rattle.theory.specs.WellFormed.{FollowsOn, heldThere, InOrder, BrokenAt, tooMany, malformed}
+use Rattle.theory.specs.WellFormed.{outOfSequence, badStart, badGive, takeOfHeld, Broken, atLine, noLines}
+use Rattle.theory.specs.WellFormed.{noStart, Sound}
+use Rattle.theory.specs.WellFormed.{startsEmpty, unstarted}
 use Rattle.theory.proofs.Tests.{clash, falsely, test, or-split, or-left, or-right, and-split, and-both}
 use Rattle.theory.proofs.Tests.{and-second, le-or-lt}
 use Rattle.theory.proofs.Line.{inside, start-parts, start-of, give-no-start, take-no-start, take-no-give}

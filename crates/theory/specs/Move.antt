@@ -65,7 +65,7 @@ pub record Unmoved (D : ℕ) (p t : List ℕ) (line device : ℕ) (o : Outcome M
   pub plan : o .left .plan ≡ p
   pub sets : o .left .sets ≡ t
 
--- what any move does
+-- what a move from a plan without a fault and its own table does
 pub data Step (D : ℕ) (p t : List ℕ) (line device : ℕ) (o : Outcome MoveAnswer Lent) : Type 0 where
   refused : Unmoved D p t line device o → Step D p t line device o
   accepted : Accepted D p t line device o → Step D p t line device o

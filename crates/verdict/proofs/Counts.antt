@@ -143,8 +143,9 @@ module _ (xs : List ℕ) (s : ℕ) (h : s < length xs) where
 
   fallen : (t : Bool) → boolByte t ≤ getD xs s 0 → (d : ℕ)
       → boolByte (t && eqb s d) + getD (set xs s (getD xs s 0 - boolByte t)) d 0 ≡ getD xs d 0
-  fallen t f d = ap (λ (n : ℕ). boolByte (t && eqb s d) + n) (at-set (getD xs s 0 - boolByte t) d) ∙ go t f (eqb s
-      d) refl
+  fallen t f d =
+      ap (λ (n : ℕ). boolByte (t && eqb s d) + n) (at-set (getD xs s 0 - boolByte t) d)
+      ∙ go t f (eqb s d) refl
     where
       go : (t : Bool) → boolByte t ≤ getD xs s 0 → (b : Bool) → eqb s d ≡ b
           → boolByte (t && b) + cond b (getD xs s 0 - boolByte t) (getD xs d 0) ≡ getD xs d 0
@@ -286,8 +287,8 @@ module _ {p : List ℕ} (w : WellFormed devices p) where
       );
       scarce-are = λ d h. member-union (wa .scarce) (scarceIf (isTake (at p x) && leb (getD counts s 0) 2) s) d
           ∙ rw (
-            ap (λ (n : ℕ). member n d) e ∙ c .scarce-are d h ∙ ap (λ (n : ℕ). leb n 1) (sym (c .counts-are d h) ∙
-                before d h),
+            ap (λ (n : ℕ). member n d) e ∙ c .scarce-are d h
+                ∙ ap (λ (n : ℕ). leb n 1) (sym (c .counts-are d h) ∙ before d h),
             member-scarce (isTake (at p x) && leb (getD counts s 0) 2) s d h,
           )
           (scarce-now (isTake (at p x)) (eqb s d) (getD counts s 0) (wanted p (done ++ (x ∷ [])) d)

@@ -23,7 +23,7 @@ module _ (w : Waiting) (s : ℕ) where
   unfolding waits
   by-job h = rw (lt-ltb s maxJob h)
 
-  by-device : maxJob ≤ s → waits w s ≡ member (w .standing) (s - maxJob)
+  by-device : maxJob ≤ s → waits w s ≡ member (w .awaited) (s - maxJob)
   unfolding waits
   by-device h = rw (le-ltb s maxJob h)
 
@@ -36,12 +36,12 @@ module _ (f : ℕ → ℕ → ℕ) (g : Bool → Bool → Bool)
   waits-changed w s e h = go (le-or-lt maxJob s) (le-or-lt maxJob e)
     where
       inJobs : Waiting
-      inJobs = record { ready = f (w .ready) (onlyOf maxJob s); standing = w .standing; scarce = w .scarce }
+      inJobs = record { ready = f (w .ready) (onlyOf maxJob s); awaited = w .awaited; scarce = w .scarce }
 
       inDevices : Waiting
       inDevices = record {
         ready = w .ready;
-        standing = f (w .standing) (onlyOf devices (s - maxJob));
+        awaited = f (w .awaited) (onlyOf devices (s - maxJob));
         scarce = w .scarce;
       }
 
@@ -64,7 +64,7 @@ module _ (f : ℕ → ℕ → ℕ) (g : Bool → Bool → Bool)
           (by-job inDevices e b ∙ sym (by-job w e b) ∙ keeps (waits w e))
       go (inl a) (inl b) =
           rw (le-ltb s maxJob a)
-          (by-device inDevices e b ∙ law (w .standing) (onlyOf devices (s - maxJob)) (e - maxJob)
+          (by-device inDevices e b ∙ law (w .awaited) (onlyOf devices (s - maxJob)) (e - maxJob)
           ∙ rw (by-device w e b, member-only-of devices (s - maxJob) (e - maxJob) (omega arith), shifted a b))
 
 pub waits-taken : (w : Waiting) (s e : ℕ) → e < allPlaces → waits (taken w s) e ≡ (waits w e || eqb s e)
@@ -99,20 +99,20 @@ unfolding foremost
 the-foremost w = jobs (lowestOf maxJob (w .ready)) (lowest maxJob (w .ready))
   where
     free : ℕ
-    free = both (w .standing) (w .scarce)
+    free = both (w .awaited) (w .scarce)
 
-    at-device : (d : ℕ) → waits w (maxJob + d) ≡ member (w .standing) d
+    at-device : (d : ℕ) → waits w (maxJob + d) ≡ member (w .awaited) d
     at-device d = let z : maxJob + d - maxJob ≡ d = omega arith in by-device w (maxJob + d) (omega arith) ∙ rw z
 
     not-both : (d : ℕ) → member free d ≡ false → waits w (maxJob + d) ≡ true → member (w .scarce) d ≡ false
     not-both d n h =
-        and-second (member (w .standing) d) (member (w .scarce) d) (sym (at-device d) ∙ h)
-        (sym (member-both (w .standing) (w .scarce) d) ∙ n)
+        and-second (member (w .awaited) d) (member (w .scarce) d) (sym (at-device d) ∙ h)
+        (sym (member-both (w .awaited) (w .scarce) d) ∙ n)
 
     devs : ((k : ℕ) → k < maxJob → waits w k ≡ false) → (d : ℕ) → Lowest devices free d → Foremost w (maxJob + d)
     devs idle d (found m h e low) =
-        let r = and-split (member (w .standing) d) (member (w .scarce) d)
-        (sym (member-both (w .standing) (w .scarce) d) ∙ e) in
+        let r = and-split (member (w .awaited) d) (member (w .scarce) d)
+        (sym (member-both (w .awaited) (w .scarce) d) ∙ e) in
         ofDevice idle d h (at-device d ∙ r .0) (r .1) (λ k g. not-both k (low k g))
     devs idle d (nothing f) = ofNone idle (λ k g. not-both k (f k g))
 

@@ -37,7 +37,7 @@ use Rattle.verdict.proofs.Choosing.{Accepted, Going, GoesNext, foremost
 -- no line waits
 unfoldable pub idle : ℕ → Waiting
 unfolding empty
-idle scarce = record { ready = empty; standing = empty; scarce = scarce }
+idle scarce = record { ready = empty; awaited = empty; scarce = scarce }
 
 -- a line goes next and all others that stand next wait at their places
 pub record Chooses (p done places : List ℕ) (scarce : ℕ) (c : Choice) : Type 0 where

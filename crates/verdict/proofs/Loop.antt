@@ -25,8 +25,8 @@ use Rattle.theory.proofs.WellFormed.{no-fault-exactly}
 use Rattle.theory.proofs.Verdict.{OrderView, accepted, order-view}
 use Rattle.verdict.specs.declared.waiting.Waiting.{Waiting}
 use Rattle.verdict.specs.declared.order.Choice.{Choice}
-use Rattle.verdict.specs.Waiting.{Marked, Listed, allPlaces, foremost, tallied, scarceBelow, counted, passed}
-use Rattle.verdict.specs.Waiting.{replaced, goesOn, choosing, CanFall}
+use Rattle.verdict.specs.Waiting.{Marked, FirstsListed, allPlaces, foremost, tallied, scarceBelow, counted}
+use Rattle.verdict.specs.Waiting.{passed, replaced, goesOn, choosing, CanFall}
 use Rattle.verdict.proofs.Counts.{can-fall}
 use Rattle.verdict.proofs.Choosing.{Accepted}
 use Rattle.verdict.proofs.Keeping.{idle, Chooses, Keeps, keeps-first, keeps-place, keeps-choice, keeps-on}
@@ -71,7 +71,7 @@ over-more f xs old x h =
 pub record Handing (p first lasting old order places counts : List ℕ) (wa : Waiting) (on : Bool) (i k : ℕ)
     : Type 0 where
   pub marked : Marked p lasting
-  pub listed : Listed p first
+  pub listed : FirstsListed p first
   pub ok : Accepted p
   pub room : length p ≤ length old
   pub done : List ℕ
@@ -79,7 +79,7 @@ pub record Handing (p first lasting old order places counts : List ℕ) (wa : Wa
   pub keeps : Keeps p done places counts wa on i
   pub written : order ≡ over (map lineNumber done) old
 
-pub hands-first : {p first lasting old counts : List ℕ} {s : ℕ} → Marked p lasting → Listed p first
+pub hands-first : {p first lasting old counts : List ℕ} {s : ℕ} → Marked p lasting → FirstsListed p first
     → noOrder devices p ≡ none
     → length p ≤ length old → counts ≡ tallied p (length p) → s ≡ scarceBelow counts devices
     → Handing p first lasting old old (replicate allPlaces 0) counts (idle s) true 0 0
@@ -124,7 +124,7 @@ module _ {p first lasting old order places counts : List ℕ} {wa : Waiting} {on
       a-line = next .going .stands .line
 
       -- what doing the line asks
-      pub asks : (Marked p lasting × Listed p first × (c .line < length p))
+      pub asks : (Marked p lasting × FirstsListed p first × (c .line < length p))
           × ((length places ≡ allPlaces) × CanFall counts (at p (c .line)))
       asks = (
         (h .marked, h .listed, a-line),

@@ -11,21 +11,20 @@ use Rattle.model.specs.Line.{lineNumber}
 use Rattle.model.specs.WellFormed.{fault}
 use Rattle.model.specs.Handed.{handed}
 use Rattle.model.specs.Verdict.{noOrder, heldAtEnd}
-use Rattle.model.specs.Entries.{judging}
+use Rattle.model.specs.Entries.{verdictRefusal, judging}
 use Rattle.model.specs.Board.{devices}
 use Rattle.model.specs.declared.Refusal.{Refusal}
 use Rattle.model.specs.declared.Refusal.the-variants.{ListTooShort}
 use Rattle.model.specs.declared.VerdictAnswer.{VerdictAnswer}
-use Rattle.promises.specs.Verdict.{JudgesAs, tests}
+use Rattle.promises.specs.Verdict.{JudgesAs}
 use Rattle.promises.proofs.Tight.{by-refusal, by-none}
 
 module _ (p lent : List ℕ) where
-  refused : (r : Refusal) → tests p lent ≡ some r → JudgesAs p lent (VerdictAnswer.Refused r) lent
+  refused : (r : Refusal) → verdictRefusal devices p lent ≡ some r → JudgesAs p lent (VerdictAnswer.Refused r) lent
   unfolding judging
   refused r e =
-      by-refusal VerdictAnswer.Refused (VerdictAnswer.Held (heldAtEnd devices p)) (over (map lineNumber (handed p))
-      lent)
-      lent (tests p lent) r e
+      by-refusal VerdictAnswer.Refused (VerdictAnswer.Held (heldAtEnd devices p))
+      (over (map lineNumber (handed p)) lent) lent (verdictRefusal devices p lent) r e
 
   -- 2 to 8
   pub faulty : (r : Refusal) → fault devices p ≡ some r → JudgesAs p lent (VerdictAnswer.Refused r) lent
@@ -50,5 +49,5 @@ module _ (p lent : List ℕ) where
       unfolding judging firstRefusal tooShort refuseIf
       ordered held left e h l = rw h
           (by-none VerdictAnswer.Refused (VerdictAnswer.Held (heldAtEnd devices p))
-          (over (map lineNumber (handed p)) lent) lent (tests p lent) left
+          (over (map lineNumber (handed p)) lent) lent (verdictRefusal devices p lent) left
           (rw (sound, le-ltb (length lent) (length p) room, e)) l)

@@ -137,8 +137,8 @@ scarce-changed f w s = go (ltb s maxJob)
   where
     go : (b : Bool)
         → cond {A = Waiting} b
-        (record { ready = f (w .ready) (onlyOf maxJob s); standing = w .standing; scarce = w .scarce })
-        (record { ready = w .ready; standing = f (w .standing) (onlyOf devices (s - maxJob)); scarce = w .scarce })
+        (record { ready = f (w .ready) (onlyOf maxJob s); awaited = w .awaited; scarce = w .scarce })
+        (record { ready = w .ready; awaited = f (w .awaited) (onlyOf devices (s - maxJob)); scarce = w .scarce })
         .scarce
         ≡ w .scarce
     go true = refl

@@ -357,8 +357,8 @@ module _ {p : List ℕ} (w : WellFormed devices p) where
             at-first (inl q) = started (eqb-true i f q, b .line)
             at-first (inr q) =
                 let n = eqb-false i f q in
-                clash (precedes p f i) (earlier-precedes p f i (omega (arith, n, b .lowest i (s .line) (sym same)))
-                same)
+                clash (precedes p f i)
+                (earlier-precedes p f i (omega (arith, n, b .lowest i (s .line) (sym same))) same)
                 (s .first f (b .line) (later-undone f (start-precedes p x f (b .start)) (started-higher f (b .start))))
 
         reason : Why p x i → Now i

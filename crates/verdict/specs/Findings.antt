@@ -5,11 +5,11 @@ use mathlib.Core.Path.{_≡_}
 use Rattle.model.specs.Board.{devices}
 use Rattle.rows.specs.Lasting.{heldToEnd, heldTwice}
 use Rattle.rows.specs.Holds.{rowsOf}
-use Rattle.verdict.specs.Waiting.{Marked, Listed}
+use Rattle.verdict.specs.Waiting.{Marked, FirstsListed}
 
 pub record Findings (p first rs lasting : List ℕ) (held twice : ℕ) : Type 0 where
   pub marked : Marked p lasting
-  pub listed : Listed p first
+  pub listed : FirstsListed p first
   pub rowsAre : rs ≡ rowsOf p
   pub toEnd : held ≡ heldToEnd devices p
   pub twiceAre : twice ≡ heldTwice devices p

@@ -31,7 +31,7 @@ pub record Marked (p lasting : List ℕ) : Type 0 where
   pub marks : lasting ≡ lastingFlags p
 
 -- it has no fault, and for each job the number of its first line is listed
-pub record Listed (p first : List ℕ) : Type 0 where
+pub record FirstsListed (p first : List ℕ) : Type 0 where
   pub sound : fault devices p ≡ none
   pub firsts : first ≡ firstLines p
 
@@ -41,23 +41,23 @@ abbrev pub allPlaces : ℕ
 allPlaces = maxJob + devices
 
 -- of a line, which is a lasting take or not; and of line i
-unfoldable pub placeOf : Bool → ℕ → ℕ
-placeOf lasts l = cond lasts (maxJob + operand l) (job l - 1)
+unfoldable pub waitingPlace : Bool → ℕ → ℕ
+waitingPlace lasts l = cond lasts (maxJob + operand l) (job l - 1)
 
 unfoldable pub placeAt : List ℕ → ℕ → ℕ
-unfolding placeOf
-placeAt p i = placeOf (lastingAt p i) (at p i)
+unfolding waitingPlace
+placeAt p i = waitingPlace (lastingAt p i) (at p i)
 
 -- a line waits at place s
 unfoldable pub waits : Waiting → ℕ → Bool
-waits w s = cond (ltb s maxJob) (member (w .ready) s) (member (w .standing) (s - maxJob))
+waits w s = cond (ltb s maxJob) (member (w .ready) s) (member (w .awaited) (s - maxJob))
 
 -- a change of the set that has place s, by the set of that place alone
 unfoldable pub withSet : (ℕ → ℕ → ℕ) → Waiting → ℕ → Waiting
 withSet f w s =
     cond (ltb s maxJob)
-    (record { ready = f (w .ready) (onlyOf maxJob s); standing = w .standing; scarce = w .scarce })
-    (record { ready = w .ready; standing = f (w .standing) (onlyOf devices (s - maxJob)); scarce = w .scarce })
+    (record { ready = f (w .ready) (onlyOf maxJob s); awaited = w .awaited; scarce = w .scarce })
+    (record { ready = w .ready; awaited = f (w .awaited) (onlyOf devices (s - maxJob)); scarce = w .scarce })
 
 -- place s is taken, and left
 unfoldable pub taken : Waiting → ℕ → Waiting
@@ -80,7 +80,7 @@ placed p places i = cond (ltb i (length p)) (set places (placeAt p i) i) places
 unfoldable pub foremost : Waiting → ℕ
 foremost w =
     cond (ltb (lowestOf maxJob (w .ready)) maxJob) (lowestOf maxJob (w .ready))
-    (maxJob + lowestOf devices (both (w .standing) (w .scarce)))
+    (maxJob + lowestOf devices (both (w .awaited) (w .scarce)))
 
 -- the line that goes next, and the lines that wait beside it: line i where its job goes on, otherwise the foremost
 unfoldable pub choosing : List ℕ → Waiting → Bool → ℕ → Choice
@@ -148,7 +148,7 @@ counted counts l = set counts (slot l) (getD counts (slot l) 0 - takesOne l)
 unfoldable pub settled : List ℕ → Waiting → ℕ → Waiting
 settled counts w l = record {
   ready = w .ready;
-  standing = w .standing;
+  awaited = w .awaited;
   scarce = union (w .scarce) (scarceIf (isTake l && leb (getD counts (slot l) 0) 2) (slot l));
 }
 

@@ -22,9 +22,10 @@ ghost use Rattle.model.specs.WellFormed.{fault};
 ghost use Rattle.model.specs.Handed.{handed};
 ghost use Rattle.model.specs.Verdict.{noOrder};
 ghost use Rattle.model.specs.Board.{devices};
-ghost use Rattle.verdict.specs.Waiting.{Marked, Listed, allPlaces, placeOf, foremost, arrived, placed, followed};
-ghost use Rattle.verdict.specs.Waiting.{goesOn, lastingAfter, startedLine, passed, replaced, choosing, added};
-ghost use Rattle.verdict.specs.Waiting.{tallied, scarceBelow, counted, settled, CanRise, CanFall};
+ghost use Rattle.verdict.specs.Waiting.{Marked, FirstsListed, allPlaces, waitingPlace, foremost, arrived};
+ghost use Rattle.verdict.specs.Waiting.{placed, followed, goesOn, lastingAfter, startedLine, passed};
+ghost use Rattle.verdict.specs.Waiting.{replaced, choosing, added, tallied, scarceBelow, counted};
+ghost use Rattle.verdict.specs.Waiting.{settled, CanRise, CanFall};
 
 // The line that goes next, and the lines that wait beside it.
 struct Choice {
@@ -35,7 +36,7 @@ struct Choice {
 // The place of a line: a lasting take's is that of its device, past those of the jobs.
 fn place(l: u32, lasting: bool) -> u32
     requires { ⌜ 1 ≤ job l ⌝ }
-    ensures { λ r. ⌜ r ≡ placeOf lasting l ⌝ }
+    ensures { λ r. ⌜ r ≡ waitingPlace lasting l ⌝ }
 {
     line::choose(lasting, LAST_JOB + line::operand(l), line::job(l) - 1)
 }
@@ -98,7 +99,7 @@ fn lasting_after(plan: &[u32], lasting: &[u8; MOST_LINES], i: usize) -> usize
 
 // The first line of the job that line `i` starts; the plan's length where it starts none.
 fn started(plan: &[u32], first: &[u32; EACH_JOB], i: usize) -> usize
-    requires { ⌜ Listed (now plan) (now first) × (i < length (now plan)) ⌝ }
+    requires { ⌜ FirstsListed (now plan) (now first) × (i < length (now plan)) ⌝ }
     ensures { λ r. ⌜ r ≡ startedLine (now (plan .entry)) i ⌝ }
 {
     let l = plan[i];
@@ -122,7 +123,7 @@ fn settle(counts: &mut [u32; EACH_DEVICE], w: Waiting, l: u32) -> Waiting
     counts[d as usize] = c - takes as u32;
     Waiting {
         ready: w.ready,
-        standing: w.standing,
+        awaited: w.awaited,
         scarce: sets::union(w.scarce, sets::only_if(takes & (c <= 2), d)),
     }
 }
@@ -137,7 +138,7 @@ fn pass(
     w: Waiting,
     i: usize,
 ) -> Waiting
-    requires { ⌜ Marked (now plan) (now lasting) × Listed (now plan) (now first) × (i < length (now plan)) ⌝ }
+    requires { ⌜ Marked (now plan) (now lasting) × FirstsListed (now plan) (now first) × (i < length (now plan)) ⌝ }
     requires { ⌜ (length (now places) ≡ allPlaces) × CanFall (now counts) (at (now plan) i) ⌝ }
     ensures { λ r. ⌜ r ≡ passed (now (plan .entry)) (now (counts .entry)) w i ⌝ }
     ensures { λ r. ⌜ now (places .exit) ≡ replaced (now (plan .entry)) (now (places .entry)) i ⌝ }
@@ -150,7 +151,7 @@ fn pass(
 }
 
 // The line that goes next: line `i` if its job goes on, otherwise the foremost of those that wait.
-fn choose(places: &[usize; PLACES], w: Waiting, on: bool, i: usize) -> Choice
+fn goes_next(places: &[usize; PLACES], w: Waiting, on: bool, i: usize) -> Choice
     requires { ⌜ (on ≡ false → foremost w < allPlaces) ⌝ }
     ensures { λ r. ⌜ r ≡ choosing (now (places .entry)) w on i ⌝ }
 {
@@ -209,7 +210,7 @@ pub fn hand_out(
     lasting: &[u8; MOST_LINES],
     order: &mut [u16],
 )
-    requires { ⌜ Marked (now plan) (now lasting) × Listed (now plan) (now first) ⌝ }
+    requires { ⌜ Marked (now plan) (now lasting) × FirstsListed (now plan) (now first) ⌝ }
     requires { ⌜ (noOrder devices (now plan) ≡ none) × (length (now plan) ≤ length (now order)) ⌝ }
     ensures { λ r. ⌜ now (order .exit) ≡ over (map lineNumber (handed (now (plan .entry)))) (now (order .entry)) ⌝ }
 {
@@ -217,7 +218,7 @@ pub fn hand_out(
     let mut counts = tally(plan);
     let mut w = Waiting {
         ready: sets::NO_JOBS,
-        standing: sets::NONE,
+        awaited: sets::NONE,
         scarce: scarce(&counts),
     };
     // Line `i` goes next if `on`: at first line 0, and then the next line of a job that goes on.
@@ -225,7 +226,7 @@ pub fn hand_out(
     let mut i: usize = 0;
     let mut k = 0;
     while k < plan.len() {
-        let c = choose(&places, w, on, i);
+        let c = goes_next(&places, w, on, i);
         i = c.line;
         order[k] = (i + 1) as u16;
         w = pass(plan, first, lasting, &mut places, &mut counts, c.others, i);

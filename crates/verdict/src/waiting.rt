@@ -14,7 +14,7 @@ pub const PLACES: usize = LAST_JOB as usize + EACH_DEVICE;
 // most one line still to do takes.
 pub struct Waiting {
     pub ready: Jobs,
-    pub standing: Set,
+    pub awaited: Set,
     pub scarce: Set,
 }
 
@@ -25,13 +25,13 @@ pub fn take_place(w: Waiting, s: u32) -> Waiting
     if s < LAST_JOB {
         return Waiting {
             ready: sets::with_job(w.ready, s),
-            standing: w.standing,
+            awaited: w.awaited,
             scarce: w.scarce,
         };
     }
     Waiting {
         ready: w.ready,
-        standing: sets::union(w.standing, sets::only(s - LAST_JOB)),
+        awaited: sets::union(w.awaited, sets::only(s - LAST_JOB)),
         scarce: w.scarce,
     }
 }
@@ -43,13 +43,13 @@ pub fn leave_place(w: Waiting, s: u32) -> Waiting
     if s < LAST_JOB {
         return Waiting {
             ready: sets::without_job(w.ready, s),
-            standing: w.standing,
+            awaited: w.awaited,
             scarce: w.scarce,
         };
     }
     Waiting {
         ready: w.ready,
-        standing: sets::without(w.standing, sets::only(s - LAST_JOB)),
+        awaited: sets::without(w.awaited, sets::only(s - LAST_JOB)),
         scarce: w.scarce,
     }
 }
@@ -62,5 +62,5 @@ pub fn foremost(w: Waiting) -> u32
     if job < LAST_JOB {
         return job;
     }
-    LAST_JOB + sets::lowest(sets::both(w.standing, w.scarce))
+    LAST_JOB + sets::lowest(sets::both(w.awaited, w.scarce))
 }

@@ -1,5 +1,5 @@
--- With the first lines of a well-formed plan, a line's set is joined as `model` joins it: its successors are the next
--- line, if that is of the same job, and for a start the first line of the started job, whose number the table has.
+-- With the first lines of a well-formed plan, a line's set is joined as `model` joins it: with what comes next in its
+-- job, and with what a start begins, whose place the table has.
 use Prim.Native.Nat.{ℕ, zero, suc, _+_, _<_, _≤_}
 use mathlib.Core.Bool.{true, false, cond}
 use mathlib.Core.List.{List, [], _∷_}

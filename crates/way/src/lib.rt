@@ -1,6 +1,7 @@
-// The way of a line (01, "Moving a claim"): the line, the earlier lines of its job, the line that starts the job, and
-// so on to line 1. It is walked from line to line, by tables of the first line of each job and of the line that starts
-// it, as `plan::scan` fills them, so that no line off the way is looked at. Each function answers for any tables.
+// The way of a line (01, "Moving a claim"): back through its job to that job's top, across to where another job starts
+// it, and on in the same manner. It is walked from line to line, by tables of the first line of each job and of the
+// line that starts it, as `plan::scan` fills them, so that no line off the way is looked at. Each function answers for
+// any tables.
 use board::Set;
 use mates::Found;
 ghost use mathlib.Core.Path.{_≡_};
@@ -64,7 +65,8 @@ fn line_before(plan: &[u32], i: usize, starter: &[u32]) -> usize
 
 // ---- a line's set, by those stored for its successors
 
-// The stored set of the line at a place; none past the table's end.
+// The stored set of the line at a place; none past the table's end. It is `entry` for sets, which need not be as
+// wide as a line.
 fn set_at(sets: &[Set], k: usize) -> Set
     ensures { λ r. ⌜ r ≡ getD (now (sets .entry)) k 0 ⌝ }
 {
@@ -121,13 +123,13 @@ pub fn stale_line(plan: &[u32], sets: &[Set], i: usize, first: &[u32], starter: 
     ensures { λ r. ⌜ r ≡ found (firstOf (staleBy (now (plan .entry)) (now (first .entry)) (now (sets .entry)))
         (wayBy (now (plan .entry)) (now (sets .entry)) (now (starter .entry)) i)) ⌝ }
 {
-    let mut line = begin(plan, sets, i);
-    while 0 < line {
-        let k = line - 1;
+    let mut next = begin(plan, sets, i);
+    while 0 < next {
+        let k = next - 1;
         if sets[k] != rejoined(plan, sets, k, first) {
             return Found::At(k);
         }
-        line = line_before(plan, k, starter);
+        next = line_before(plan, k, starter);
     }
     Found::Nothing
 }

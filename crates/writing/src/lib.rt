@@ -1,5 +1,6 @@
 // Writing a plan as text (01, "The plan as text"; "Refusal numbers" as far as it is on writing).
 use board::MOST_BYTES;
+use line::EACH_KIND;
 use model::Refusal;
 use model::WriteAnswer;
 use plan::Checked;
@@ -16,10 +17,7 @@ ghost use Rattle.writing.specs.Verbs.{verbTable, withRow, Lays};
 
 // ---- the verbs
 
-// How many verbs there are.
-const VERBS: usize = 4;
-
-// The longest has so many bytes.
+// The longest verb has so many bytes.
 const LONGEST: usize = 5;
 
 // A verb's row in their table: as many bytes as the longest has, the verb's first, and how many are the verb's.
@@ -35,10 +33,10 @@ fn set_row(table: &mut [u8], k: usize, verb: &[u8])
 }
 
 // The table of verbs, a verb a line. It is made once for a text.
-fn verb_table() -> [u8; VERBS * ROW]
+fn verb_table() -> [u8; EACH_KIND * ROW]
     ensures { λ r. ⌜ r ≡ verbTable ⌝ }
 {
-    let mut table = [0u8; VERBS * ROW];
+    let mut table = [0u8; EACH_KIND * ROW];
     set_row(&mut table, 0, b"do");
     set_row(&mut table, 1, b"take");
     set_row(&mut table, 2, b"give");

@@ -12,8 +12,13 @@ use second::orders;
 use second::plain::SCREEN;
 use second::random::{plan, wish};
 use second::read::{check_packed, write};
-use second::small::small_plans;
+use second::small::{how_many, small_plans};
 use second::Line;
+
+/// All plans of up to so many lines are tried.
+const SMALL: usize = 5;
+/// Their class.
+const ALL: &str = "plan: each of up to five lines over two devices, one action code";
 
 /// Holds the verdict on a well-formed plan against all its orders.
 fn against_all_orders(run: &mut Run, family: &str, plan: &[Line]) {
@@ -42,7 +47,7 @@ fn other_entries(run: &mut Run, packed: &[u32], text: &[u8]) {
     entries::screen(run, text, out);
 }
 
-/// Random plans of up to seven lines, each tried against all orders and then once more damaged.
+/// Drawn plans of at most seven lines, each tried against all orders and then once more damaged.
 pub fn random_plans(run: &mut Run) {
     for _ in 0..30_000 {
         let wish = wish(&mut run.random, 7, 4, 3);
@@ -80,11 +85,15 @@ pub fn rings(run: &mut Run) {
     }
 }
 
+/// The class of all small plans, with how many of them there are.
+pub fn all_class() -> (String, u64) {
+    (ALL.to_string(), how_many(SMALL))
+}
+
 /// Every well-formed plan of up to five lines over two devices, with one action code for all.
 pub fn all_plans(run: &mut Run) {
-    let mut count = 0;
-    small_plans(5, &mut |plan| {
-        count += 1;
+    small_plans(SMALL, &mut |plan| {
+        run.tally.meet(ALL);
         against_all_orders(run, "all plans to 5 lines", plan);
         let (packed, text) = (pack(plan), write(plan));
         let _ = entries::read(run, &text, packed.len());
@@ -92,5 +101,4 @@ pub fn all_plans(run: &mut Run) {
         let _ = entries::table(run, &packed, packed.len());
         entries::screen(run, &text, SCREEN);
     });
-    println!("{count} well-formed plans of up to five lines over two devices, one action code");
 }

@@ -6,8 +6,9 @@
 use crate::refusal::outcome;
 use crate::{raw, Refusal, SCREEN_ROOM};
 
-/// Reads a text into packed numbers, one a line: job × 1,024 + kind × 256 + operand, the kind of a do, take, give and
-/// start being 0 to 3. The count is that of the lines, and the list needs as many entries.
+/// Reads a text into packed numbers, one for each line: the operand, 256 times the kind and 1,024 times the job, added
+/// up, the kind of a do, take, give and start being 0 to 3. The count is that of the lines, and the list needs as many
+/// entries.
 ///
 /// Refuses with 1 to 8 what is no plan, and then with 11 a list that is too short.
 ///
@@ -72,7 +73,7 @@ pub fn verdict(plan: &[u32], order: &mut [u16]) -> Result<usize, Refusal> {
     outcome(raw::verdict(plan, order))
 }
 
-/// Moves the claim of a line, counted from 1, to another device: the take there, and its give if it has one. The sets
+/// Moves the claim of a line, counted from 1, to another device: the take there, and the give that matches it. The sets
 /// are the plan's table, from [`table`] or from earlier moves; those on the way back to line 1 are mended, and the
 /// count is that of the lines whose set is then another.
 ///
@@ -113,9 +114,9 @@ pub fn line(text: &[u8], offset: usize) -> Result<Option<u32>, Refusal> {
     Ok(if number == 0 { None } else { Some(number as u32) })
 }
 
-/// Orders a text and prints the outcome, as the program `order` does: for an order a header with the numbers of lines
-/// and of devices still held, then one line number a line; for a refused text one line that begins with `refused`. The
-/// count is that of the bytes.
+/// Orders a text and prints the outcome, as the program `order` does: for an order a first line that counts the
+/// lines and the devices that stay held, then the line numbers, each on its own line; for a refused text one line that
+/// begins with `refused`. The count is that of the bytes.
 ///
 /// The one refusal is 11, for a buffer of less than [`SCREEN_ROOM`], whatever the text. A text that is refused is no
 /// refusal here: its line is printed.

@@ -39,9 +39,9 @@ pub enum Refusal {
     TwoLasting(u32),
     /// 10: this device leads back to itself; it is the lowest such device.
     LeadsBack(u32),
-    /// 11: a lent list is too short; it needs this length.
+    /// 11: a list that was lent is too short; it needs this length.
     ListTooShort(u32),
-    /// 12: the line that was asked for, this one, is not a take of the plan.
+    /// 12: the line that was asked for, this one, is no take of the plan.
     NotATake(u32),
     /// 13: the device that was asked for, this one, is over 31.
     NoSuchDevice(u32),
@@ -134,7 +134,7 @@ impl Refusal {
                 "gives a device that is not the latest its job still holds"
             }
             Refusal::TakeOfHeld(_) => "takes a device that its job holds already",
-            Refusal::NotATake(_) => "is not a take of the plan, so it has no claim to move",
+            Refusal::NotATake(_) => "is no take of the plan, so it has no claim to move",
             Refusal::StaleTable(_) => {
                 "has a stale set: it does not follow from the plan and the sets after it"
             }

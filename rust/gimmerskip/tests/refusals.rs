@@ -55,7 +55,7 @@ const WORDS: [(Refusal, u32, u32, &str); 15] = [
         "device 0 leads back to itself: what follows its lasting take comes back to it",
     ),
     (Refusal::ListTooShort(6), 11, 6, "a lent list is too short: it needs a length of 6"),
-    (Refusal::NotATake(9), 12, 9, "line 9 is not a take of the plan, so it has no claim to move"),
+    (Refusal::NotATake(9), 12, 9, "line 9 is no take of the plan, so it has no claim to move"),
     (Refusal::NoSuchDevice(32), 13, 32, "there is no device 32: the highest is 31"),
     (
         Refusal::StaleTable(4),
@@ -152,7 +152,7 @@ fn four_to_eight_in_texts_and_packed_lists() {
         ("1 take 0; 1 take 1; 1 give 0", Refusal::GiveWithoutTake(3)),
         ("1 start 2; 1 take 0; 2 give 0", Refusal::GiveWithoutTake(3)),
         ("1 take 3; 1 take 3", Refusal::TakeOfHeld(2)),
-        // The first line with a fault decides; what only the end shows comes last, 5 before 6.
+        // The topmost fault is told; what only the end shows comes last, 5 before 6.
         ("1 start 9; 1 give 0; 7 do 0", Refusal::GiveWithoutTake(2)),
         ("1 do 0; 2 start 9; 2 do 0", Refusal::BadStart(2)),
     ];

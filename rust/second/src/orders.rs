@@ -75,7 +75,7 @@ impl Course {
     }
 }
 
-/// The number of devices still held after the order, or nothing where the order is not legal.
+/// How many devices are held once the order is through, or nothing where it is not legal.
 pub fn held_after(plan: &[Line], order: &[usize]) -> Option<u32> {
     let plan = Plan::new(plan);
     let mut course = Course::new(&plan);

@@ -5,6 +5,15 @@
 use crate::line::{Line, Verb};
 use crate::read::Rules;
 
+/// How many there are of each number of lines, from none on; those of up to four are counted once
+/// more, by other means, in the tests of the rules.
+const COUNTS: [u64; 7] = [1, 3, 12, 55, 295, 1_762, 11_597];
+
+/// How many plans `small_plans` has to show: a run that shows fewer has left some out.
+pub fn how_many(most_lines: usize) -> u64 {
+    COUNTS[..=most_lines].iter().sum()
+}
+
 /// Shows every well-formed plan of up to so many lines over two devices, with one action code for
 /// all: codes have no effect on devices.
 pub fn small_plans(most_lines: usize, show: &mut dyn FnMut(&[Line])) {

@@ -25,8 +25,8 @@ broken-at : (c : tie.Then1)
 broken-at c =
     let m = c .before .before in
     let t = m .before .before in
-    rw (m .member .ensures, m .before .is-give .ensures, t .is-take .ensures, t .before .operand .ensures) at
-    (c .if1 .taken)
+    rw (m .member .ensures, m .before .is-give .ensures, t .is-take .ensures, t .before .operand .ensures)
+    at (c .if1 .taken)
 
 fine-at : (c : tie.Else1)
     → let a = c .before .before .before .before .before .before .args in
@@ -34,8 +34,8 @@ fine-at : (c : tie.Else1)
 fine-at c =
     let m = c .before .before in
     let t = m .before .before in
-    rw (m .member .ensures, m .before .is-give .ensures, t .is-take .ensures, t .before .operand .ensures) at
-    (c .if1 .left)
+    rw (m .member .ensures, m .before .is-give .ensures, t .is-take .ensures, t .before .operand .ensures)
+    at (c .if1 .left)
 
 -- a take of what is held
 returns : tie.Need-returns

@@ -8,7 +8,7 @@ use Rattle.model.specs.Answers.{lineValues}
 use Rattle.model.specs.Board.{devices}
 use Rattle.model.specs.Text.{lineFrom}
 use Rattle.model.specs.declared.LineAnswer.{LineAnswer}
-use Rattle.refusals.specs.InOne.{inOne}
+use Rattle.model.specs.InOne.{inOne}
 use Rattle.promises.specs.ForC.{HandsOutForC}
 use Rattle.reader.proofs.gimmerskip_line.Statement.{statement}
 use Rattle.reader.proofs.gimmerskip_line.Tie as tie

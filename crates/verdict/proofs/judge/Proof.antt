@@ -71,9 +71,8 @@ returns-4 c =
     let here = test .before in
     let a = start here .args in
     let pre = start here .pre in
-    ordered (a .plan .now) (a .order .now) (pre .marked .sound) (room here .if1 .left) (c .count .result) _ (orderly
-    test)
-    (c .count .ensures ∙ count-held pre (orderly test)) (handed .hand-out .ensures)
+    ordered (a .plan .now) (a .order .now) (pre .marked .sound) (room here .if1 .left) (c .count .result) _
+    (orderly test) (c .count .ensures ∙ count-held pre (orderly test)) (handed .hand-out .ensures)
 
 pub judge-spec : {M : Type 1} → statement M
 judge-spec =

@@ -11,11 +11,11 @@ use Rattle.way.proofs.stale_line.Statement.{statement}
 use Rattle.way.proofs.stale_line.Tie as tie
 
 abbrev Inv-loop : tie.InvT-loop
-Inv-loop plan sets i first starter line₀ line = Within plan sets line
-    × (staleOf plan first sets starter i ≡ firstOf (staleBy plan first sets) (wayFrom plan starter line))
+Inv-loop plan sets i first starter next₀ next = Within plan sets next
+    × (staleOf plan first sets starter i ≡ firstOf (staleBy plan first sets) (wayFrom plan starter next))
 
 abbrev μ-loop : tie.MeasureT-loop
-μ-loop plan sets i first starter line₀ line = line
+μ-loop plan sets i first starter next₀ next = next
 
 -- the function's entry, from a turn of the loop
 abbrev entry : tie.In-loop Inv-loop μ-loop → tie.Start Inv-loop μ-loop
@@ -33,7 +33,7 @@ returns c =
     let in-loop = c .before .before .before in
     let l = in-loop .before .loop in
     let a = entry in-loop .args in
-    stale-here (a .plan .now) (a .first .now) (a .sets .now) (a .starter .now) (a .i) (l .line) (l .inv .1)
+    stale-here (a .plan .now) (a .first .now) (a .sets .now) (a .starter .now) (a .i) (l .next) (l .inv .1)
     (omega (arith, in-loop .loop-test .taken)) (c .before .rejoined .result) (c .before .rejoined .ensures)
     (c .if1 .taken)
 
@@ -45,7 +45,7 @@ loop-again c =
     let r = c .before .before .rejoined in (
       record { inPlan = search needs; stored = search needs },
       rw (c .line-before .ensures .0)
-          (stale-on (a .plan .now) (a .first .now) (a .sets .now) (a .starter .now) (a .i) (l .line) (l .inv .1)
+          (stale-on (a .plan .now) (a .first .now) (a .sets .now) (a .starter .now) (a .i) (l .next) (l .inv .1)
           (omega (arith, in-loop .loop-test .taken)) (r .result) (r .ensures) (c .before .if1 .left)),
     )
 
@@ -54,7 +54,7 @@ returns-2 : tie.Need-returns-2 Inv-loop μ-loop
 returns-2 c =
     let l = c .before .loop in
     let a = c .before .before .before .before .before .before .before .args in
-    stale-none (a .plan .now) (a .first .now) (a .sets .now) (a .starter .now) (a .i) (l .line) (l .inv .1)
+    stale-none (a .plan .now) (a .first .now) (a .sets .now) (a .starter .now) (a .i) (l .next) (l .inv .1)
     (c .loop-test .left)
 
 pub stale-line-spec : {M : Type 1} → statement M

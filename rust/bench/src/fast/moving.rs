@@ -48,7 +48,7 @@ fn before(plan: &[u32], jobs: &Jobs, at: usize) -> Option<usize> {
     }
 }
 
-/// A line's own claim joined with the stored sets of its successors.
+/// What a line takes and what is stored for its successors, in one set.
 fn joined(plan: &[u32], sets: &[u32], jobs: &Jobs, at: usize) -> u32 {
     let line = plan[at];
     let next = match plan.get(at + 1) {

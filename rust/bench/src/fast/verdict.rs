@@ -89,7 +89,7 @@ fn circles(mut rows: [u32; 32]) -> u32 {
 
 /// The lines that stand next, as sets. Which lines they are is kept apart, so that these stay in registers.
 struct Waiting {
-    /// The started jobs whose next line is not a lasting take.
+    /// The started jobs that can go on: they stand at no lasting take.
     ready: u64,
     /// The devices at whose lasting takes jobs stand.
     standing: u32,

@@ -21,7 +21,7 @@ use second::line::{pack, LINES};
 use second::plain::{passes_over, table, verdict, Order};
 use second::random::{plan, ring, wish, Cut, Random, Wish};
 use second::read::{check_packed, read, write};
-use second::small::small_plans;
+use second::small::{how_many, small_plans};
 use second::tally::{circle_class, seeded, Tally, LEAST};
 use second::{orders, Line, Refusal};
 use std::process::ExitCode;
@@ -29,7 +29,10 @@ use std::process::ExitCode;
 /// All plans of up to so many lines are tried.
 const SMALL: usize = 6;
 
-/// The classes of plans and moves that have to be met.
+/// The class of all of them.
+const ALL_SMALL: &str = "plan: small, each there is";
+
+/// The other classes of plans and moves that have to be met.
 const CLASSES: [&str; 17] = [
     "plan: accepted",
     "plan: refusal 9",
@@ -165,6 +168,7 @@ fn all_small(tally: &mut Tally) -> [u64; SMALL + 1] {
     let mut counts = [0; SMALL + 1];
     small_plans(SMALL, &mut |plan| {
         counts[plan.len()] += 1;
+        tally.meet(ALL_SMALL);
         compare_plan(tally, "all small plans", plan);
     });
     counts
@@ -183,7 +187,9 @@ fn print_small(counts: &[u64; SMALL + 1]) {
 
 fn main() -> ExitCode {
     seeded(|seed| {
-        let mut tally = Tally::new(CLASSES.map(|class| (class.to_string(), LEAST)));
+        let classes = CLASSES.iter().map(|&class| (class, LEAST));
+        let classes = classes.chain([(ALL_SMALL, how_many(SMALL))]);
+        let mut tally = Tally::new(classes.map(|(class, least)| (class.to_string(), least)));
         let mut random = Random::new(seed);
         random_plans(&mut tally, &mut random);
         rings(&mut tally, &mut random);

@@ -26,7 +26,7 @@ pub fn way(plan: &[Line], at: usize) -> Vec<usize> {
 }
 
 /// Gives the take that is line number `line`, and its give, another device, in the packed plan
-/// and in the table. The answer is the number of lines whose stored set has changed.
+/// and in the table. The answer counts the lines that got another set.
 pub fn move_claim(
     plan: &mut [u32],
     sets: &mut [u32],

@@ -6,7 +6,7 @@ use lib.ListN.{length}
 use borrow.Author.Needs.{needs}
 use borrow.Author.Tests.{lt-ltb, le-ltb}
 use Rattle.model.specs.Line.{at}
-use Rattle.verdict.specs.Waiting.{placeOf, placeAt, arrived, placed}
+use Rattle.verdict.specs.Waiting.{waitingPlace, placeAt, arrived, placed}
 use Rattle.verdict.proofs.Standing.{job-fits, place-below}
 use Rattle.verdict.proofs.Steps.{formed, few, marked}
 use Rattle.verdict.proofs.order.arrive.Statement.{statement}
@@ -28,7 +28,7 @@ its-place : (c : tie.After-place) → c .place .result ≡ placeAt (start c .arg
 unfolding placeAt
 its-place c =
     c .place .ensures
-    ∙ ap (λ (b : Bool). placeOf b (at (start c .args .plan .now) (start c .args .i)))
+    ∙ ap (λ (b : Bool). waitingPlace b (at (start c .args .plan .now) (start c .args .i)))
     (marked (start c .pre .0) (c .before .before .before .if1 .taken))
 
 in-places : tie.Need-element-write-places

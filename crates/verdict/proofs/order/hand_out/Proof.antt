@@ -27,19 +27,19 @@ loop-holds c =
     let pre = c .before .before .before .before .before .pre in
     hands-first (pre .0 .0) (pre .0 .1) (pre .1 .0) (pre .1 .1) (c .before .before .tally .ensures) (c .scarce .ensures)
 
-choose-requires : tie.Need-choose-requires Inv-loop μ-loop
-choose-requires c κs = a-place (c .before .before .loop .inv) (c .before .loop-test .taken)
+goes-next-requires : tie.Need-goes-next-requires Inv-loop μ-loop
+goes-next-requires c κs = a-place (c .before .before .loop .inv) (c .before .loop-test .taken)
 
 -- where the line is chosen: it is one of the plan's, which has at most 1,024, and so many have been done at most
-abbrev in-loop : tie.After-choose Inv-loop μ-loop → tie.In-loop Inv-loop μ-loop
+abbrev in-loop : tie.After-goes-next Inv-loop μ-loop → tie.In-loop Inv-loop μ-loop
 in-loop c = c .before .before
 
-small : (c : tie.After-choose Inv-loop μ-loop)
-    → (c .choose .result .line < maxLines) × (in-loop c .before .loop .k < maxLines)
+small : (c : tie.After-goes-next Inv-loop μ-loop)
+    → (c .goes-next .result .line < maxLines) × (in-loop c .before .loop .k < maxLines)
 small c =
     let h = in-loop c .before .loop .inv in
     let t = in-loop c .loop-test .taken in
-    (omega (arith, h .ok .formed .few, a-line h t (c .choose .ensures)), omega (arith, h .ok .formed .few, t))
+    (omega (arith, h .ok .formed .few, a-line h t (c .goes-next .ensures)), omega (arith, h .ok .formed .few, t))
 
 slice-write-order : tie.Need-slice-write-order Inv-loop μ-loop
 slice-write-order c =
@@ -48,20 +48,20 @@ slice-write-order c =
 pass-requires : tie.Need-pass-requires Inv-loop μ-loop
 pass-requires c κs =
     let here = c .before .before in
-    asks (in-loop here .before .loop .inv) (in-loop here .loop-test .taken) (here .choose .ensures)
+    asks (in-loop here .before .loop .inv) (in-loop here .loop-test .taken) (here .goes-next .ensures)
 
 goes-on-requires : tie.Need-goes-on-requires Inv-loop μ-loop
 goes-on-requires c κs =
     let here = c .before .before .before in
     let h = in-loop here .before .loop .inv in
-    (h .marked, a-line h (in-loop here .loop-test .taken) (here .choose .ensures))
+    (h .marked, a-line h (in-loop here .loop-test .taken) (here .goes-next .ensures))
 
 loop-again : tie.Need-loop-again Inv-loop μ-loop
 loop-again c =
     let here = c .before .before .before .before in
     let p = c .before .pass .ensures in
-    hands-on (in-loop here .before .loop .inv) (in-loop here .loop-test .taken) (here .choose .ensures) (p .0) (p .1 .0)
-    (p .1 .1) (c .goes-on .ensures)
+    hands-on (in-loop here .before .loop .inv) (in-loop here .loop-test .taken) (here .goes-next .ensures) (p .0)
+    (p .1 .0) (p .1 .1) (c .goes-on .ensures)
 
 same-length : tie.Need-same-length Inv-loop μ-loop
 same-length c = same-room (c .before .loop .inv)
@@ -78,7 +78,7 @@ hand-out-spec =
     tally-requires
     (λ c κs. search needs)
     loop-holds
-    choose-requires
+    goes-next-requires
     (λ c. let s = small c in omega arith)
     (λ c. let s = small c in omega arith)
     (λ c. let s = small c in omega arith)

@@ -2,7 +2,7 @@
 use native.Mathlib.Omega.{arith}
 use borrow.Author.Needs.{needs}
 use Rattle.model.specs.Line.{operand}
-use Rattle.verdict.specs.Waiting.{placeOf}
+use Rattle.verdict.specs.Waiting.{waitingPlace}
 use Rattle.verdict.proofs.order.place.Statement.{statement}
 use Rattle.verdict.proofs.order.place.Tie as tie
 
@@ -11,7 +11,7 @@ unfolding operand
 place-fits c = omega (arith, c .operand .ensures)
 
 returns : tie.Need-returns
-unfolding placeOf
+unfolding waitingPlace
 returns c = rw (c .choose .ensures, c .before .job .ensures, c .before .before .operand .ensures)
 
 pub place-spec : {M : Type 1} → statement M

@@ -25,8 +25,8 @@ found : (c : tie.After-operand) → Starts (start c .args .plan .now) (start c .
 found c = the-start (formed c) (start c .args .i) (sym (c .before .before .is-start .ensures) ∙ c .before .if1 .taken)
 
 listed : (c : tie.After-operand)
-    → getD (start c .args .first .now) (c .operand .result) 0 ≡ suc (startedLine (start c .args .plan .now) (start
-    c .args .i))
+    → getD (start c .args .first .now) (c .operand .result) 0
+    ≡ suc (startedLine (start c .args .plan .now) (start c .args .i))
 listed c =
     let a = start c .args in
     ap (λ (o : ℕ). getD (a .first .now) o 0) (c .operand .ensures)

@@ -20,7 +20,7 @@ struct Asked {
 /// The outcome of a move: the lists afterwards, and the answer.
 type Outcome = (Vec<u32>, Vec<u32>, Result<u32, Refusal>);
 
-/// The line's own claim joined with the stored sets of what follows it. Followers are found from
+/// What the line takes, joined with what is stored for the lines that follow it. Followers are found from
 /// their own side: the line below in the same job, and the first line of a job started here.
 fn stored_join(plan: &[Line], sets: &[u32], at: usize) -> u32 {
     let own = plan[at].takes().map_or(0, |device| 1 << device);
