@@ -1,13 +1,20 @@
 /*
  * Gimmerskip for C and C++: plans as text or as packed numbers, their tables of claims, their orders, and moved claims.
  *
- * Link libscreen.a for gimmerskip_order, libreader.a for gimmerskip_line and libport.a for the other five. The commands
- * `rt staticlib screen`, `rt staticlib reader` and `rt staticlib port` leave them in target/staticlib. No entry keeps
- * anything of what it is lent, and none has a memory of its own.
+ * The archives are for x86-64 Linux, with the calls of the System V ABI. Link libscreen.a for gimmerskip_order,
+ * libreader.a for gimmerskip_line and libport.a for the other five; each stands by itself. The commands `rt staticlib
+ * screen`, `rt staticlib reader` and `rt staticlib port` leave them in target/staticlib, and `install-archives PREFIX`
+ * puts them with this header and a file for pkg-config under a prefix. Of other libraries they need `memcpy` and
+ * `memset` alone, and the only names they define for others are those declared here. No entry keeps anything of what it
+ * is lent, and none has a memory of its own, so that calls on several threads meet only in what they are lent.
  *
  * A lent list is a pointer and then its length, counted in entries of the list's type.
  *   - A pointer is never null, not even where the length is 0: then it points at anything that is there.
- *   - The lists of one call do not overlap. An entry that fills one list while it reads another relies on this.
+ *   - A pointer is aligned as its type asks, and the length is true: so many entries are there, and may be written to
+ *     if the list is filled.
+ *   - The lists of one call do not overlap. The entries are proved for lists that do not; for others nothing holds, not
+ *     even that an entry stays inside what it is lent: where the sets of gimmerskip_table begin one entry before the
+ *     plan, it meets a set in place of a line that it tested, and writes to a place far off.
  *   - A list that is filled may be longer than needed; what lies past the last entry written stays as it was.
  *
  * Lines and jobs count from 1, devices from 0. A packed line is job * 1024 + kind * 256 + operand, its kind being 0 for
@@ -23,12 +30,35 @@
 extern "C" {
 #endif
 
+/* The version, in three numbers and as a text. It is that of the wrapper for Rust too. */
+#define GIMMERSKIP_VERSION_MAJOR 0
+#define GIMMERSKIP_VERSION_MINOR 1
+#define GIMMERSKIP_VERSION_PATCH 0
+#define GIMMERSKIP_VERSION "0.1.0"
+
 /* The most lines of a plan. Lists of so many entries are long enough for every plan. */
 #define GIMMERSKIP_MAX_LINES 1024
 /* The most bytes of a text. A buffer of so many bytes is long enough for every plan that is written. */
 #define GIMMERSKIP_MAX_BYTES 12288
 /* The least room that gimmerskip_order asks for: the longest print there is. */
 #define GIMMERSKIP_SCREEN_ROOM 4027
+
+/*
+ * The bytes of stack that are enough for each entry, its return address counted. What the compiled code can need at
+ * most is read off it, every way through it being followed: no function calls itself, and none moves the stack pointer
+ * by anything but fixed numbers. `memcpy` and `memset` are taken to need at most 128 bytes, return address counted.
+ * What the entries do need is measured as well, on a painted stack with the functions of libc. Each bound is a little
+ * over both, and `include/check-stack` tests it against both. Not in it is what a signal handler needs, nor what the
+ * dynamic linker needs where it looks up `memcpy` or `memset` at the first call, of which over 3,000 bytes were seen.
+ * In a program linked with -Wl,-z,now it looks them up before `main`, and in a static one there is nothing to look up.
+ */
+#define GIMMERSKIP_STACK_ORDER 12480
+#define GIMMERSKIP_STACK_LINE 704
+#define GIMMERSKIP_STACK_READ 5072
+#define GIMMERSKIP_STACK_WRITE 13200
+#define GIMMERSKIP_STACK_TABLE 1664
+#define GIMMERSKIP_STACK_VERDICT 3264
+#define GIMMERSKIP_STACK_MOVE 1456
 
 /* Why an entry refuses. Each comment says what the place of that refusal is. */
 enum gimmerskip_refusal {

@@ -22,6 +22,7 @@ mod processes;
 mod program;
 mod run;
 mod small;
+mod wrapper;
 
 use program::Program;
 use run::Run;
@@ -51,6 +52,7 @@ fn main() -> ExitCode {
         if let Some(program) = program {
             part(&mut run, "the program", |run| processes::processes(run, &program));
         }
+        part(&mut run, "the wrapper", wrapper::wrapper);
         println!();
         run.tally.print()
     })

@@ -2,7 +2,7 @@
 //! numbers of "Refusal numbers" of document 01, entry by entry, and the shapes of plans on which
 //! "Claims and rows" and "The order handed out" turn.
 
-use crate::small;
+use crate::{small, wrapper};
 use second::random::Random;
 use second::tally::{Tally, LEAST};
 use second::Refusal;
@@ -91,5 +91,6 @@ fn classes() -> Vec<(String, u64)> {
     }
     classes.extend(OTHERS.map(|class| (class.to_string(), LEAST)));
     classes.push(small::all_class());
+    classes.extend(wrapper::classes());
     classes
 }

@@ -10,6 +10,8 @@ use crate::{raw, Refusal, SCREEN_ROOM};
 /// up, the kind of a do, take, give and start being 0 to 3. The count is that of the lines, and the list needs as many
 /// entries.
 ///
+/// # Errors
+///
 /// Refuses with 1 to 8 what is no plan, and then with 11 a list that is too short.
 ///
 /// ```
@@ -27,6 +29,8 @@ pub fn read(text: &[u8], plan: &mut [u32]) -> Result<usize, Refusal> {
 /// Writes a packed plan as text. The count is that of the bytes, and the buffer needs as many;
 /// [`MAX_BYTES`](crate::MAX_BYTES) are always enough.
 ///
+/// # Errors
+///
 /// Refuses with 2 to 8 what is no plan, and then with 11 a buffer that is too short.
 ///
 /// ```
@@ -43,6 +47,8 @@ pub fn write(plan: &[u32], text: &mut [u8]) -> Result<usize, Refusal> {
 /// Works out the table of claims: for each line the set of the devices that it or what comes after it takes, device d
 /// being bit d. The count is that of the lines, and the list needs as many sets.
 ///
+/// # Errors
+///
 /// Refuses with 2 to 8 what is no plan, and then with 11 a list that is too short.
 ///
 /// ```
@@ -58,6 +64,8 @@ pub fn table(plan: &[u32], sets: &mut [u32]) -> Result<usize, Refusal> {
 
 /// Works out the order: the numbers of the lines, as they are to be done. The count is that of the devices which are
 /// still held after the last line; the list needs as many entries as there are lines.
+///
+/// # Errors
 ///
 /// Refuses with 2 to 8 what is no plan, then with 11 a list that is too short, then with 9 or 10 a plan that has no
 /// legal order.
@@ -76,6 +84,8 @@ pub fn verdict(plan: &[u32], order: &mut [u16]) -> Result<usize, Refusal> {
 /// Moves the claim of a line, counted from 1, to another device: the take there, and the give that matches it. The sets
 /// are the plan's table, from [`table`] or from earlier moves; those on the way back to line 1 are mended, and the
 /// count is that of the lines whose set is then another.
+///
+/// # Errors
 ///
 /// Refuses with 2 to 8 what is no plan, then with 11 a table that is too short, then with 12 to 14, and last with 8
 /// where the job would hold the new device twice; the place is then the take that would be the second. A plan without a
@@ -98,8 +108,11 @@ pub fn move_claim(
 }
 
 /// The packed number of the line at an offset of a text, or `None` where nothing is left. The first line stands at 0,
-/// each other one just past the newline of the line before. Tested are only the text's length, the number of the line
-/// and the line itself: 1, 3 and 2.
+/// each other one just past the newline of the line before.
+///
+/// # Errors
+///
+/// Tested are only the text's length, the number of the line and the line itself: 1, 3 and 2.
 ///
 /// ```
 /// use gimmerskip::{entries, Refusal};
@@ -117,6 +130,8 @@ pub fn line(text: &[u8], offset: usize) -> Result<Option<u32>, Refusal> {
 /// Orders a text and prints the outcome, as the program `order` does: for an order a first line that counts the
 /// lines and the devices that stay held, then the line numbers, each on its own line; for a refused text one line that
 /// begins with `refused`. The count is that of the bytes.
+///
+/// # Errors
 ///
 /// The one refusal is 11, for a buffer of less than [`SCREEN_ROOM`], whatever the text. A text that is refused is no
 /// refusal here: its line is printed.

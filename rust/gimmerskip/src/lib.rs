@@ -1,12 +1,18 @@
 //! The proved order maker for Rust callers.
 //!
 //! A plan is a list of steps, one a line, each of a job: it takes a shared device, gives it back, starts another job or
-//! does something that touches no device. [`Plan`] reads a plan and gives its order, its table of claims and its text;
-//! the functions of [`entries`] do the same on slices that the caller lends. What is refused comes back as a
-//! [`Refusal`], which says in words what is wrong and where.
+//! does something that touches no device. [`Plan`] reads a plan and gives its order, its steps, its table of claims and
+//! its text; [`Tabled`] keeps a plan and its table together while claims are moved; [`Holds`] says who holds what, and
+//! why a plan has no order. The functions of [`entries`] work on slices that the caller lends, and [`lines`](lines())
+//! hands out the lines of a text one by one. What is refused comes back as a [`Refusal`], which says in words what is
+//! wrong and where.
 //!
 //! Jobs and lines count from 1, devices from 0 to 31. The work is done by archives of proved code, `libport.a`,
-//! `libreader.a` and `libscreen.a`; [`raw`] is the only place that calls into them.
+//! `libreader.a` and `libscreen.a`; [`raw`] is the only place that calls into them. [`Step`], [`Holds`] and the words
+//! of refusals are plain Rust, not proved but compared with the second program or tested.
+//!
+//! Lists are owned by what the feature `std` brings, which is there unless it is left out: [`Plan`], [`Order`],
+//! [`Steps`], [`Tabled`], [`Holds`] and [`Arc`]. Without it the crate needs nothing beyond `core`.
 //!
 //! # A plan and its order
 //!
@@ -29,7 +35,8 @@
 //! # A plan without an order
 //!
 //! Three jobs in a ring: each holds a device to the end and then wants the one that the next job holds. No two of them
-//! block each other, but the three together do, and the refusal names the lowest device of the circle.
+//! block each other, but the three together do. The refusal names the lowest device of the circle, and what the plan
+//! holds tells the circle line by line.
 //!
 //! ```
 //! use gimmerskip::{Plan, Refusal};
@@ -40,9 +47,16 @@
 //!     "3 take 2", "3 take 0", "3 give 0",
 //! ];
 //! let text: String = ring.iter().map(|line| line.replace(' ', "\t") + "\n").collect();
-//! let refusal = Plan::from_text(&text)?.verdict().unwrap_err();
+//! let plan = Plan::from_text(&text)?;
+//! let refusal = plan.verdict().unwrap_err();
 //! assert_eq!(refusal, Refusal::LeadsBack(0));
 //! assert!(refusal.to_string().starts_with("device 0 leads back to itself"));
+//! let circle = plan.holds().circle().expect("a device leads back to itself");
+//! assert_eq!(circle.len(), 3);
+//! for arc in circle {
+//!     let (device, then) = (arc.device, plan.step(arc.then).unwrap());
+//!     println!("job {} keeps device {device} from line {} on; then line {} is {then}", arc.job, arc.line, arc.then);
+//! }
 //! # Ok::<(), Refusal>(())
 //! ```
 //!
@@ -52,15 +66,15 @@
 //! mended along the way, and three of its sets are then others than before.
 //!
 //! ```
-//! use gimmerskip::Plan;
+//! use gimmerskip::{Plan, Tabled};
 //!
-//! let mut plan = Plan::from_text("1\tstart\t2\n1\ttake\t1\n1\tdo\t7\n2\ttake\t0\n2\ttake\t1\n2\tgive\t1\n")?;
-//! let mut table = plan.table();
-//! assert_eq!(plan.move_claim(&mut table, 5, 2)?, 3);
-//! assert_eq!(table, [7, 2, 0, 5, 4, 0]);
-//! assert_eq!(table, plan.table());
-//! assert!(plan.text().ends_with("2\ttake\t2\n2\tgive\t2\n"));
-//! assert_eq!(plan.verdict()?.lines, [1, 4, 5, 6, 2, 3]);
+//! let plan = Plan::from_text("1\tstart\t2\n1\ttake\t1\n1\tdo\t7\n2\ttake\t0\n2\ttake\t1\n2\tgive\t1\n")?;
+//! let mut tabled = Tabled::new(plan);
+//! assert_eq!(tabled.move_claim(5, 2)?, 3);
+//! assert_eq!(tabled.table(), [7, 2, 0, 5, 4, 0]);
+//! assert_eq!(tabled.table(), tabled.plan().table());
+//! assert!(tabled.plan().text().ends_with("2\ttake\t2\n2\tgive\t2\n"));
+//! assert_eq!(tabled.verdict()?.lines, [1, 4, 5, 6, 2, 3]);
 //! # Ok::<(), gimmerskip::Refusal>(())
 //! ```
 //!
@@ -72,20 +86,38 @@
 //! let refusal = Plan::from_text("1\ttake\t3\n1 give 3\n").unwrap_err();
 //! assert_eq!(refusal, Refusal::Malformed(2));
 //! assert_eq!((refusal.number(), refusal.place()), (2, 2));
-//! println!("the plan cannot be read: {refusal}");
+//! println!("the plan cannot be read: {}", refusal.in_text());
 //! ```
 
+#![no_std]
 #![deny(unsafe_code)]
 #![warn(missing_docs)]
 
+#[cfg(feature = "std")]
+extern crate std;
+
 pub mod entries;
+#[cfg(feature = "std")]
+mod holds;
+#[cfg(feature = "std")]
 mod plan;
 #[allow(unsafe_code)]
 pub mod raw;
 mod refusal;
+mod step;
+#[cfg(feature = "std")]
+mod tabled;
 
+#[cfg(feature = "std")]
+pub use holds::{Arc, Holds};
+#[cfg(feature = "std")]
 pub use plan::{Order, Plan};
 pub use refusal::{outcome, Refusal};
+#[cfg(feature = "std")]
+pub use step::Steps;
+pub use step::{lines, Lines, Step, Verb};
+#[cfg(feature = "std")]
+pub use tabled::Tabled;
 
 /// The most lines of a plan. A list of so many entries is long enough for every plan, its table and its order.
 pub const MAX_LINES: usize = 1_024;
@@ -95,6 +127,6 @@ pub const MAX_BYTES: usize = 12_288;
 pub const SCREEN_ROOM: usize = 4_027;
 
 /// The example of the project's README is run too.
-#[cfg(doctest)]
+#[cfg(all(doctest, feature = "std"))]
 #[doc = include_str!("../../../README.md")]
 struct Readme;

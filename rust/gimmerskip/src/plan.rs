@@ -1,8 +1,12 @@
 //! A plan that owns its lines.
 
-use crate::{entries, Refusal, MAX_BYTES, MAX_LINES};
-use std::fmt;
-use std::str::FromStr;
+use crate::step::of_plan;
+use crate::{entries, Holds, Refusal, Step, Steps, MAX_BYTES, MAX_LINES};
+use core::fmt;
+use core::str::FromStr;
+use std::string::String;
+use std::vec;
+use std::vec::Vec;
 
 /// A plan without a fault: whatever made it has tested it, and nothing that changes it puts a fault in.
 ///
@@ -14,7 +18,14 @@ pub struct Plan {
     lines: Vec<u32>,
 }
 
-/// The order of a plan.
+/// The order of a plan. As text it is what the program prints: a first line that counts the lines and the devices that
+/// stay held, then the line numbers, each on its own line.
+///
+/// ```
+/// let plan: gimmerskip::Plan = "1\ttake\t5\n1\tdo\t7\n".parse()?;
+/// assert_eq!(plan.verdict()?.to_string(), "order\t2\t1\n1\n2\n");
+/// # Ok::<(), gimmerskip::Refusal>(())
+/// ```
 #[derive(Clone, Debug, PartialEq, Eq, Hash)]
 pub struct Order {
     /// The numbers of the lines, from 1, as they are to be done; each line stands here once.
@@ -27,7 +38,20 @@ pub struct Order {
 const NO_FAULT: &str = "a plan has no fault, and there is room for every plan";
 
 impl Plan {
-    /// Reads a plan from text, or refuses with 1 to 8.
+    /// Reads a plan from text.
+    ///
+    /// # Errors
+    ///
+    /// Refuses with 1 to 8 what is no plan; [`Refusal::in_text`] has the words for whoever wrote the text.
+    ///
+    /// ```
+    /// use gimmerskip::{Plan, Refusal};
+    ///
+    /// assert!(Plan::from_text("1\ttake\t5\n").is_ok());
+    /// let refusal = Plan::from_text("1\ttake\t5").unwrap_err();
+    /// assert_eq!(refusal, Refusal::Malformed(1));
+    /// assert_eq!(refusal.in_text().to_string(), "line 1 is malformed, or its newline is missing");
+    /// ```
     pub fn from_text(text: impl AsRef<[u8]>) -> Result<Plan, Refusal> {
         let mut lines = vec![0; MAX_LINES];
         let count = entries::read(text.as_ref(), &mut lines)?;
@@ -35,7 +59,11 @@ impl Plan {
         Ok(Plan { lines })
     }
 
-    /// Makes a plan of packed numbers, or refuses with 2 to 8.
+    /// Makes a plan of packed numbers.
+    ///
+    /// # Errors
+    ///
+    /// Refuses with 2 to 8 what is no plan.
     ///
     /// ```
     /// use gimmerskip::{Plan, Refusal};
@@ -56,7 +84,55 @@ impl Plan {
         &self.lines
     }
 
+    /// How many lines it has.
+    pub fn len(&self) -> usize {
+        self.lines.len()
+    }
+
+    /// Whether it has no lines: such a plan has no jobs and nothing to do.
+    pub fn is_empty(&self) -> bool {
+        self.lines.is_empty()
+    }
+
+    /// The step in a line, counted from 1, or `None` where the plan has no such line.
+    ///
+    /// ```
+    /// let plan = gimmerskip::Plan::from_packed([1_285, 1_541])?;
+    /// assert_eq!(plan.step(2).map(|step| step.to_string()).as_deref(), Some("1\tgive\t5"));
+    /// assert_eq!((plan.step(0), plan.step(3)), (None, None));
+    /// # Ok::<(), gimmerskip::Refusal>(())
+    /// ```
+    pub fn step(&self, line: u16) -> Option<Step> {
+        self.lines.get(usize::from(line).checked_sub(1)?).map(of_plan)
+    }
+
+    /// The steps, from the first line to the last.
+    ///
+    /// ```
+    /// use gimmerskip::{Plan, Verb};
+    ///
+    /// let plan = Plan::from_packed([1_285, 1_541])?;
+    /// assert_eq!(plan.steps().map(|step| step.verb).collect::<Vec<_>>(), [Verb::Take, Verb::Give]);
+    /// # Ok::<(), gimmerskip::Refusal>(())
+    /// ```
+    pub fn steps(&self) -> Steps<'_> {
+        Steps::of_plan(&self.lines)
+    }
+
+    /// Who holds what: mates, lasting takes, rows and circles.
+    ///
+    /// # Panics
+    ///
+    /// Never, as long as the archives are those that this crate is made for: a plan has no fault.
+    pub fn holds(&self) -> Holds {
+        Holds::of_plan(self)
+    }
+
     /// The text, which [`Plan::from_text`] reads as the same plan.
+    ///
+    /// # Panics
+    ///
+    /// Never, as long as the archives are those that this crate is made for: a plan has no fault.
     pub fn text(&self) -> String {
         let mut text = [0; MAX_BYTES];
         let count = entries::write(&self.lines, &mut text).expect(NO_FAULT);
@@ -65,13 +141,21 @@ impl Plan {
     }
 
     /// The table of claims, one set a line, device d being bit d.
+    ///
+    /// # Panics
+    ///
+    /// Never, as long as the archives are those that this crate is made for: a plan has no fault.
     pub fn table(&self) -> Vec<u32> {
         let mut sets = vec![0; self.lines.len()];
         entries::table(&self.lines, &mut sets).expect(NO_FAULT);
         sets
     }
 
-    /// The order, or refusal 9 or 10 where no order is legal.
+    /// The order that is handed out.
+    ///
+    /// # Errors
+    ///
+    /// Refuses with 9 or 10 where no order is legal; [`Plan::holds`] can tell why.
     pub fn verdict(&self) -> Result<Order, Refusal> {
         let mut lines = vec![0; self.lines.len()];
         let held = entries::verdict(&self.lines, &mut lines)?;
@@ -80,7 +164,9 @@ impl Plan {
 
     /// Moves the claim of a line, counted from 1, to another device, and mends the plan's table along the way; the
     /// count is that of the lines whose set is then another. The table is what [`Plan::table`] gave, kept up by earlier
-    /// moves.
+    /// moves; [`Tabled`](crate::Tabled) keeps both together.
+    ///
+    /// # Errors
     ///
     /// Refuses with 11 to 14, and last with 8 where the job would hold the new device twice, the place being the take
     /// that would be the second. Plan and table are then as they were.
@@ -118,5 +204,22 @@ impl fmt::Display for Plan {
     /// The same as [`Plan::text`].
     fn fmt(&self, out: &mut fmt::Formatter<'_>) -> fmt::Result {
         out.write_str(&self.text())
+    }
+}
+
+impl fmt::Display for Order {
+    fn fmt(&self, out: &mut fmt::Formatter<'_>) -> fmt::Result {
+        writeln!(out, "order\t{}\t{}", self.lines.len(), self.held)?;
+        self.lines.iter().try_for_each(|line| writeln!(out, "{line}"))
+    }
+}
+
+impl<'a> IntoIterator for &'a Plan {
+    type Item = Step;
+    type IntoIter = Steps<'a>;
+
+    /// The same as [`Plan::steps`].
+    fn into_iter(self) -> Steps<'a> {
+        self.steps()
     }
 }

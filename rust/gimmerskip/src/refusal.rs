@@ -1,8 +1,8 @@
 //! Refusals: their numbers and places, and what they mean in words.
 
 use crate::{MAX_BYTES, MAX_LINES};
-use std::error::Error;
-use std::fmt;
+use core::error::Error;
+use core::fmt;
 
 /// The first answer that is a refusal; answers below it are counts.
 const FIRST: u64 = 1 << 32;
@@ -17,6 +17,7 @@ const FIRST: u64 = 1 << 32;
 /// assert_eq!(refusal.to_string(), "line 5 gives a device that is not the latest its job still holds");
 /// assert_eq!((refusal.number(), refusal.place()), (7, 5));
 /// ```
+#[non_exhaustive]
 #[derive(Clone, Copy, Debug, PartialEq, Eq, Hash)]
 pub enum Refusal {
     /// 1: the text has more than [`MAX_BYTES`] bytes. The place is 0.
@@ -116,12 +117,26 @@ impl Refusal {
         }
     }
 
+    /// The same in the words for whoever wrote a text. A refusal does not know whether it came of a text or of a packed
+    /// list; its own words are true of both, and these say more of a line of text that is none.
+    ///
+    /// ```
+    /// use gimmerskip::{Plan, Refusal};
+    ///
+    /// let refusal = Plan::from_text("1\ttake\t3\n1 give 3\n").unwrap_err();
+    /// assert_eq!(refusal.to_string(), "line 2 is no line that a plan can have");
+    /// assert_eq!(refusal.in_text().to_string(), "line 2 is malformed, or its newline is missing");
+    /// let refusal = Refusal::TakeOfHeld(6);
+    /// assert_eq!(refusal.in_text().to_string(), refusal.to_string());
+    /// ```
+    pub fn in_text(self) -> impl fmt::Display + fmt::Debug + Copy {
+        InText(self)
+    }
+
     /// What is wrong with the line at the place, where the place is one; the first line of a plan has words of its own.
     fn on_its_line(self) -> Option<&'static str> {
         Some(match self {
-            Refusal::Malformed(_) => {
-                "is no line: malformed, without its newline, or a packed number of none"
-            }
+            Refusal::Malformed(_) => "is no line that a plan can have",
             Refusal::JobOutOfSequence(1) => "is not of job 1, with which a plan begins",
             Refusal::JobOutOfSequence(_) => {
                 "is of a job that is neither the one before nor the next"
@@ -180,7 +195,26 @@ impl fmt::Display for Refusal {
 
 impl Error for Refusal {}
 
+/// A refusal of a text, in the words for whoever wrote it.
+#[derive(Clone, Copy, Debug)]
+struct InText(Refusal);
+
+impl fmt::Display for InText {
+    fn fmt(&self, out: &mut fmt::Formatter<'_>) -> fmt::Result {
+        match self.0 {
+            Refusal::Malformed(line) => {
+                write!(out, "line {line} is malformed, or its newline is missing")
+            }
+            refusal => write!(out, "{refusal}"),
+        }
+    }
+}
+
 /// What a 64-bit answer of [`raw`](crate::raw) means: a count, or a refusal.
+///
+/// # Errors
+///
+/// An answer of 2^32 or more is the refusal that it stands for.
 ///
 /// ```
 /// use gimmerskip::{outcome, Refusal};

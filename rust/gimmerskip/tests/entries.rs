@@ -1,5 +1,7 @@
 //! Each entry through slices: what it writes, what it counts, and what it leaves.
 
+#![cfg(feature = "std")]
+
 mod common;
 
 use common::text;

@@ -1,10 +1,12 @@
 //! The owned plan: made of text or of packed numbers, asked, and moved.
 
+#![cfg(feature = "std")]
+
 mod common;
 
 use common::{plan, text};
-use gimmerskip::{Order, Plan, Refusal};
-use second::listed::{packed, A, B, G, H};
+use gimmerskip::{entries, Order, Plan, Refusal, SCREEN_ROOM};
+use second::listed::{all, packed, A, B, G, H};
 
 #[test]
 fn text_and_packed_numbers_make_the_same_plan() {
@@ -61,4 +63,16 @@ fn a_move_can_open_the_ring() {
     let mut table = ring.table();
     assert_eq!(ring.move_claim(&mut table, 10, 3), Ok(4));
     assert_eq!(ring.verdict().map(|order| order.held), Ok(3));
+}
+
+#[test]
+fn an_order_is_written_as_the_program_prints_it() {
+    for listed in all().iter().filter(|listed| listed.verdict.is_ok()) {
+        let mut print = [0; SCREEN_ROOM];
+        let count =
+            entries::order(text(&listed.plan).as_bytes(), &mut print).expect("there is room");
+        let order = plan(&listed.plan).verdict().expect("the plan has an order");
+        assert_eq!(order.to_string().as_bytes(), &print[..count], "{}", listed.name);
+    }
+    assert_eq!(Order { lines: vec![], held: 0 }.to_string(), "order\t0\t0\n");
 }

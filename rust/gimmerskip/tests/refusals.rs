@@ -1,5 +1,7 @@
 //! Each refusal: its number, its place and its words, and an entry that gives it.
 
+#![cfg(feature = "std")]
+
 mod common;
 
 use common::{fault, plan, text};
@@ -9,12 +11,7 @@ use second::listed::{packed, A, F, G, H};
 /// Every refusal with its number, its place and its words.
 const WORDS: [(Refusal, u32, u32, &str); 15] = [
     (Refusal::TextTooLong, 1, 0, "the text has more than 12288 bytes"),
-    (
-        Refusal::Malformed(3),
-        2,
-        3,
-        "line 3 is no line: malformed, without its newline, or a packed number of none",
-    ),
+    (Refusal::Malformed(3), 2, 3, "line 3 is no line that a plan can have"),
     (
         Refusal::TooManyLines,
         3,
@@ -76,6 +73,19 @@ fn each_has_its_number_its_place_and_its_words() {
     }
     for number in 1..=14 {
         assert!(WORDS.iter().any(|row| row.1 == number), "{number} has its words");
+    }
+}
+
+#[test]
+fn of_a_text_only_a_malformed_line_has_other_words() {
+    for (refusal, number, place, words) in WORDS {
+        let in_text = refusal.in_text().to_string();
+        if number == 2 {
+            assert_eq!(in_text, format!("line {place} is malformed, or its newline is missing"));
+        } else {
+            assert_eq!(in_text, words);
+        }
+        assert!(!words.contains("newline") && !in_text.contains("packed"), "{refusal:?}");
     }
 }
 

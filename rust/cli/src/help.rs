@@ -1,0 +1,98 @@
+//! The help: one page for all, and one for each subcommand.
+
+use crate::arguments::Kind;
+
+/// What `--version` prints.
+pub const VERSION: &str = concat!("gimmerskip ", env!("CARGO_PKG_VERSION"), "\n");
+
+/// How the command, or one subcommand, is used.
+pub fn use_line(kind: Option<Kind>) -> &'static str {
+    match kind {
+        None => "gimmerskip COMMAND [--names NAMES] ..",
+        Some(Kind::Order) => "gimmerskip order [--steps] [--names NAMES] FILE..",
+        Some(Kind::Explain) => "gimmerskip explain [--names NAMES] FILE",
+        Some(Kind::Table) => "gimmerskip table [--names NAMES] FILE",
+        Some(Kind::Move) => "gimmerskip move [--in-place] [--names NAMES] FILE LINE DEVICE",
+        Some(Kind::Check) => "gimmerskip check [--names NAMES] FILE..",
+    }
+}
+
+/// What a subcommand does, in a few words.
+fn brief(kind: Kind) -> &'static str {
+    match kind {
+        Kind::Order => "prints the order of each plan, or why it is refused",
+        Kind::Explain => "says in words what is wrong with a plan, or who holds what when",
+        Kind::Table => "prints the lines of a plan with the devices that they claim",
+        Kind::Move => "moves the claim of a line to another device",
+        Kind::Check => "says of each plan, in one line, whether it is accepted",
+    }
+}
+
+/// What there is to know of a subcommand.
+fn more(kind: Kind) -> &'static str {
+    match kind {
+        Kind::Order => {
+            "Standard output gets what the program `order` prints: `order`, the number of lines and of devices that\n\
+             stay held, and then the line numbers in their order; or `refused`, number and place. What is wrong is\n\
+             said in words on standard error. The answers for several files come one after the other, in the files'\n\
+             order and without their names.\n\n  \
+             --steps   prints a table of the steps in their order instead\n"
+        }
+        Kind::Explain => {
+            "Of a plan that is refused it shows the lines concerned, says what is wrong and how it could be mended.\n\
+             Of a plan that is accepted it says, job by job, which device is held from which line to which.\n"
+        }
+        Kind::Table => {
+            "A line claims the devices that it takes itself and those that are taken behind it: further down in its\n\
+             job, and in the jobs that are started there. A plan without an order has such a table too.\n"
+        }
+        Kind::Move => {
+            "The take in LINE, and its give, get DEVICE: a number, or a name of --names (a number is never taken for\n\
+             a name). Standard output gets the edited plan; how many sets of claims have changed is said on standard\n\
+             error. A plan without an order can be moved too.\n\n  \
+             --in-place   replaces the file, whole or not at all, and prints no plan\n"
+        }
+        Kind::Check => "A line for each file: `accepted` with its counts, or `refused` with number, place and words.\n",
+    }
+}
+
+/// What all subcommands have in common.
+const COMMON: &str = "\
+FILE is a plan; `-` is standard input, and `--` ends the options.
+
+  --names NAMES   a file with a line for each device that has a name: its number, a tab, the name
+  --help          this help, or that of a command
+  --version       the version
+
+The status is 0 if all went well, 1 if a plan or a move is refused, 2 if there was trouble with the use, with a file,
+or with input and output.
+";
+
+/// The page of help for a subcommand, or for all of them.
+pub fn page(kind: Option<Kind>) -> String {
+    let head = format!("use: {}\n\n", use_line(kind));
+    let Some(kind) = kind else {
+        let line = |kind: &Kind| format!("  {:<10}{}\n", kind.word(), brief(*kind));
+        let commands: String = Kind::ALL.iter().map(line).collect();
+        return format!(
+            "{head}Finds the order of a plan, or says why there is none.\n\n{commands}\n{COMMON}"
+        );
+    };
+    let brief = brief(kind);
+    format!("{head}{}{}.\n{}\n{COMMON}", brief[..1].to_uppercase(), &brief[1..], more(kind))
+}
+
+#[cfg(test)]
+mod tests {
+    use super::*;
+
+    #[test]
+    fn pages_begin_with_the_use_and_fit() {
+        let kinds = Kind::ALL.into_iter().map(Some);
+        for kind in kinds.chain([None]) {
+            let page = page(kind);
+            assert!(page.starts_with(&format!("use: {}\n", use_line(kind))));
+            assert!(page.lines().all(|line| line.len() <= 120), "{page}");
+        }
+    }
+}

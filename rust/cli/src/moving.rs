@@ -1,0 +1,110 @@
+//! `gimmerskip move`: the claim of a line to another device.
+
+use crate::arguments::Move;
+use crate::desk::Desk;
+use crate::diagnosis;
+use crate::input::{named, Text};
+use crate::names::{is_whole, Names};
+use crate::replace::{replace, replaceable};
+use crate::shown;
+use crate::trouble::Trouble;
+use crate::words::counted;
+use gimmerskip::{Plan, Refusal, Tabled};
+use std::ffi::OsStr;
+
+/// Moves a claim of one plan, and prints the plan or replaces its file.
+pub fn run(desk: &mut Desk, asked: &Move) -> Result<(), Trouble> {
+    let line = line(&asked.line)?;
+    let device = device(&asked.device, &desk.names)?;
+    if asked.in_place {
+        can_be_replaced(&asked.file)?;
+    }
+    let text = desk.input.plan(&asked.file)?;
+    let Some((plan, count)) = moved(desk, &text, &line, &device) else { return Ok(()) };
+    if !asked.in_place {
+        desk.out.put(plan.text().as_bytes())?;
+    } else if plan.text().as_bytes() != text.bytes {
+        replace(&asked.file, plan.text().as_bytes())?;
+    }
+    let sets = counted(count, "set");
+    desk.say(&format!("{}: {sets} of claims changed\n", text.name));
+    say_if_without_order(desk, &text.name, &plan);
+    Ok(())
+}
+
+/// Fails where a file is seen to be none that can be replaced.
+fn can_be_replaced(file: &OsStr) -> Result<(), Trouble> {
+    if file == "-" {
+        return Err(Trouble("standard input cannot be replaced: name a file".to_string()));
+    }
+    named(file)?;
+    replaceable(file)
+}
+
+/// A move is done whether or not there is an order afterwards; but whoever asked for it may want to know.
+fn say_if_without_order(desk: &mut Desk, name: &str, plan: &Plan) {
+    let Err(refusal) = plan.verdict() else { return };
+    let bytes = plan.text().as_bytes().to_vec();
+    let text = Text { name: name.to_string(), bytes, size: None };
+    let head = diagnosis::of_text(&text, refusal, &desk.names).head;
+    desk.say(&format!("{name}: the edited plan has no order: {head}\n"));
+}
+
+/// The plan after the move, and how many sets have changed; or the words of a refusal are said.
+fn moved(desk: &mut Desk, text: &Text, line: &Number, device: &Number) -> Option<(Plan, usize)> {
+    let plan = match Plan::from_text(&text.bytes) {
+        Ok(plan) => plan,
+        Err(refusal) => {
+            let refused = diagnosis::of_text(text, refusal, &desk.names);
+            desk.say_refusal(text, &refused);
+            return None;
+        }
+    };
+    let mut tabled = Tabled::new(plan);
+    match tabled.move_claim(line.asked, device.asked) {
+        Ok(count) => Some((tabled.into_plan(), count)),
+        Err(refusal) => {
+            let (plan, names) = (tabled.plan(), &desk.names);
+            let refused = diagnosis::of_move(plan, line.asked, device.asked, refusal, names);
+            let given = match refusal {
+                Refusal::NoSuchDevice(_) => &device.given,
+                _ => &line.given,
+            };
+            desk.say_refusal(text, &refused.as_given(given));
+            None
+        }
+    }
+}
+
+/// A number as the library is asked for it, and as it was given: the library's numbers end where those of growers do
+/// not. Nothing has the highest of them.
+struct Number {
+    asked: u32,
+    given: String,
+}
+
+impl Number {
+    /// The number that is given in these words, if they are one.
+    fn of(words: &str) -> Option<Number> {
+        is_whole(words).then(|| Number {
+            asked: words.parse().unwrap_or(u32::MAX),
+            given: shown::cut(words.as_bytes()),
+        })
+    }
+}
+
+/// The line that was asked for.
+fn line(given: &OsStr) -> Result<Number, Trouble> {
+    let line = given.to_str().and_then(Number::of);
+    line.ok_or_else(|| Trouble(format!("'{}' is no line's number", shown::name(given))))
+}
+
+/// The device that was asked for, by number or by name.
+fn device(given: &OsStr, names: &Names) -> Result<Number, Trouble> {
+    let words = given.to_str();
+    let by_name = || Number::of(&words.and_then(|name| names.device(name))?.to_string());
+    words.and_then(Number::of).or_else(by_name).ok_or_else(|| {
+        let shown = shown::name(given);
+        Trouble(format!("'{shown}' is neither a device's number nor one of the names given"))
+    })
+}

@@ -1,0 +1,31 @@
+//! What is there without the feature `std`: entries, lines of a text, steps, refusals. This runs with it and without.
+
+use gimmerskip::{entries, lines, outcome, raw, Refusal, Step, Verb, SCREEN_ROOM};
+
+const TEXT: &[u8] = b"1\ttake\t5\n1\tgive\t5\n";
+
+#[test]
+fn a_text_is_read_ordered_moved_and_written() {
+    let (mut plan, mut sets, mut order) = ([0; 2], [0; 2], [0; 2]);
+    assert_eq!(entries::read(TEXT, &mut plan), Ok(2));
+    assert_eq!(entries::table(&plan, &mut sets), Ok(2));
+    assert_eq!(entries::move_claim(&mut plan, &mut sets, 1, 6), Ok(1));
+    assert_eq!(entries::verdict(&plan, &mut order), Ok(0));
+    let mut text = [0; 18];
+    assert_eq!(entries::write(&plan, &mut text), Ok(18));
+    assert_eq!(&text, b"1\ttake\t6\n1\tgive\t6\n");
+    let mut out = [0; SCREEN_ROOM];
+    assert_eq!(entries::order(TEXT, &mut out), Ok(14));
+}
+
+#[test]
+fn lines_steps_and_refusals_are_there() {
+    let mut some = lines(TEXT);
+    assert_eq!(some.next(), Some(Ok(Step { job: 1, verb: Verb::Take, operand: 5 })));
+    assert_eq!(some.next().map(|line| line.map(Step::packed)), Some(Ok(1_541)));
+    assert_eq!(some.next(), None);
+    let refusal = outcome(raw::read(b"x", &mut [])).unwrap_err();
+    assert_eq!(refusal, Refusal::Malformed(1));
+    let error: &dyn core::error::Error = &refusal;
+    assert_eq!(error.to_string(), "line 1 is no line that a plan can have");
+}
