@@ -1,5 +1,6 @@
 /*
- * A screen in C: shows a plan with its lines, its order and its claims, and then moves a claim.
+ * A screen in C: shows a plan with its lines, its order and its claims, judges an order of another's making, and then
+ * moves a claim.
  *
  *   example [FILE [LINE DEVICE]]
  *
@@ -41,6 +42,7 @@ static const char *const WORDS[][2] = {
     [GIMMERSKIP_NOT_A_TAKE] = {"line ", " is no take of the plan"},
     [GIMMERSKIP_NO_SUCH_DEVICE] = {"there is no device ", ""},
     [GIMMERSKIP_STALE_TABLE] = {"line ", " has a stale set in the table"},
+    [GIMMERSKIP_ILLEGAL_STEP] = {"entry ", " of the order is no legal next step, or the order stops before it"},
 };
 
 /* Says what was refused and why, if the answer is a refusal. Only an answer that is none is a count. */
@@ -110,6 +112,22 @@ static int show_order(const uint32_t *plan, size_t lines) {
     for (size_t i = 0; i < lines; i++)
         printf(" %u", (unsigned)order[i]);
     printf("; %u held\n", (unsigned)held);
+    return refused("judge", gimmerskip_judge(plan, lines, order, lines));
+}
+
+/* An order from elsewhere: whoever does the lines just as they stand comes so far. */
+static int show_judge(const uint32_t *plan, size_t lines) {
+    uint16_t order[GIMMERSKIP_MAX_LINES];
+    for (size_t i = 0; i < lines; i++)
+        order[i] = (uint16_t)(i + 1);
+    uint64_t answer = gimmerskip_judge(plan, lines, order, lines);
+    if (gimmerskip_number(answer) == GIMMERSKIP_ILLEGAL_STEP) {
+        printf("judge: as they stand, line %u is no legal next step\n", (unsigned)gimmerskip_place(answer));
+        return 0;
+    }
+    if (refused("judge", answer))
+        return 1;
+    printf("judge: as they stand, the lines are in a legal order\n");
     return 0;
 }
 
@@ -148,6 +166,7 @@ static int show(const uint8_t *text, size_t n, uint32_t line, uint32_t device) {
     printf("table:\n");
     show_sets(sets, (size_t)lines);
     status |= show_order(plan, (size_t)lines);
+    status |= show_judge(plan, (size_t)lines);
     return status | show_move(plan, sets, (size_t)lines, line, device);
 }
 

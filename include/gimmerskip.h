@@ -1,8 +1,9 @@
 /*
- * Gimmerskip for C and C++: plans as text or as packed numbers, their tables of claims, their orders, and moved claims.
+ * Gimmerskip for C and C++: plans as text or as packed numbers, their tables of claims, their orders, orders from
+ * elsewhere, and moved claims.
  *
  * The archives are for x86-64 Linux, with the calls of the System V ABI. Link libscreen.a for gimmerskip_order,
- * libreader.a for gimmerskip_line and libport.a for the other five; each stands by itself. The commands `rt staticlib
+ * libreader.a for gimmerskip_line and libport.a for the other six; each stands by itself. The commands `rt staticlib
  * screen`, `rt staticlib reader` and `rt staticlib port` leave them in target/staticlib, and `install-archives PREFIX`
  * puts them with this header and a file for pkg-config under a prefix. Of other libraries they need `memcpy` and
  * `memset` alone, and the only names they define for others are those declared here. No entry keeps anything of what it
@@ -30,11 +31,14 @@
 extern "C" {
 #endif
 
-/* The version, in three numbers and as a text. It is that of the wrapper for Rust too. */
+/*
+ * The version, in three numbers and as a text; it is that of the wrapper for Rust and of the command too. A new entry
+ * or refusal raises the second number: gimmerskip_judge came with 0.2.0.
+ */
 #define GIMMERSKIP_VERSION_MAJOR 0
-#define GIMMERSKIP_VERSION_MINOR 1
+#define GIMMERSKIP_VERSION_MINOR 2
 #define GIMMERSKIP_VERSION_PATCH 0
-#define GIMMERSKIP_VERSION "0.1.0"
+#define GIMMERSKIP_VERSION "0.2.0"
 
 /* The most lines of a plan. Lists of so many entries are long enough for every plan. */
 #define GIMMERSKIP_MAX_LINES 1024
@@ -58,6 +62,7 @@ extern "C" {
 #define GIMMERSKIP_STACK_WRITE 13200
 #define GIMMERSKIP_STACK_TABLE 1664
 #define GIMMERSKIP_STACK_VERDICT 3264
+#define GIMMERSKIP_STACK_JUDGE 1168
 #define GIMMERSKIP_STACK_MOVE 1456
 
 /* Why an entry refuses. Each comment says what the place of that refusal is. */
@@ -75,7 +80,8 @@ enum gimmerskip_refusal {
     GIMMERSKIP_LIST_TOO_SHORT = 11,      /* the list to fill is too short; the length it needs */
     GIMMERSKIP_NOT_A_TAKE = 12,          /* the line to move is no take of the plan; the line that was asked */
     GIMMERSKIP_NO_SUCH_DEVICE = 13,      /* a claim cannot move to a device over 31; the device that was asked */
-    GIMMERSKIP_STALE_TABLE = 14          /* the table does not fit on the way; its line nearest to the one to move */
+    GIMMERSKIP_STALE_TABLE = 14,         /* the table does not fit on the way; its line nearest to the one to move */
+    GIMMERSKIP_ILLEGAL_STEP = 15         /* an order goes wrong or stops too soon; where, counted from 1 */
 };
 
 /*
@@ -149,6 +155,16 @@ uint64_t gimmerskip_table(const uint32_t *plan, size_t n, uint32_t *sets, size_t
  *         then with 11, then with 9 or 10 where the plan has no legal order; order is then as it was.
  */
 uint64_t gimmerskip_verdict(const uint32_t *plan, size_t n, uint16_t *order, size_t room);
+
+/*
+ * An order from elsewhere, judged by the rules alone: what gimmerskip_verdict hands out is legal, and so are others.
+ * Reads   the n packed numbers at plan and the m line numbers at order, which may be any numbers, and more or fewer
+ *         than the plan has lines.
+ * Writes  nothing.
+ * Answers 0 if the list is a legal order of the plan. Refuses with 2 to 8 where the first list is no plan, then with 15
+ *         where the second one first goes wrong, counted from 1; m + 1 tells that it stops too soon.
+ */
+uint64_t gimmerskip_judge(const uint32_t *plan, size_t n, const uint16_t *order, size_t m);
 
 /*
  * Moves the claim of a line, counted from 1, to another device.

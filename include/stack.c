@@ -18,7 +18,7 @@
 
 enum { ROUNDS = 5000, LINES = GIMMERSKIP_MAX_LINES, BYTES = GIMMERSKIP_MAX_BYTES, DEVICES = 32, JOBS = 64 };
 enum kind { DO, TAKE, GIVE, START };
-enum entry { NOTHING, ORDER, LINE, READ, WRITE, TABLE, VERDICT, MOVE, ENTRIES };
+enum entry { NOTHING, ORDER, LINE, READ, WRITE, TABLE, VERDICT, JUDGE, MOVE, ENTRIES };
 
 /* What is known of an entry: its bound, the numbers by which it can refuse (bit k for k, bit 0 for no refusal), and
    what was seen: the most bytes, the numbers, and how many calls. */
@@ -37,6 +37,7 @@ static struct {
     [WRITE] = {"write", GIMMERSKIP_STACK_WRITE, 0x9fd, 0, 0, 0},
     [TABLE] = {"table", GIMMERSKIP_STACK_TABLE, 0x9fd, 0, 0, 0},
     [VERDICT] = {"verdict", GIMMERSKIP_STACK_VERDICT, 0xffd, 0, 0, 0},
+    [JUDGE] = {"judge", GIMMERSKIP_STACK_JUDGE, 0x81fd, 0, 0, 0},
     [MOVE] = {"move", GIMMERSKIP_STACK_MOVE, 0x79fd, 0, 0, 0},
 };
 
@@ -46,6 +47,7 @@ struct call {
     const uint8_t *text;
     uint32_t *plan;
     uint32_t *sets;
+    const uint16_t *order;
     size_t n;
     size_t room;
     size_t offset;
@@ -86,6 +88,7 @@ static __attribute__((noinline)) void make_call(struct call *c) {
     case WRITE: c->answer = gimmerskip_write(c->plan, c->n, out_bytes, c->room); break;
     case TABLE: c->answer = gimmerskip_table(c->plan, c->n, out_sets, c->room); break;
     case VERDICT: c->answer = gimmerskip_verdict(c->plan, c->n, out_order, c->room); break;
+    case JUDGE: c->answer = gimmerskip_judge(c->plan, c->n, c->order, c->room); break;
     case MOVE: c->answer = gimmerskip_move(c->plan, c->n, c->sets, c->room, c->line, c->device); break;
     default: c->answer = nothing(); break;
     }
@@ -215,6 +218,21 @@ static void try_moves(struct list *l, uint32_t *sets) {
     measure(c);
 }
 
+/* Orders from elsewhere: the one handed out last, whole, with another entry, cut off, and going on. */
+static void try_orders(struct list *l) {
+    static uint16_t order[LINES + 1];
+    struct call c = {.which = JUDGE, .plan = l->lines, .order = order, .n = l->n, .room = l->n};
+    memcpy(order, out_order, sizeof order);
+    measure(c);
+    c.room = l->n ? below((uint32_t)l->n) : 0;
+    measure(c);
+    order[c.room] = (uint16_t)below(l->n ? (uint32_t)l->n + 2 : 2);
+    c.room = l->n;
+    measure(c);
+    c.room = LINES + 1;
+    measure(c);
+}
+
 /* The entries that are lent a packed list, whatever it holds. */
 static void try_list(struct list *l) {
     static uint32_t sets[LINES + 1];
@@ -229,6 +247,7 @@ static void try_list(struct list *l) {
     memcpy(sets, out_sets, sizeof sets);
     c.which = VERDICT;
     measure(c);
+    try_orders(l);
     c.room = l->n ? below((uint32_t)l->n) : 0;
     measure(c);
     c.which = TABLE;

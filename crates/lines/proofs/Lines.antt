@@ -3,25 +3,24 @@
 -- definition has it, which parts the text at its newlines; and what the reader hands out is this line, 2 where none
 -- stands there, 3 after line 1,024, or the end.
 use Prim.Native.Nat.{ℕ, _+_, _%_, _^_, _≤_, _<_}
-use mathlib.Core.Bool.{Bool, true, false}
-use mathlib.Core.List.{List, [], _∷_, _++_, append-assoc, flatten}
+use mathlib.Core.Bool.{true, false}
+use mathlib.Core.List.{List, _∷_, _++_, append-assoc, flatten}
 use mathlib.Core.Option.{Option, none, some}
 use mathlib.Core.Path.{_≡_, refl, sym, _∙_, ap}
 use native.Mathlib.Numerals.{add-one}
 use native.Mathlib.Omega.{arith}
-use lib.Dec.{eqb}
 use lib.ListN.{length, drop, length-append, length-drop, drop-of-length-le}
 use lib.Seq.{drop-drop, drop-append-seam}
 use borrow.Author.Tests.{lt-ltb}
 use Rattle.model.specs.Line.{pack, job, kind, operand, isLine, lineNumber, maxLines, maxBytes}
-use Rattle.model.specs.Text.{tab, newline, isDigit, verbs, tabbed, inFront, linesOf, packedLine, lineText}
+use Rattle.model.specs.Text.{tab, newline, isDigit, verbs, tabbed, linesOf, packedLine, lineText}
 use Rattle.model.specs.Text.{handedLine, nextLine}
 use Rattle.model.specs.declared.Refusal.the-variants.{TextTooLong, Malformed, TooManyLines}
 use Rattle.model.specs.declared.Cursor.{Cursor}
 use Rattle.model.specs.declared.LineAnswer.{LineAnswer}
 use Rattle.theory.proofs.Tests.{clash}
 use Rattle.theory.proofs.Line.{job-pack, kind-pack, operand-pack, pack-parts, kind-small, line-parts}
-use Rattle.theory.proofs.Fields.{line-first, flatten-lines}
+use Rattle.theory.proofs.Fields.{line-first, flatten-lines, some-line}
 use Rattle.theory.proofs.Spelling.{line-ends, packed-text, text-packed}
 use Rattle.theory.proofs.Reader.{handed-many, handed-malformed, handed-line}
 use Rattle.lines.specs.Fields.{spelling, fieldAt}
@@ -156,19 +155,6 @@ module _ (text : List ℕ) (i : ℕ) where
           )
 
 -- ---- what the reader hands out
-
--- where something stands, there is a first line
-some-line : (s : List ℕ) → 1 ≤ length s → (l : List ℕ) × (ls : List (List ℕ)) × (linesOf s ≡ l ∷ ls)
-unfolding linesOf
-some-line [] h = absurd (omega arith)
-some-line (b ∷ s) h = go (eqb b newline) (linesOf s)
-  where
-    go : (t : Bool) (ls : List (List ℕ))
-        → (l : List ℕ) × (ms : List (List ℕ))
-        × (elim t [ true ↦ (b ∷ []) ∷ ls | false ↦ inFront b ls ] ≡ l ∷ ms)
-    go true ls = (b ∷ [], ls, refl)
-    go false [] = (b ∷ [], [], refl)
-    go false (l ∷ ls) = (b ∷ l, ls, refl)
 
 module _ (D : ℕ) (text : List ℕ) (i n : ℕ) where
   -- nothing stands past the end

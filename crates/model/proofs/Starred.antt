@@ -11,7 +11,7 @@ use Rattle.model.specs.Claims.{table}
 use Rattle.model.specs.declared.TableAnswer.{TableAnswer}
 use Rattle.model.specs.declared.VerdictAnswer.{VerdictAnswer}
 use Rattle.model.specs.declared.MoveAnswer.{MoveAnswer}
-use Rattle.model.specs.Entries.{Outcome, Lent, tabling, judging, moving}
+use Rattle.model.specs.Entries.{Outcome, Lent, tabling, ordering, moving}
 use Rattle.model.specs.Board.{devices}
 
 infix 90 _does_
@@ -48,7 +48,7 @@ pub planC : List ℕ
 unfolding _takes_ _gives_ _starts_
 planC = 1 starts 2 ∷ 1 takes 0 ∷ 1 takes 1 ∷ 1 gives 1 ∷ 2 takes 1 ∷ 2 takes 0 ∷ 2 gives 0 ∷ []
 
-pub planD : List ℕ
+unfoldable pub planD : List ℕ
 unfolding _takes_ _gives_ _starts_
 planD =
     1 starts 2 ∷ 1 takes 0 ∷ 1 takes 1 ∷ 1 gives 1 ∷ 1 gives 0 ∷ 2 takes 1 ∷ 2 takes 0 ∷ 2 gives 0 ∷ 2 gives 1 ∷ []
@@ -85,10 +85,10 @@ unfolding tabling lent
 tabled p =
     let o : Outcome TableAnswer (List ℕ) = tabling devices p (lent p) in tableValues (o .answer) ∷ o .left ∷ []
 
-unfoldable pub judged : List ℕ → List (List ℕ)
-unfolding judging lent
-judged p =
-    let o : Outcome VerdictAnswer (List ℕ) = judging devices p (lent p) in verdictValues (o .answer) ∷ o .left ∷ []
+unfoldable pub verdictOn : List ℕ → List (List ℕ)
+unfolding ordering lent
+verdictOn p =
+    let o : Outcome VerdictAnswer (List ℕ) = ordering devices p (lent p) in verdictValues (o .answer) ∷ o .left ∷ []
 
 -- of a plan with its own table
 unfoldable pub moved : List ℕ → ℕ → ℕ → List (List ℕ)
@@ -107,21 +107,21 @@ refused number place p = (number ∷ place ∷ []) ∷ lent p ∷ []
 
 -- The table.
 pub record Starred : Type 0 where
-  pub A : judged planA ≡ accepted 2 (1 ∷ 4 ∷ 5 ∷ 6 ∷ 2 ∷ 3 ∷ [])
+  pub A : verdictOn planA ≡ accepted 2 (1 ∷ 4 ∷ 5 ∷ 6 ∷ 2 ∷ 3 ∷ [])
   pub A-table : tabled planA ≡ (0 ∷ 6 ∷ []) ∷ (3 ∷ 2 ∷ 0 ∷ 3 ∷ 2 ∷ 0 ∷ 99 ∷ []) ∷ []
   pub B-move : moved planA 5 2 ≡ (0 ∷ 3 ∷ []) ∷ planB ∷ (7 ∷ 2 ∷ 0 ∷ 5 ∷ 4 ∷ 0 ∷ 99 ∷ []) ∷ []
   pub B-table : tabled planB ≡ (0 ∷ 6 ∷ []) ∷ (7 ∷ 2 ∷ 0 ∷ 5 ∷ 4 ∷ 0 ∷ 99 ∷ []) ∷ []
-  pub B : judged planB ≡ accepted 2 (1 ∷ 4 ∷ 5 ∷ 6 ∷ 2 ∷ 3 ∷ [])
-  pub C : judged planC ≡ refused 10 0 planC
-  pub D : judged planD ≡ accepted 0 (1 ∷ 2 ∷ 3 ∷ 4 ∷ 5 ∷ 6 ∷ 7 ∷ 8 ∷ 9 ∷ [])
-  pub E : judged planE ≡ accepted 1 (1 ∷ 2 ∷ 3 ∷ 4 ∷ [])
-  pub F : judged planF ≡ refused 10 0 planF
-  pub G : judged planG ≡ refused 9 5 planG
-  pub H : judged planH ≡ refused 10 0 planH
-  pub I : judged planI ≡ accepted 0 []
+  pub B : verdictOn planB ≡ accepted 2 (1 ∷ 4 ∷ 5 ∷ 6 ∷ 2 ∷ 3 ∷ [])
+  pub C : verdictOn planC ≡ refused 10 0 planC
+  pub D : verdictOn planD ≡ accepted 0 (1 ∷ 2 ∷ 3 ∷ 4 ∷ 5 ∷ 6 ∷ 7 ∷ 8 ∷ 9 ∷ [])
+  pub E : verdictOn planE ≡ accepted 1 (1 ∷ 2 ∷ 3 ∷ 4 ∷ [])
+  pub F : verdictOn planF ≡ refused 10 0 planF
+  pub G : verdictOn planG ≡ refused 9 5 planG
+  pub H : verdictOn planH ≡ refused 10 0 planH
+  pub I : verdictOn planI ≡ accepted 0 []
 
 pub starred : Starred
-unfolding tabled judged moved accepted refused lent planA planB planC planD planE planF planG planH planI
+unfolding tabled verdictOn moved accepted refused lent planA planB planC planD planE planF planG planH planI
 starred =
     record {
       A = refl;

@@ -1,5 +1,6 @@
 -- Worked cases beside the starred ones of 01, as one table, for what those do not reach: each row has what the
--- definitions make of a case, computed from them, and what 01 says it is. Texts are written as they stand in a file.
+-- definitions make of a case, computed from them, and what 01 says it is, or 02 of an order from elsewhere (request 1),
+-- where each group says what wrong judge it excludes. Texts are written as they stand in a file.
 -- Lent lists are filled with 99, which no case has; the values of an answer are 0 and the value, or a refusal's number
 -- and place. The record is the one statement.
 use Prim.Native.Nat.{ℕ}
@@ -11,21 +12,22 @@ use mathlib.Core.Option.{Option, none, some}
 use mathlib.Core.Path.{_≡_, refl}
 use lib.ListN.{replicate}
 use Rattle.model.specs.Answers.{refusalValues, lineValues, readValues, writeValues, tableValues}
-use Rattle.model.specs.Answers.{verdictValues, moveValues}
+use Rattle.model.specs.Answers.{verdictValues, moveValues, judgeValues}
 use Rattle.model.specs.Line.{isStep, lineNumber}
 use Rattle.model.specs.Text.{spelt, textOf, nextLine, lineFrom}
 use Rattle.model.specs.WellFormed.{lineFault, fault}
 use Rattle.model.specs.Legal.{held}
 use Rattle.model.specs.Handed.{handed}
-use Rattle.model.specs.Entries.{Outcome, reading, writing, tabling, judging, moving}
+use Rattle.model.specs.Entries.{Outcome, reading, writing, tabling, ordering, moving}
 use Rattle.model.specs.Printed.{ScreenOutcome, printed, screening}
+use Rattle.model.specs.Judged.{judging, judgePrinted}
 use Rattle.model.specs.Board.{devices}
 use Rattle.model.specs.declared.Refusal.{Refusal}
 use Rattle.model.specs.declared.ReadAnswer.{ReadAnswer}
 use Rattle.model.specs.declared.WriteAnswer.{WriteAnswer}
 use Rattle.model.specs.declared.TableAnswer.{TableAnswer}
 use Rattle.model.specs.declared.VerdictAnswer.{VerdictAnswer}
-use Rattle.model.proofs.Starred.{_does_, _takes_, _gives_, _starts_, planA, planF, moved}
+use Rattle.model.proofs.Starred.{_does_, _takes_, _gives_, _starts_, planA, planD, planF, moved}
 
 -- the bytes of a text, which has none but those of ASCII
 pub bytes : String → List ℕ
@@ -67,10 +69,10 @@ tabledInto room p =
     let o : Outcome TableAnswer (List ℕ) = tabling devices p (replicate room 99) in
     tableValues (o .answer) ∷ o .left ∷ []
 
-pub judgedInto : ℕ → List ℕ → List (List ℕ)
-unfolding judging
-judgedInto room p =
-    let o : Outcome VerdictAnswer (List ℕ) = judging devices p (replicate room 99) in
+pub orderedInto : ℕ → List ℕ → List (List ℕ)
+unfolding ordering
+orderedInto room p =
+    let o : Outcome VerdictAnswer (List ℕ) = ordering devices p (replicate room 99) in
     verdictValues (o .answer) ∷ o .left ∷ []
 
 -- the line numbers of the order handed out
@@ -92,6 +94,20 @@ nextAt text offset lines = lineValues (nextLine devices text (record { offset = 
 pub movedWith : List ℕ → List ℕ → ℕ → ℕ → List ℕ
 unfolding moving
 movedWith p sets line device = moveValues (moving devices p sets line device .answer)
+
+-- what the judge answers of entries, and prints of a text
+pub judgedOf : List ℕ → List ℕ → List ℕ
+unfolding judging
+judgedOf p entries = judgeValues (judging devices p entries)
+
+pub judgedText : String → List ℕ
+unfolding judgePrinted bytes
+judgedText text = judgePrinted devices (bytes text)
+
+-- the same of the text of one line, the line that parts, and these entries
+pub judgedAfter : String → List ℕ
+unfolding judgePrinted bytes
+judgedAfter entries = judgePrinted devices (bytes "1\tdo\t0\n--\n" ++ bytes entries)
 
 -- ---- the cases
 
@@ -216,18 +232,18 @@ pub record Worked : Type 0 where
   pub waits : orderOf planWaits ≡ 1 ∷ 3 ∷ 4 ∷ 5 ∷ 2 ∷ []
   pub started-after : orderOf (1 takes 0 ∷ 1 starts 2 ∷ 2 does 0 ∷ []) ≡ 1 ∷ 2 ∷ 3 ∷ []
   -- of lasting takes the lowest device first; 9 before 10, and the lowest device of those that there are
-  pub lowest-first : judgedInto 3 (1 starts 2 ∷ 1 takes 1 ∷ 2 takes 0 ∷ []) ≡ (0 ∷ 2 ∷ []) ∷ (1 ∷ 3 ∷ 2 ∷ []) ∷ []
-  pub nine : judgedInto 5 planTwice ≡ (9 ∷ 3 ∷ []) ∷ replicate 5 99 ∷ []
-  pub ten : judgedInto 8 planRing ≡ (10 ∷ 1 ∷ []) ∷ replicate 8 99 ∷ []
-  pub ten-four : judgedInto 12 planFour ≡ (10 ∷ 0 ∷ []) ∷ replicate 12 99 ∷ []
+  pub lowest-first : orderedInto 3 (1 starts 2 ∷ 1 takes 1 ∷ 2 takes 0 ∷ []) ≡ (0 ∷ 2 ∷ []) ∷ (1 ∷ 3 ∷ 2 ∷ []) ∷ []
+  pub nine : orderedInto 5 planTwice ≡ (9 ∷ 3 ∷ []) ∷ replicate 5 99 ∷ []
+  pub ten : orderedInto 8 planRing ≡ (10 ∷ 1 ∷ []) ∷ replicate 8 99 ∷ []
+  pub ten-four : orderedInto 12 planFour ≡ (10 ∷ 0 ∷ []) ∷ replicate 12 99 ∷ []
   -- what is broken comes before 11, and 11 before the rest
   pub read-broken : readInto 0 (bytes "2\tdo\t0\n") ≡ (4 ∷ 1 ∷ []) ∷ [] ∷ []
   pub written-broken : writtenInto 0 (2 does 0 ∷ []) ≡ (4 ∷ 1 ∷ []) ∷ [] ∷ []
   pub tabled-broken : tabledInto 0 (2 does 0 ∷ []) ≡ (4 ∷ 1 ∷ []) ∷ [] ∷ []
-  pub judged-broken : judgedInto 0 (2 does 0 ∷ []) ≡ (4 ∷ 1 ∷ []) ∷ [] ∷ []
+  pub ordered-broken : orderedInto 0 (2 does 0 ∷ []) ≡ (4 ∷ 1 ∷ []) ∷ [] ∷ []
   pub moved-broken : movedWith (2 does 0 ∷ []) [] 0 32 ≡ 4 ∷ 1 ∷ []
   pub tabled-short : tabledInto 5 planA ≡ (11 ∷ 6 ∷ []) ∷ replicate 5 99 ∷ []
-  pub judged-short : judgedInto 7 planRing ≡ (11 ∷ 8 ∷ []) ∷ replicate 7 99 ∷ []
+  pub ordered-short : orderedInto 7 planRing ≡ (11 ∷ 8 ∷ []) ∷ replicate 7 99 ∷ []
   pub moved-short : movedWith planA (3 ∷ 2 ∷ 0 ∷ 3 ∷ 2 ∷ []) 0 32 ≡ 11 ∷ 6 ∷ []
   -- moves of A's claims: 12, then 13, then 14 at the nearest stale line on the way, then 8 where the edited plan has
   -- it; a stale set off the way bars nothing, and the present device changes nothing
@@ -245,10 +261,82 @@ pub record Worked : Type 0 where
   pub eight-leaves : moved planA 5 0 ≡ (8 ∷ 5 ∷ []) ∷ planA ∷ (tableA ++ (99 ∷ [])) ∷ []
   pub lasting-moved : movedWith planA tableA 4 2 ≡ 0 ∷ 2 ∷ []
   pub F-moved : movedWith planF (1 ∷ 1 ∷ 1 ∷ 0 ∷ []) 3 1 ≡ 0 ∷ 3 ∷ []
+  -- Legal entries are those of any legal order: the one handed out, one with the other job first, and one that goes
+  -- over to another job inside a pair, as none that is handed out does; of the empty plan, none. This excludes a judge
+  -- that compares with the order handed out.
+  pub A-judged : judgedOf planA (1 ∷ 4 ∷ 5 ∷ 6 ∷ 2 ∷ 3 ∷ []) ≡ 0 ∷ []
+  pub D-judged : map (judgedOf planD)
+      ((1 ∷ 2 ∷ 3 ∷ 4 ∷ 5 ∷ 6 ∷ 7 ∷ 8 ∷ 9 ∷ []) ∷ (1 ∷ 6 ∷ 7 ∷ 8 ∷ 9 ∷ 2 ∷ 3 ∷ 4 ∷ 5 ∷ [])
+      ∷ (1 ∷ 6 ∷ 7 ∷ 8 ∷ 2 ∷ 9 ∷ 3 ∷ 4 ∷ 5 ∷ []) ∷ []) ≡ replicate 3 (0 ∷ [])
+  pub nothing-judged : map (judgedOf []) ([] ∷ (1 ∷ []) ∷ (0 ∷ []) ∷ []) ≡ (0 ∷ []) ∷ (15 ∷ 1 ∷ []) ∷ (15 ∷ 1 ∷ []) ∷ []
+  -- a device taken while it is held: for good, until its give, or crosswise, where nothing can follow any more. This
+  -- excludes a judge that asks for starts and the order of each job's lines alone.
+  pub held-judged : map (judgedOf planA) ((1 ∷ 2 ∷ 3 ∷ 4 ∷ 5 ∷ 6 ∷ []) ∷ (1 ∷ 4 ∷ 5 ∷ 2 ∷ 3 ∷ 6 ∷ []) ∷ [])
+      ≡ (15 ∷ 5 ∷ []) ∷ (15 ∷ 4 ∷ []) ∷ []
+  pub crosswise-judged : map (judgedOf planD) ((1 ∷ 2 ∷ 6 ∷ 3 ∷ []) ∷ (1 ∷ 2 ∷ 6 ∷ 7 ∷ []) ∷ (1 ∷ 2 ∷ 6 ∷ []) ∷ [])
+      ≡ replicate 3 (15 ∷ 4 ∷ [])
+  -- a line whose job is not started, also where the starting job is under way, or with an earlier line of its job
+  -- undone. This excludes a judge that asks for devices alone.
+  pub unstarted-judged : judgedOf planA (4 ∷ 1 ∷ 5 ∷ 6 ∷ 2 ∷ 3 ∷ []) ≡ 15 ∷ 1 ∷ []
+  pub starting-judged : judgedOf (1 does 0 ∷ 1 starts 2 ∷ 2 does 0 ∷ []) (1 ∷ 3 ∷ 2 ∷ []) ≡ 15 ∷ 2 ∷ []
+  pub earlier-judged : judgedOf planA (1 ∷ 4 ∷ 6 ∷ 5 ∷ 2 ∷ 3 ∷ []) ≡ 15 ∷ 3 ∷ []
+  -- a line twice, 0, and a number past the last line's, first and after all the lines. This excludes a judge that takes
+  -- entries for positions from 0, or stops where every line is done.
+  pub twice-judged : map (judgedOf planA) ((1 ∷ 1 ∷ []) ∷ (1 ∷ 4 ∷ 5 ∷ 6 ∷ 2 ∷ 3 ∷ 3 ∷ []) ∷ [])
+      ≡ (15 ∷ 2 ∷ []) ∷ (15 ∷ 7 ∷ []) ∷ []
+  pub nought-judged : map (judgedOf planA) ((0 ∷ 1 ∷ []) ∷ (1 ∷ 4 ∷ 5 ∷ 6 ∷ 2 ∷ 3 ∷ 0 ∷ []) ∷ [])
+      ≡ (15 ∷ 1 ∷ []) ∷ (15 ∷ 7 ∷ []) ∷ []
+  pub past-judged : map (judgedOf planA) ((7 ∷ []) ∷ (1 ∷ 4 ∷ 5 ∷ 6 ∷ 2 ∷ 3 ∷ 7 ∷ []) ∷ [])
+      ≡ (15 ∷ 1 ∷ []) ∷ (15 ∷ 7 ∷ []) ∷ []
+  -- a list that stops early, at one past its end; and of several wrong entries the first. This excludes a judge that
+  -- accepts what can be gone on with, or that names the last place.
+  pub early-judged : map (judgedOf planA) ([] ∷ (1 ∷ []) ∷ (1 ∷ 4 ∷ 5 ∷ 6 ∷ 2 ∷ []) ∷ [])
+      ≡ (15 ∷ 1 ∷ []) ∷ (15 ∷ 2 ∷ []) ∷ (15 ∷ 6 ∷ []) ∷ []
+  pub first-judged : judgedOf planA (1 ∷ 4 ∷ 9 ∷ 0 ∷ []) ≡ 15 ∷ 3 ∷ []
+  -- what is broken in the plan comes before 15; where it has no legal order, the place in the list is named all the
+  -- same. This excludes a judge that asks for the verdict first.
+  pub broken-judged : judgedOf (1 takes 3 ∷ 1 takes 3 ∷ []) (9 ∷ []) ≡ 8 ∷ 2 ∷ []
+  pub no-order-judged : map (judgedOf planF) ((1 ∷ 2 ∷ 3 ∷ 4 ∷ []) ∷ (1 ∷ 2 ∷ []) ∷ []) ≡ replicate 2 (15 ∷ 3 ∷ [])
+  -- The judge's texts: with the line that parts, its order and another; without it, where the list is empty; and where
+  -- that line is the first or there is nothing, and the plan is. This excludes a program that wants the line.
+  pub legal-texts : map judgedText
+      ("1\tstart\t2\n1\ttake\t1\n2\ttake\t0\n--\n1\n3\n2\n" ∷ "1\tstart\t2\n1\ttake\t1\n2\ttake\t0\n--\n1\n2\n3\n" ∷ [])
+      ≡ replicate 2 (bytes "legal\n")
+  pub no-parting : judgedText "1\tdo\t0\n" ≡ bytes "refused\t15\t1\n"
+  pub empty-texts : map judgedText ("" ∷ "--\n" ∷ []) ≡ replicate 2 (bytes "legal\n")
+  pub empty-plan : judgedText "--\n1\n" ≡ bytes "refused\t15\t1\n"
+  -- what is like the line that parts is a malformed line of the plan, and so is an entry without one. This excludes a
+  -- program that trims a line, looks at its beginning, or lets the text's end stand for a newline.
+  pub not-parting : map judgedText
+      ("1\tdo\t0\n-- \n1\n" ∷ "1\tdo\t0\n --\n1\n" ∷ "1\tdo\t0\n--\r\n1\n" ∷ "1\tdo\t0\n---\n1\n"
+      ∷ "1\tdo\t0\n-\n1\n" ∷ "1\tdo\t0\n--" ∷ "1\tdo\t0\n1\n" ∷ [])
+      ≡ replicate 7 (bytes "refused\t2\t2\n")
+  -- the first such line parts, so that a second is an entry. This excludes a program that goes by the last one, or
+  -- passes over it.
+  pub second-parting : map judgedAfter ("--\n1\n" ∷ "1\n--\n" ∷ [])
+      ≡ bytes "refused\t15\t1\n" ∷ bytes "refused\t15\t2\n" ∷ []
+  -- an entry is a number as 01 writes it, with its newline and nothing else: no nought in front, no sign, blank, tab,
+  -- carriage return or letter, and not nothing; and one too big for 8, 16, 32 or 64 bits is no line's. This excludes a
+  -- reader of numbers that forgives, and one that wraps.
+  pub one-entry : judgedAfter "1\n" ≡ bytes "legal\n"
+  pub no-entry : map judgedAfter
+      ("01\n" ∷ "00\n" ∷ "0\n" ∷ "+1\n" ∷ "-1\n" ∷ " 1\n" ∷ "1 \n" ∷ "1\t\n" ∷ "1\r\n" ∷ "\n1\n" ∷ "x\n" ∷ "1"
+      ∷ [])
+      ≡ replicate 12 (bytes "refused\t15\t1\n")
+  pub no-wrap : map judgedAfter ("257\n" ∷ "65537\n" ∷ "4294967297\n" ∷ "18446744073709551617\n" ∷ [])
+      ≡ replicate 4 (bytes "refused\t15\t1\n")
+  pub entry-past : map judgedAfter ("1\n\n" ∷ "1\n1" ∷ [])
+      ≡ replicate 2 (bytes "refused\t15\t2\n")
+  -- 1 counts the plan's bytes alone, and comes first; then 2 to 8, before 15. This excludes a program that measures
+  -- the whole text.
+  pub full-plan : judgePrinted devices (replicate 12288 10 ++ bytes "--\n") ≡ bytes "refused\t2\t1\n"
+  pub long-plan : judgePrinted devices (replicate 12289 10 ++ bytes "--\n") ≡ bytes "refused\t1\t0\n"
+  pub broken-plan : judgedText "1\ttake\t3\n1\ttake\t3\n--\n0\n" ≡ bytes "refused\t8\t2\n"
 
 pub worked : Worked
-unfolding bytes valuesOf faultOf faultAfter readInto writtenInto tabledInto judgedInto orderOf shownIn nextAt movedWith
-    lineFrom textA printA tableA wide wideText notLines planRing planFour planWaits planTwice planA planF moved held
+unfolding bytes valuesOf faultOf faultAfter readInto writtenInto tabledInto orderedInto orderOf shownIn nextAt movedWith
+    judgedOf judgedText judgedAfter judgePrinted lineFrom textA printA tableA wide wideText notLines planRing planFour
+    planWaits planTwice planA planD planF moved held
 worked =
     record {
       A-read = refl;
@@ -311,10 +399,10 @@ worked =
       read-broken = refl;
       written-broken = refl;
       tabled-broken = refl;
-      judged-broken = refl;
+      ordered-broken = refl;
       moved-broken = refl;
       tabled-short = refl;
-      judged-short = refl;
+      ordered-short = refl;
       moved-short = refl;
       twelve = refl;
       twelve-nought = refl;
@@ -327,4 +415,32 @@ worked =
       eight-leaves = refl;
       lasting-moved = refl;
       F-moved = refl;
+      A-judged = refl;
+      D-judged = refl;
+      nothing-judged = refl;
+      held-judged = refl;
+      crosswise-judged = refl;
+      unstarted-judged = refl;
+      starting-judged = refl;
+      earlier-judged = refl;
+      twice-judged = refl;
+      nought-judged = refl;
+      past-judged = refl;
+      early-judged = refl;
+      first-judged = refl;
+      broken-judged = refl;
+      no-order-judged = refl;
+      legal-texts = refl;
+      no-parting = refl;
+      empty-texts = refl;
+      empty-plan = refl;
+      not-parting = refl;
+      second-parting = refl;
+      one-entry = refl;
+      no-entry = refl;
+      no-wrap = refl;
+      entry-past = refl;
+      full-plan = refl;
+      long-plan = refl;
+      broken-plan = refl;
     }

@@ -1,6 +1,6 @@
--- 01, "Refusal numbers": the number and the place of each refusal, and for each answer its values: 0 where the entry
--- succeeded, else the refusal's number; then what the case carries. The end of the lines is 0 alone. And how the tests
--- of an entry decide: by the first that refuses.
+-- 01, "Refusal numbers", and 02's so far: the number and the place of each refusal, and for each answer its values: 0
+-- where the entry succeeded, else the refusal's number; then what the case carries. The end of the lines and a legal
+-- order are 0 alone. And how the tests of an entry decide: by the first that refuses.
 use Prim.Native.Nat.{ℕ}
 use mathlib.Core.Bool.{Bool, true, false}
 use mathlib.Core.List.{List, [], _∷_}
@@ -10,13 +10,14 @@ use Rattle.model.specs.declared.Refusal.{Refusal}
 use Rattle.model.specs.declared.Refusal.the-variants.{TextTooLong, Malformed, TooManyLines, JobOutOfSequence}
 use Rattle.model.specs.declared.Refusal.the-variants.{BadStart, NeverStarted, GiveWithoutTake, TakeOfHeld}
 use Rattle.model.specs.declared.Refusal.the-variants.{TwoLasting, LeadsBack, ListTooShort, NotATake}
-use Rattle.model.specs.declared.Refusal.the-variants.{NoSuchDevice, StaleTable}
+use Rattle.model.specs.declared.Refusal.the-variants.{NoSuchDevice, StaleTable, IllegalStep}
 use Rattle.model.specs.declared.LineAnswer.{LineAnswer}
 use Rattle.model.specs.declared.ReadAnswer.{ReadAnswer}
 use Rattle.model.specs.declared.WriteAnswer.{WriteAnswer}
 use Rattle.model.specs.declared.TableAnswer.{TableAnswer}
 use Rattle.model.specs.declared.VerdictAnswer.{VerdictAnswer}
 use Rattle.model.specs.declared.MoveAnswer.{MoveAnswer}
+use Rattle.model.specs.declared.JudgeAnswer.{JudgeAnswer}
 
 abbrev pub numberOf : Refusal → ℕ
 numberOf TextTooLong = 1
@@ -33,6 +34,7 @@ numberOf (ListTooShort needed) = 11
 numberOf (NotATake asked) = 12
 numberOf (NoSuchDevice asked) = 13
 numberOf (StaleTable line) = 14
+numberOf (IllegalStep position) = 15
 
 abbrev pub placeOf : Refusal → ℕ
 placeOf TextTooLong = 0
@@ -49,6 +51,7 @@ placeOf (ListTooShort needed) = needed
 placeOf (NotATake asked) = asked
 placeOf (NoSuchDevice asked) = asked
 placeOf (StaleTable line) = line
+placeOf (IllegalStep position) = position
 
 abbrev pub refusalValues : Refusal → List ℕ
 refusalValues r = numberOf r ∷ placeOf r ∷ []
@@ -77,6 +80,10 @@ verdictValues (VerdictAnswer.Refused r) = refusalValues r
 abbrev pub moveValues : MoveAnswer → List ℕ
 moveValues (MoveAnswer.Changed n) = 0 ∷ n ∷ []
 moveValues (MoveAnswer.Refused r) = refusalValues r
+
+abbrev pub judgeValues : JudgeAnswer → List ℕ
+judgeValues JudgeAnswer.Legal = 0 ∷ []
+judgeValues (JudgeAnswer.Refused r) = refusalValues r
 
 -- a refusal, where a test says so
 unfoldable pub refuseIf : Bool → Refusal → Option Refusal

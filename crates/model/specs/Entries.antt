@@ -1,6 +1,7 @@
 -- The outcome of each entry: its answer and the contents of every lent list, for every input. A refusal leaves what
 -- was lent as it was; a success leaves what lies past the last entry written (01, "Refusal numbers"). The line reader
--- writes to nothing that is lent, and its outcome is `Text.nextLine`; the screens' entry stands in `Printed`.
+-- and the judge write to nothing that is lent: their outcomes are `Text.nextLine` and `Judged.judging`. The screens'
+-- entry stands in `Printed`.
 use Prim.Native.Nat.{ℕ}
 use mathlib.Core.List.{List, [], _∷_, map}
 use mathlib.Core.Option.{Option, none, some}
@@ -65,9 +66,9 @@ tabling D p lent =
 abbrev pub verdictRefusal : ℕ → List ℕ → List ℕ → Option Refusal
 verdictRefusal D p lent = firstRefusal (fault D p ∷ tooShort (length lent) (length p) ∷ noOrder D p ∷ [])
 
-unfoldable pub judging : ℕ → List ℕ → List ℕ → Outcome VerdictAnswer (List ℕ)
+unfoldable pub ordering : ℕ → List ℕ → List ℕ → Outcome VerdictAnswer (List ℕ)
 unfolding outcome firstRefusal fault tooShort noOrder heldAtEnd handed lineNumber over
-judging D p lent =
+ordering D p lent =
     outcome VerdictAnswer.Refused (verdictRefusal D p lent)
     (VerdictAnswer.Held (heldAtEnd D p)) (over (map lineNumber (handed p)) lent) lent
 

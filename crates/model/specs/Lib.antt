@@ -1,5 +1,6 @@
--- Document 01 as definitions, by subject, in the order in which they build on each other. Who trusts nothing else
--- reads these files next to 01; each opens with the paragraph that it answers, or says that it answers none.
+-- Document 01, and 02 as far as it is built, as definitions, by subject, in the order in which they build on each
+-- other. Who trusts nothing else reads these files next to them; each opens with the paragraph that it answers, or says
+-- that it answers none.
 pub mod Lists
 pub mod Sets
 pub mod Answers
@@ -16,4 +17,5 @@ pub mod Verdict
 pub mod Move
 pub mod Entries
 pub mod Printed
+pub mod Judged
 pub mod Board

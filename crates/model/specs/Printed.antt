@@ -1,4 +1,4 @@
--- 01, "Plans with their verdicts", its last part: what the program prints for a text, and the screens' entry.
+-- 01, "Plans with their verdicts", its last part: what `order` prints for a text, and the screens' entry.
 use Prim.Native.Nat.{ℕ}
 use mathlib.Core.Bool.{Bool, true, false}
 use mathlib.Core.List.{List, [], _∷_, _++_, map, flatMap}
@@ -41,7 +41,7 @@ unfolding printedOrder printedRefusal
 printedBy none order stillHeld = printedOrder order stillHeld
 printedBy (some r) order stillHeld = printedRefusal r
 
--- what is printed for a text
+-- what `order` prints for a text
 unfoldable pub printed : ℕ → List ℕ → List ℕ
 unfolding printedBy firstRefusal textFault noOrder spelt handed heldAtEnd lineNumber
 printed D text =

@@ -1,8 +1,8 @@
 // The answers that the entries give, as Rattle enums. No code stands here: what each entry answers, for every input, is
 // defined in specs/, and specs/Answers.antt lists the number and the values of each case.
 
-// A refusal, one case for each number of 01, in its order. A case holds the place, unless that is fixed: 0 for 1, and
-// 1,025 for 3.
+// A refusal, one case for each number of 01, and of 02 as far as it is built, in their order. A case holds the place,
+// unless that is fixed: 0 for 1, and 1,025 for 3.
 pub enum Refusal {
     // 1: the text has over 12,288 bytes
     TextTooLong,
@@ -32,6 +32,8 @@ pub enum Refusal {
     NoSuchDevice(u32),
     // 14: the stored set of this line is stale
     StaleTable(u32),
+    // 15: an order from elsewhere goes wrong, or stops, at this position
+    IllegalStep(u32),
 }
 
 // Where the line reader stands: the offset of the next line, and how many lines were handed out before it.
@@ -74,5 +76,11 @@ pub enum VerdictAnswer {
 // The move's: how many lines got another set.
 pub enum MoveAnswer {
     Changed(u32),
+    Refused(Refusal),
+}
+
+// The judge's: the order from elsewhere is legal, or the plan or the list is refused.
+pub enum JudgeAnswer {
+    Legal,
     Refused(Refusal),
 }

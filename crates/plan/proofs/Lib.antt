@@ -4,6 +4,7 @@ pub mod Answers
 pub mod Stacks
 pub mod Steps
 pub mod Tables
+pub mod Firsts
 pub mod Stands
 pub mod Walks
 pub mod LastTests

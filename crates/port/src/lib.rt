@@ -1,12 +1,13 @@
 // The entries for callers in C and Rust. Each hands on what it was lent and makes the answer one number of 64 bits:
-// what a success counts, or a refusal's number times 2^32 plus its place (01, "Refusal numbers").
+// what a success counts, or a refusal's number times 2^32 plus its place (01, "Refusal numbers"; 02, request 1).
 use board::Set;
+use model::JudgeAnswer;
 use model::MoveAnswer;
 use model::ReadAnswer;
 use model::TableAnswer;
 use model::VerdictAnswer;
 use model::WriteAnswer;
-ghost use Rattle.promises.specs.ForC.{ReadsForC, WritesForC, TablesForC, JudgesForC, MovesForC};
+ghost use Rattle.promises.specs.ForC.{ReadsForC, WritesForC, TablesForC, OrdersForC, MovesForC, JudgesForC};
 
 // A text into a lent list of packed numbers: the number of lines.
 #[no_mangle]
@@ -44,7 +45,7 @@ pub extern "C" fn gimmerskip_table(plan: &[u32], sets: &mut [Set]) -> u64
 // The verdict on a packed plan, with the order in a lent list of line numbers: the number of devices still held.
 #[no_mangle]
 pub extern "C" fn gimmerskip_verdict(plan: &[u32], order: &mut [u16]) -> u64
-    ensures { λ r. ⌜ JudgesForC (now (plan .entry)) (now (order .entry)) r (now (order .exit)) ⌝ }
+    ensures { λ r. ⌜ OrdersForC (now (plan .entry)) (now (order .entry)) r (now (order .exit)) ⌝ }
 {
     match verdict::verdict(plan, order) {
         VerdictAnswer::Held(n) => n as u64,
@@ -62,5 +63,16 @@ pub extern "C" fn gimmerskip_move(plan: &mut [u32], sets: &mut [Set], line: u32,
     match moving::move_claim(plan, sets, line, device) {
         MoveAnswer::Changed(n) => n as u64,
         MoveAnswer::Refused(r) => refusals::in_one(r),
+    }
+}
+
+// An order from elsewhere, as line numbers, judged against a packed plan: 0 if it is legal.
+#[no_mangle]
+pub extern "C" fn gimmerskip_judge(plan: &[u32], order: &[u16]) -> u64
+    ensures { λ r. ⌜ JudgesForC (now (plan .entry)) (now (order .entry)) r ⌝ }
+{
+    match legal::judge(plan, order) {
+        JudgeAnswer::Legal => 0,
+        JudgeAnswer::Refused(r) => refusals::in_one(r),
     }
 }

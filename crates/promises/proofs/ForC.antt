@@ -1,7 +1,8 @@
 -- What follows from what the entries for C and Rust promise (01, "Refusal numbers"): what a caller reads off the
 -- number, a count or by its halves a refusal, is the answer of the entry behind, so that one number for two values
 -- loses nothing; it is below 2^32 exactly if that entry succeeded; from there on everything lent is as it was. The line
--- entry gives 0 exactly at the end. For no count, length or place of an entry has more than 32 bits.
+-- entry gives 0 exactly at the end, and the judge exactly of a legal order. For no count, length, place or position of
+-- an entry has more than 32 bits.
 use Prim.Native.Nat.{ℕ, suc, _+_, _*_, _<_, _≤_}
 use mathlib.Core.Bool.{true, not}
 use mathlib.Core.List.{List}
@@ -14,12 +15,13 @@ use lib.ListN.{length, getD}
 use Rattle.model.specs.Board.{devices}
 use Rattle.model.specs.Lists.{upFrom, positions}
 use Rattle.model.specs.Answers.{numberOf, placeOf, lineValues, readValues, writeValues, tableValues, verdictValues}
-use Rattle.model.specs.Answers.{moveValues}
+use Rattle.model.specs.Answers.{moveValues, judgeValues}
 use Rattle.model.specs.Line.{job, isLine, lineNumber}
 use Rattle.model.specs.Text.{spelt, cursorAfter, cursorFrom, lineFrom}
 use Rattle.model.specs.WellFormed.{WellFormed}
 use Rattle.model.specs.Move.{edited, way, rewritten, changed, askedAt, moveRefusal}
-use Rattle.model.specs.Entries.{outcome, reading, writing, tabling, judging, moving}
+use Rattle.model.specs.Entries.{outcome, reading, writing, tabling, ordering, moving}
+use Rattle.model.specs.Judged.{judging}
 use Rattle.model.specs.declared.Refusal.{Refusal}
 use Rattle.model.specs.declared.LineAnswer.{LineAnswer}
 use Rattle.model.specs.declared.ReadAnswer.{ReadAnswer}
@@ -27,9 +29,11 @@ use Rattle.model.specs.declared.WriteAnswer.{WriteAnswer}
 use Rattle.model.specs.declared.TableAnswer.{TableAnswer}
 use Rattle.model.specs.declared.VerdictAnswer.{VerdictAnswer}
 use Rattle.model.specs.declared.MoveAnswer.{MoveAnswer}
+use Rattle.model.specs.declared.JudgeAnswer.{JudgeAnswer}
 use Rattle.theory.specs.WellFormed.{Broken}
 use Rattle.theory.specs.Verdict.{NoOrder, twice, back}
 use Rattle.theory.specs.Text.{TextBroken, tooLong, spells}
+use Rattle.theory.specs.Judged.{LegalEntries}
 use Rattle.theory.proofs.Answers.{number-range, one-refusal}
 use Rattle.theory.proofs.Lists.{those-length}
 use Rattle.theory.proofs.Line.{line-parts}
@@ -40,14 +44,17 @@ use Rattle.theory.proofs.Move.{asked-take}
 use Rattle.theory.proofs.Text.{text-length}
 use Rattle.theory.proofs.Reader.{RightAnswer, next-right}
 use Rattle.theory.proofs.Offsets.{StandsAt, from-stands, one-past}
+use Rattle.theory.proofs.Judged.{stray-exactly, stray-bounds}
 use Rattle.theory.proofs.Printed.{broken-bounds, held-few}
 use Rattle.model.specs.InOne.{half, inOne}
 use Rattle.promises.specs.Outcome.{MeetsInOne, faulty, short, further}
 use Rattle.promises.specs.Text.{ReadsAs, Asked}
 use Rattle.promises.specs.Move.{NotMoved, notATake, noSuchDevice, staleTable, takeOfHeld}
-use Rattle.promises.specs.ForC.{HandsOutForC, ReadsForC, WritesForC, TablesForC, JudgesForC, MovesForC}
+use Rattle.promises.specs.Judge as judge
+use Rattle.promises.specs.Judge.{JudgesAs, NotPassed}
+use Rattle.promises.specs.ForC.{HandsOutForC, ReadsForC, WritesForC, TablesForC, OrdersForC, MovesForC}
 use Rattle.promises.specs.ForC.{StandsFor, aCount, aRefusal, ReadOff, LineStandsFor, theEnd, aLine, noLine}
-use Rattle.promises.specs.ForC.{AskedForC}
+use Rattle.promises.specs.ForC.{AskedForC, JudgesForC, JudgeStandsFor, aLegal, notPassed}
 use Rattle.promises.proofs.Tight.{by-refusal, by-none}
 use Rattle.promises.proofs.Outcome.{Answers, Entry, tests, outcomeOf, Case, listed-exactly, passed-exactly}
 use Rattle.promises.proofs.Outcome.{not-both}
@@ -55,6 +62,7 @@ use Rattle.promises.proofs.Text.{readEntry, writeEntry, read-line-by-li
 use Rattle.promises.proofs.Table as table
 use Rattle.promises.proofs.Verdict as verdict
 use Rattle.promises.proofs.Move as move
+use Rattle.promises.proofs.Judge.{accepted-exactly, refused-exactly}
 
 -- ---- one law
 
@@ -172,9 +180,9 @@ table-number plan lent = says (table.entry plan lent) (record {
   count = λ w. omega (arith, w .few);
 })
 
-pub verdict-number : (plan lent : List ℕ) (n : ℕ) (left : List ℕ) → JudgesForC plan lent n left
-    → ReadOff verdictValues VerdictAnswer.Held VerdictAnswer.Refused (judging devices plan lent) lent n left
-unfolding judging
+pub verdict-number : (plan lent : List ℕ) (n : ℕ) (left : List ℕ) → OrdersForC plan lent n left
+    → ReadOff verdictValues VerdictAnswer.Held VerdictAnswer.Refused (ordering devices plan lent) lent n left
+unfolding ordering
 verdict-number plan lent = says (verdict.entry plan lent) (record {
   broken = fault-small plan;
   needed = λ w. omega (arith, w .few);
@@ -291,3 +299,49 @@ module _ (text : List ℕ) (offset number : ℕ → ℕ) (asked : AskedForC text
         λ i h. let q = r .0 i h in asked .answers i .answers ∙ rw (q .1) (omega arith),
         λ k h. asked .answers k .answers ∙ rw (r .1 k h),
       )
+
+-- ---- the judge
+
+-- a number stands for one answer
+pub one-judge-number : (n : ℕ) (a b : JudgeAnswer) → JudgeStandsFor n a → JudgeStandsFor n b → a ≡ b
+one-judge-number n a b (aLegal e) (aLegal f) = refl
+one-judge-number n a b (aLegal e) (notPassed r h f g) = absurd (omega arith)
+one-judge-number n a b (notPassed r h f g) (aLegal e) = absurd (omega arith)
+one-judge-number n a b (notPassed r h f g) (notPassed s k u v) =
+    ap JudgeAnswer.Refused (one-refusal r s (f ∙ sym u) (g ∙ sym v))
+
+-- a list goes wrong at most one past as many entries as there are lines
+not-passed-small : (plan entries : List ℕ) (r : Refusal) → NotPassed plan entries r → placeOf r < half
+not-passed-small plan entries r (judge.faulty q b) = fault-small plan q b
+not-passed-small plan entries r (judge.astray q w s) =
+    omega (arith, w .few, stray-bounds plan entries q (stray-exactly plan entries q .1 s) .0)
+
+module _ (plan entries : List ℕ) (n : ℕ) (m : JudgesForC plan entries n) where
+  -- what a caller reads off is the answer of the judge behind
+  pub judge-number : (a : JudgeAnswer) × JudgesAs plan entries a × JudgeStandsFor n a
+  judge-number =
+      let a = judging devices plan entries in
+      let behind : JudgesAs plan entries a = record { answers = refl } in (a, behind, go a behind (m .answers))
+    where
+      go : (a : JudgeAnswer) → JudgesAs plan entries a → n ≡ inOne (judgeValues a) → JudgeStandsFor n a
+      go JudgeAnswer.Legal j e = aLegal e
+      go (JudgeAnswer.Refused r) j e =
+          let no = refused-exactly plan entries (JudgeAnswer.Refused r) j r .0 refl in
+          let small = not-passed-small plan entries r no in
+          notPassed r (omega (arith, number-range r .0)) (omega arith) (omega arith)
+
+  -- 0 exactly of a legal order, and a plan without a fault
+  pub legal-exactly : (n ≡ 0) ↔ (WellFormed devices plan × LegalEntries plan entries)
+  legal-exactly = let r = judge-number in (
+    λ e. to (r .0) (r .1) e (r .2),
+    λ l. from (r .0) (accepted-exactly plan entries (r .0) (r .1) .1 l) (r .2),
+  )
+    where
+      to : (a : JudgeAnswer) → JudgesAs plan entries a → n ≡ 0 → JudgeStandsFor n a
+          → WellFormed devices plan × LegalEntries plan entries
+      to a j e (aLegal f) = accepted-exactly plan entries a j .0 refl
+      to a j e (notPassed r h f g) = absurd (omega arith)
+
+      from : (a : JudgeAnswer) → a ≡ JudgeAnswer.Legal → JudgeStandsFor n a → n ≡ 0
+      from a e (aLegal f) = f
+      from a e (notPassed r h f g) = let z : _≡_ {A = ℕ} 0 1 = cc in absurd (omega arith)

@@ -65,8 +65,8 @@ tables = record {
   one = one-table-answer;
 }
 
-abbrev pub judges : Answers VerdictAnswer
-judges = record {
+abbrev pub orders : Answers VerdictAnswer
+orders = record {
   values = verdictValues;
   done = VerdictAnswer.Held;
   refused = VerdictAnswer.Refused;

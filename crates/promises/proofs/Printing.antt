@@ -24,7 +24,7 @@ one-print text plan order lent m n plan′ order′ left plan″ order″ other 
   where
     go : (screenRoom ≤ length lent) ⊎ (length lent < screenRoom) → (plan′ ≡ plan″) × (order′ ≡ order″)
     go (inl h) =
-        let p : plan′ ≡ plan″ = x .reads h ∙ sym (y .reads h) in (p, x .judges h ∙ rw p (sym (y .judges h)))
+        let p : plan′ ≡ plan″ = x .reads h ∙ sym (y .reads h) in (p, x .orders h ∙ rw p (sym (y .orders h)))
     go (inr h) = (x .idle h .0 ∙ sym (y .idle h .0), x .idle h .1 ∙ sym (y .idle h .1))
 
 -- where there is room for the screens, the bytes counted are those printed

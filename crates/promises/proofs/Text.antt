@@ -129,7 +129,7 @@ module _ (plan lent : List ℕ) where
 -- ---- the round trips
 
 -- what was written to the front of a list is its front
-front-of : (new old left : List ℕ) (n : ℕ) → n ≡ length new → left ≡ over new old → take n left ≡ new
+pub front-of : (new old left : List ℕ) (n : ℕ) → n ≡ length new → left ≡ over new old → take n left ≡ new
 unfolding over
 front-of new old left n e f = rw (e, f) (take-append-seam new (drop (length new) old))
 

@@ -6,17 +6,21 @@ use mathlib.Core.List.{List}
 use mathlib.Core.Option.{Option, none, some}
 use mathlib.Core.Path.{_≡_, refl, sym, _∙_, ap}
 use Rattle.model.specs.Board.{devices}
+use Rattle.model.specs.Answers.{judgeValues}
 use Rattle.model.specs.Text.{nextLine}
 use Rattle.model.specs.Entries.{Outcome, outcome}
+use Rattle.model.specs.Judged.{judging}
 use Rattle.model.specs.declared.Refusal.{Refusal}
 use Rattle.model.specs.declared.Cursor.{Cursor}
 use Rattle.model.specs.declared.LineAnswer.{LineAnswer}
-use Rattle.theory.proofs.Answers.{one-line-answer}
+use Rattle.model.specs.declared.JudgeAnswer.{JudgeAnswer}
+use Rattle.theory.proofs.Answers.{one-line-answer, one-judge-answer}
 use Rattle.model.specs.InOne.{inOne}
 use Rattle.promises.specs.Outcome.{Meets, MeetsInOne}
 use Rattle.promises.specs.Text.{HandsOutAs}
 use Rattle.promises.specs.Screen.{ScreensAs}
-use Rattle.promises.specs.ForC.{HandsOutForC}
+use Rattle.promises.specs.Judge.{JudgesAs}
+use Rattle.promises.specs.ForC.{HandsOutForC, JudgesForC}
 
 module _ {A L : Type 0} {values : A → List ℕ} {o : Outcome A L} where
   -- what has the outcome's answer and leaves its lists meets the promise
@@ -55,7 +59,7 @@ module _ {A L : Type 0} {values : A → List ℕ} (refused : Refusal → A) (a :
   unfolding outcome
   by-none tests left e f = rw e (meets refl f)
 
--- ---- the line reader and the screens' entry
+-- ---- the line reader, the judge and the screens' entry
 
 pub one-line : (text : List ℕ) (c : Cursor) (a b : LineAnswer) → HandsOutAs text c a → HandsOutAs text c b → a ≡ b
 one-line text c a b x y = one-line-answer a b (x .answers ∙ sym (y .answers))
@@ -65,6 +69,23 @@ the-line text c a x = one-line-answer a (nextLine devices text c) (x .answers)
 
 pub one-line-in-one : (text : List ℕ) (offset a b : ℕ) → HandsOutForC text offset a → HandsOutForC text offset b → a ≡ b
 one-line-in-one text offset a b p q = cc
+
+pub one-judgement : (plan entries : List ℕ) (a b : JudgeAnswer) → JudgesAs plan entries a → JudgesAs plan entries b
+    → a ≡ b
+one-judgement plan entries a b x y = one-judge-answer a b (x .answers ∙ sym (y .answers))
+
+pub the-judgement : (plan entries : List ℕ) (a : JudgeAnswer) → JudgesAs plan entries a
+    → a ≡ judging devices plan entries
+the-judgement plan entries a x = one-judge-answer a (judging devices plan entries) (x .answers)
+
+-- handed on as one number
+pub judged-in-one : {plan entries : List ℕ} {a b : JudgeAnswer} {n : ℕ} → JudgesAs plan entries a → a ≡ b
+    → n ≡ inOne (judgeValues b) → JudgesForC plan entries n
+judged-in-one x e m = record { answers = m ∙ ap inOne (ap judgeValues (sym e) ∙ x .answers) }
+
+pub one-judgement-in-one : (plan entries : List ℕ) (a b : ℕ) → JudgesForC plan entries a → JudgesForC plan entries b
+    → a ≡ b
+one-judgement-in-one plan entries a b p q = cc
 
 pub one-screen : (text lent : List ℕ) (m n : ℕ) (left other : List ℕ) → ScreensAs text lent m left
     → ScreensAs text lent n other → (m ≡ n) × (left ≡ other)

@@ -1,4 +1,4 @@
--- What follows from what `verdict` promises, `JudgesAs` (01, "Legal orders" and "The order handed out"): what an
+-- What follows from what `verdict` promises, `OrdersAs` (01, "Legal orders" and "The order handed out"): what an
 -- accepted plan's list is left with is a legal order that has each line once; given room, a plan without a fault is
 -- accepted exactly if it has a legal order; 9 and 10 say that it has none; a refusal is given exactly in a listed case,
 -- and leaves the list as it was.
@@ -17,7 +17,7 @@ use Rattle.model.specs.Legal.{Follow, Legal}
 use Rattle.model.specs.WellFormed.{WellFormed, fault}
 use Rattle.model.specs.Handed.{handed}
 use Rattle.model.specs.Verdict.{noOrder, heldAtEnd}
-use Rattle.model.specs.Entries.{judging}
+use Rattle.model.specs.Entries.{ordering}
 use Rattle.model.specs.Board.{devices}
 use Rattle.model.specs.declared.Refusal.{Refusal}
 use Rattle.model.specs.declared.VerdictAnswer.{VerdictAnswer}
@@ -30,10 +30,10 @@ use Rattle.theory.proofs.WellFormed.{fault-exactly, no-fault-exactly, broken-nu
 use Rattle.theory.proofs.Verdict as verdict
 use Rattle.theory.proofs.Verdict.{accepted-is-legal, legal-order-exactly, no-legal-order}
 use Rattle.promises.specs.Outcome.{faulty, short, further, Refuses}
-use Rattle.promises.specs.Verdict.{JudgesAs, NoVerdict, Apart, OnceEach}
+use Rattle.promises.specs.Verdict.{OrdersAs, NoVerdict, Apart, OnceEach}
 use Rattle.promises.specs.Verdict.{Ordered, Decided, ordered, unordered}
 use Rattle.promises.proofs.Outcome as one
-use Rattle.promises.proofs.Outcome.{Entry, judges}
+use Rattle.promises.proofs.Outcome.{Entry, orders}
 
 -- ---- a legal order has each line once
 
@@ -71,7 +71,7 @@ order-refused p w r =
 abbrev pub entry : (p lent : List ℕ)
     → Entry VerdictAnswer (List ℕ) (WellFormed devices p) (Broken devices p) (NoOrder devices p)
 entry p lent = record {
-  answers = judges;
+  answers = orders;
   fault = fault devices p;
   rest = noOrder devices p ∷ [];
   sound = no-fault-exactly devices p;
@@ -86,19 +86,19 @@ entry p lent = record {
 
 module _ (p lent : List ℕ) where
   -- a refusal exactly in a listed case; it leaves the list
-  pub refused-exactly : (a : VerdictAnswer) (left : List ℕ) → JudgesAs p lent a left → (r : Refusal)
+  pub refused-exactly : (a : VerdictAnswer) (left : List ℕ) → OrdersAs p lent a left → (r : Refusal)
       → (a ≡ VerdictAnswer.Refused r) ↔ NoVerdict p lent r
-  unfolding judging
+  unfolding ordering
   refused-exactly = one.refused-exactly (entry p lent)
 
-  pub refused-leaves : (r : Refusal) (left : List ℕ) → JudgesAs p lent (VerdictAnswer.Refused r) left
+  pub refused-leaves : (r : Refusal) (left : List ℕ) → OrdersAs p lent (VerdictAnswer.Refused r) left
       → Refuses (NoVerdict p lent) lent r left
-  unfolding judging
+  unfolding ordering
   refused-leaves r left m = one.refused-leaves (entry p lent) (VerdictAnswer.Refused r) left m r refl
 
   -- what is handed out is a legal order of each line once
-  pub order-is-legal : (n : ℕ) (left : List ℕ) → JudgesAs p lent (VerdictAnswer.Held n) left → Ordered p lent n left
-  unfolding judging heldAtEnd
+  pub order-is-legal : (n : ℕ) (left : List ℕ) → OrdersAs p lent (VerdictAnswer.Held n) left → Ordered p lent n left
+  unfolding ordering heldAtEnd
   order-is-legal n left m =
       let d = one.done-leaves (entry p lent) (VerdictAnswer.Held n) left m n refl in
       let e = sym (sole (noOrder devices p)) ∙ d .0 .2 in
@@ -112,9 +112,9 @@ module _ (p lent : List ℕ) where
       }
 
   -- given room, a plan without a fault is accepted exactly if it has a legal order
-  pub accepted-exactly : (a : VerdictAnswer) (left : List ℕ) → JudgesAs p lent a left → fault devices p ≡ none
+  pub accepted-exactly : (a : VerdictAnswer) (left : List ℕ) → OrdersAs p lent a left → fault devices p ≡ none
       → length p ≤ length lent → ((o : List ℕ) × Legal p o) ↔ ((n : ℕ) × (a ≡ VerdictAnswer.Held n))
-  unfolding judging
+  unfolding ordering
   accepted-exactly a left m sound room = (to, from)
     where
       to : (o : List ℕ) × Legal p o → (n : ℕ) × (a ≡ VerdictAnswer.Held n)
@@ -126,7 +126,7 @@ module _ (p lent : List ℕ) where
       from h = let o = order-is-legal (h .0) left (rw (h .1) at m) in (o .order, o .legal)
 
   -- 9 and 10, exactly for their reasons: no order of the plan is legal
-  pub no-order-exists : (r : Refusal) (left : List ℕ) → JudgesAs p lent (VerdictAnswer.Refused r) left
+  pub no-order-exists : (r : Refusal) (left : List ℕ) → OrdersAs p lent (VerdictAnswer.Refused r) left
       → 9 ≤ numberOf r → numberOf r ≤ 10 → NoOrder devices p r × ((o : List ℕ) → Legal p o → ⊥)
   no-order-exists r left m = go r (refused-leaves r left m .listed)
     where
@@ -137,7 +137,7 @@ module _ (p lent : List ℕ) where
       go r (further s w h n) low high = (n, no-legal-order devices p s n)
 
   -- The verdict on a plan without a fault, given room: a legal order, or 9 or 10 and there is none.
-  pub decided : (a : VerdictAnswer) (left : List ℕ) → JudgesAs p lent a left → WellFormed devices p
+  pub decided : (a : VerdictAnswer) (left : List ℕ) → OrdersAs p lent a left → WellFormed devices p
       → length p ≤ length lent → Decided p lent a left
   decided (VerdictAnswer.Held n) left m w room = ordered n left (order-is-legal n left m)
   decided (VerdictAnswer.Refused r) left m w room =

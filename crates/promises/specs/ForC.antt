@@ -1,17 +1,19 @@
--- What the entries for C and Rust promise (01, "Refusal numbers"): the outcome of the entry behind each, its answer as
--- one number of 64 bits. Then the words for what a caller reads off the number.
+-- What the entries for C and Rust promise (01, "Refusal numbers"; 02, request 1): the outcome of the entry behind each,
+-- its answer as one number of 64 bits. Then the words for what a caller reads off the number.
 use Prim.Native.Nat.{ℕ, suc, _/_, _%_, _<_, _≤_}
 use mathlib.Core.List.{List}
 use mathlib.Core.Logic.{_↔_}
 use mathlib.Core.Path.{_≡_}
 use Rattle.model.specs.Board.{devices}
 use Rattle.model.specs.Answers.{numberOf, placeOf, lineValues, readValues, writeValues, tableValues}
-use Rattle.model.specs.Answers.{verdictValues, moveValues}
+use Rattle.model.specs.Answers.{verdictValues, moveValues, judgeValues}
 use Rattle.model.specs.Text.{lineFrom}
-use Rattle.model.specs.Entries.{Outcome, reading, writing, tabling, judging, moving}
+use Rattle.model.specs.Entries.{Outcome, reading, writing, tabling, ordering, moving}
+use Rattle.model.specs.Judged.{judging}
 use Rattle.model.specs.declared.Refusal.{Refusal}
 use Rattle.model.specs.declared.Cursor.{Cursor}
 use Rattle.model.specs.declared.LineAnswer.{LineAnswer}
+use Rattle.model.specs.declared.JudgeAnswer.{JudgeAnswer}
 use Rattle.theory.specs.Text.{PastNewline}
 use Rattle.model.specs.InOne.{half, inOne}
 use Rattle.promises.specs.Outcome.{Meets, MeetsInOne}
@@ -29,12 +31,16 @@ WritesForC plan lent answer left = MeetsInOne writeValues (writing devices plan 
 abbrev pub TablesForC : List ℕ → List ℕ → ℕ → List ℕ → Type 0
 TablesForC plan lent answer left = MeetsInOne tableValues (tabling devices plan lent) answer left
 
-abbrev pub JudgesForC : List ℕ → List ℕ → ℕ → List ℕ → Type 0
-JudgesForC plan lent answer left = MeetsInOne verdictValues (judging devices plan lent) answer left
+abbrev pub OrdersForC : List ℕ → List ℕ → ℕ → List ℕ → Type 0
+OrdersForC plan lent answer left = MeetsInOne verdictValues (ordering devices plan lent) answer left
 
 abbrev pub MovesForC : List ℕ → List ℕ → ℕ → ℕ → ℕ → List ℕ → List ℕ → Type 0
 MovesForC p t line device answer p′ t′ =
     MeetsInOne moveValues (moving devices p t line device) answer (record { plan = p′; sets = t′ })
+
+-- the judge, who is lent nothing to write to
+pub record JudgesForC (plan entries : List ℕ) (answer : ℕ) : Type 0 where
+  pub answers : answer ≡ inOne (judgeValues (judging devices plan entries))
 
 -- ---- what a number says
 
@@ -61,6 +67,12 @@ pub data LineStandsFor (n : ℕ) : LineAnswer → Type 0 where
   aLine : (next : Cursor) → 0 < n → n < half → LineStandsFor n (LineAnswer.Line n next)
   noLine : (r : Refusal) → half ≤ n → numberOf r ≡ n / half → placeOf r ≡ n % half
       → LineStandsFor n (LineAnswer.Refused r)
+
+-- the same of the judge: 0 is legal, from 2^32 on it is a refusal, and no other number comes
+pub data JudgeStandsFor (n : ℕ) : JudgeAnswer → Type 0 where
+  aLegal : n ≡ 0 → JudgeStandsFor n JudgeAnswer.Legal
+  notPassed : (r : Refusal) → half ≤ n → numberOf r ≡ n / half → placeOf r ≡ n % half
+      → JudgeStandsFor n (JudgeAnswer.Refused r)
 
 -- The line entry asked again and again by a caller who has its numbers alone: it begins at offset 0, and goes on past
 -- the newline of a line that came; where none came, it stays.

@@ -3,6 +3,7 @@ pub mod Outcome
 pub mod Text
 pub mod Table
 pub mod Verdict
+pub mod Judge
 pub mod Move
 pub mod Screen
 pub mod ForC

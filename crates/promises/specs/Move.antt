@@ -21,7 +21,7 @@ use Rattle.theory.specs.WellFormed.{Broken}
 use Rattle.theory.specs.Move.{NearestStale, Refused, differing, Ask}
 use Rattle.promises.specs.Outcome.{Meets, Listed}
 use Rattle.promises.specs.Table.{TablesAs, OwnTable}
-use Rattle.promises.specs.Verdict.{JudgesAs, Decided}
+use Rattle.promises.specs.Verdict.{OrdersAs, Decided}
 
 abbrev pub MovesAs : List ℕ → List ℕ → ℕ → ℕ → MoveAnswer → List ℕ → List ℕ → Type 0
 MovesAs p t line device answer p′ t′ =
@@ -57,7 +57,7 @@ pub record Afresh (p t : List ℕ) (line device count : ℕ) (p′ t′ : List �
   pub offWay : (k : ℕ) → has k (way p (askedAt line)) ≡ false → getD t′ k 0 ≡ getD t k 0
   pub counts : count ≡ differing t′ t
   pub verdict : (lent : List ℕ) → length p′ ≤ length lent → (a : VerdictAnswer) (left : List ℕ)
-      → JudgesAs p′ lent a left → Decided (edited p (askedAt line) device) lent a left
+      → OrdersAs p′ lent a left → Decided (edited p (askedAt line) device) lent a left
 
 -- a move there: refused by 12, 13 or 8, with nothing changed, or accepted
 pub data Moved (p t : List ℕ) (line device : ℕ) : MoveAnswer → List ℕ → List ℕ → Type 0 where

@@ -5,7 +5,7 @@ use mathlib.Core.List.{List}
 use mathlib.Core.Path.{_≡_}
 use lib.ListN.{length, take}
 use Rattle.model.specs.Board.{devices}
-use Rattle.model.specs.Entries.{reading, judging}
+use Rattle.model.specs.Entries.{reading, ordering}
 use Rattle.model.specs.Printed.{screening, screenRoom}
 use Rattle.model.specs.declared.ReadAnswer.{ReadAnswer}
 
@@ -18,7 +18,7 @@ pub record ScreensAs (text lent : List ℕ) (count : ℕ) (left : List ℕ) : Ty
 -- 10, stays in it. Beside the screens' buffer, which gets the refusal's line, this is a second list that does not keep
 -- its contents where a plan is refused. No caller in C or Rust meets it: `print` is not exported.
 abbrev pub orderAfter : ReadAnswer → List ℕ → List ℕ → List ℕ
-orderAfter (ReadAnswer.Lines n) plan order = judging devices (take n plan) order .left
+orderAfter (ReadAnswer.Lines n) plan order = ordering devices (take n plan) order .left
 orderAfter (ReadAnswer.Refused r) plan order = order
 
 -- with a buffer under 4,027 bytes both stay as they were
@@ -26,4 +26,4 @@ pub record PrintsAs (text plan order lent : List ℕ) (count : ℕ) (plan′ ord
   pub screens : ScreensAs text lent count left
   pub idle : length lent < screenRoom → (plan′ ≡ plan) × (order′ ≡ order)
   pub reads : screenRoom ≤ length lent → plan′ ≡ reading devices text plan .left
-  pub judges : screenRoom ≤ length lent → order′ ≡ orderAfter (reading devices text plan .answer) plan′ order
+  pub orders : screenRoom ≤ length lent → order′ ≡ orderAfter (reading devices text plan .answer) plan′ order

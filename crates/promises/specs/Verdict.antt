@@ -9,7 +9,7 @@ use Rattle.model.specs.Line.{lineNumber}
 use Rattle.model.specs.Legal.{held, Legal}
 use Rattle.model.specs.Answers.{verdictValues}
 use Rattle.model.specs.WellFormed.{WellFormed}
-use Rattle.model.specs.Entries.{judging}
+use Rattle.model.specs.Entries.{ordering}
 use Rattle.model.specs.Board.{devices}
 use Rattle.model.specs.declared.Refusal.{Refusal}
 use Rattle.model.specs.declared.VerdictAnswer.{VerdictAnswer}
@@ -17,8 +17,8 @@ use Rattle.theory.specs.WellFormed.{Broken}
 use Rattle.theory.specs.Verdict.{NoOrder}
 use Rattle.promises.specs.Outcome.{Meets, Listed}
 
-abbrev pub JudgesAs : List ℕ → List ℕ → VerdictAnswer → List ℕ → Type 0
-JudgesAs plan lent answer left = Meets verdictValues (judging devices plan lent) answer left
+abbrev pub OrdersAs : List ℕ → List ℕ → VerdictAnswer → List ℕ → Type 0
+OrdersAs plan lent answer left = Meets verdictValues (ordering devices plan lent) answer left
 
 -- ---- what follows
 

@@ -1,4 +1,5 @@
-// Number and place of a refusal (01, "Refusal numbers"), for what is printed and for callers in other languages.
+// Number and place of a refusal (01, "Refusal numbers", and 02's so far), for what is printed and for callers in other
+// languages.
 use board::MOST_LINES;
 use model::Refusal;
 ghost use mathlib.Core.Path.{_≡_};
@@ -27,6 +28,7 @@ pub fn number(r: Refusal) -> u32
         Refusal::NotATake(_) => 12,
         Refusal::NoSuchDevice(_) => 13,
         Refusal::StaleTable(_) => 14,
+        Refusal::IllegalStep(_) => 15,
     }
 }
 
@@ -49,6 +51,7 @@ pub fn place(r: Refusal) -> u32
         Refusal::NotATake(asked) => asked,
         Refusal::NoSuchDevice(asked) => asked,
         Refusal::StaleTable(line) => line,
+        Refusal::IllegalStep(position) => position,
     }
 }
 

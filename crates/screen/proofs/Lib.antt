@@ -1,4 +1,4 @@
 -- The laws that the functions' proofs cite: the pieces of what is printed, and what is printed for what was read and
--- judged.
+-- given a verdict on.
 pub mod Shown
 pub mod Screened

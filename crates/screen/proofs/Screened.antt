@@ -7,43 +7,36 @@ use mathlib.Core.Option.{Option, none, some, Option·none-ne-some}
 use mathlib.Core.Path.{_≡_, refl, sym, _∙_, ap}
 use native.Mathlib.Omega.{arith}
 use lib.Dec.{lit≤}
-use lib.ListN.{length, take, drop, length-map}
-use lib.Seq.{take-at}
+use lib.ListN.{length, take, length-map}
 use borrow.Author.Tests.{lt-ltb, le-ltb}
 use Rattle.model.specs.Lists.{over}
 use Rattle.model.specs.Answers.{firstRefusal}
 use Rattle.model.specs.Board.{devices}
 use Rattle.model.specs.Line.{lineNumber, maxLines}
 use Rattle.model.specs.Text.{spelt}
-use Rattle.model.specs.WellFormed.{fault}
 use Rattle.model.specs.Handed.{handed}
 use Rattle.model.specs.Verdict.{noOrder, heldAtEnd}
-use Rattle.model.specs.Entries.{textFault, judging}
+use Rattle.model.specs.Entries.{textFault, ordering}
 use Rattle.model.specs.Printed.{printedRefusal, printedOrder, printedBy, printed, screenBy, screening, screenRoom}
 use Rattle.model.specs.declared.Refusal.{Refusal}
 use Rattle.model.specs.declared.ReadAnswer.{ReadAnswer}
 use Rattle.model.specs.declared.VerdictAnswer.{VerdictAnswer}
 use Rattle.theory.proofs.Answers.{one-read-answer}
-use Rattle.theory.proofs.Text.{text-fault-exactly}
-use Rattle.theory.proofs.WellFormed.{fault-exactly, no-fault-exactly}
+use Rattle.theory.proofs.WellFormed.{fault-exactly}
 use Rattle.theory.proofs.Verdict.{accepted-is-legal}
 use Rattle.theory.proofs.Printed.{legal-length, printed-is, printed-fits}
 use Rattle.promises.specs.Outcome.{faulty, short, further}
-use Rattle.promises.specs.Text.{ReadsAs, NotRead, IsRead}
-use Rattle.promises.specs.Verdict.{JudgesAs, NoVerdict}
+use Rattle.promises.specs.Text.{ReadsAs}
+use Rattle.promises.specs.Verdict.{OrdersAs, NoVerdict}
 use Rattle.promises.specs.Screen.{PrintsAs, orderAfter}
 use Rattle.promises.proofs.Tight.{the-outcome}
 use Rattle.promises.proofs.Outcome.{done-leaves}
-use Rattle.promises.proofs.Text.{readEntry, read-refused-exactly, read-leaves}
+use Rattle.promises.proofs.Text.{front-of}
+use Rattle.promises.proofs.WasRead.{read-fault, read-counts, no-fault-read, well-formed-read, front-read}
 use Rattle.promises.proofs.Verdict.{entry, order-refused, refused-exactly}
 use Rattle.screen.specs.Shows.{ShowsAs}
 
 -- ---- what is printed, by the tests
-
--- what was put in front of a list is its front
-over-front : (new old : List ℕ) (n : ℕ) → n ≡ length new → take n (over new old) ≡ new
-unfolding over
-over-front new old n e = take-at new (drop (length new) old) n (sym e)
 
 module _ (text : List ℕ) where
   abbrev spells : List ℕ
@@ -65,27 +58,8 @@ prints-none {lent} h = record {
   screens = record { counts = rw (lt-ltb (length lent) screenRoom h); leaves = rw (lt-ltb (length lent) screenRoom h) };
   idle = λ g. (refl, refl);
   reads = λ g. absurd (omega arith);
-  judges = λ g. absurd (omega arith);
+  orders = λ g. absurd (omega arith);
 }
-
--- ---- a plan that was read
-
-module _ (text plan : List ℕ) {a : ReadAnswer} {plan′ : List ℕ} (x : ReadsAs text plan a plan′) {n : ℕ}
-    (q : a ≡ ReadAnswer.Lines n) where
-  read : IsRead text plan n plan′
-  read = read-leaves text plan n plan′ (rw q at x)
-
-  pub lines-few : n ≤ maxLines
-  lines-few = omega (arith, read .counts, read .sound .1 .few)
-
-  sound : textFault devices text ≡ none
-  sound = readEntry text plan .sound .1 (read .sound)
-
-  no-fault : fault devices (spells text) ≡ none
-  no-fault = no-fault-exactly devices (spells text) .1 (read .sound .1)
-
-  front : take n plan′ ≡ spells text
-  front = rw (read .leaves) (over-front (spells text) plan n (read .counts))
 
 -- ---- enough room, and lists of 1,024
 
@@ -105,7 +79,7 @@ module _ (text plan order lent : List ℕ) (long : (length plan ≡ maxLines) ×
         };
         idle = λ g. absurd (omega arith);
         reads = λ g. x .leaves;
-        judges = λ g.
+        orders = λ g.
             f ∙ ap (λ (b : ReadAnswer). orderAfter b plan′ order) (the-outcome one-read-answer a plan′ x .0);
       }
 
@@ -113,38 +87,34 @@ module _ (text plan order lent : List ℕ) (long : (length plan ≡ maxLines) ×
   pub prints-fault : {r : Refusal} → a ≡ ReadAnswer.Refused r → ShowsAs (printedRefusal r) lent count left
       → PrintsAs text plan order lent count plan′ order left
   unfolding firstRefusal printedBy
-  prints-fault {r} q = prints (go r (read-refused-exactly text plan a plan′ x r .0 q)) (rw q)
-    where
-      go : (r : Refusal) → NotRead text plan r → printedRefusal r ≡ printed devices text
-      go r (faulty s b) = by-tests text (some s) (rw (text-fault-exactly devices text s .1 b))
-      go r (short s h) = absurd (omega (arith, s .1 .few, long .0))
-      go r (further s b h f) = absurd f
+  prints-fault {r} q = prints (by-tests text (some r) (rw (read-fault text plan x (long .0) r q))) (rw q)
 
   -- the verdict on its lines
   module _ {n : ℕ} (q : a ≡ ReadAnswer.Lines n) {v : VerdictAnswer} {order′ : List ℕ}
-      (y : JudgesAs (take n plan′) order v order′) where
+      (y : OrdersAs (take n plan′) order v order′) where
     -- no order
     pub prints-why : {r : Refusal} → v ≡ VerdictAnswer.Refused r → ShowsAs (printedRefusal r) lent count left
         → PrintsAs text plan order lent count plan′ order′ left
     unfolding firstRefusal printedBy
     prints-why {r} p =
-        let z = rw (front text plan x q) at y in
+        let z = rw (front-read text plan x q) at y in
         prints (go r (refused-exactly (spells text) order v order′ z r .0 p)) (rw q (y .leaves))
       where
         go : (r : Refusal) → NoVerdict (spells text) order r → printedRefusal r ≡ printed devices text
         go r (faulty s b) =
-            absurd (Option·none-ne-some s (sym (no-fault text plan x q) ∙ fault-exactly devices (spells text) s .1 b))
+            let f = fault-exactly devices (spells text) s .1 b in
+            absurd (Option·none-ne-some s (sym (well-formed-read text plan x q) ∙ f))
         go r (short s h) = absurd (omega (arith, s .few, long .1))
         go r (further s w h b) =
-            by-tests text (some s) (rw (sound text plan x q) (order-refused (spells text) w s .1 b))
+            by-tests text (some s) (rw (no-fault-read text plan x q) (order-refused (spells text) w s .1 b))
 
     -- an order
     pub prints-order : {held : ℕ} → v ≡ VerdictAnswer.Held held
         → ShowsAs (printedOrder (take n order′) held) lent count left
         → PrintsAs text plan order lent count plan′ order′ left
-    unfolding judging firstRefusal printedBy
+    unfolding ordering firstRefusal printedBy
     prints-order {held} p =
-        let z = rw (front text plan x q) at y in
+        let z = rw (front-read text plan x q) at y in
         let d = done-leaves (entry (spells text) order) v order′ z held p in
         prints (go (noOrder devices (spells text)) refl (d .0 .2) (d .1) (d .2)) (rw q (y .leaves))
       where
@@ -156,8 +126,8 @@ module _ (text plan order lent : List ℕ) (long : (length plan ≡ maxLines) ×
             → printedOrder (take n order′) held ≡ printed devices text
         go (some r) e f c l = absurd (Option·none-ne-some r (sym f))
         go none e f c l =
-            let legal = accepted-is-legal devices (spells text) (no-fault text plan x q) e in
+            let legal = accepted-is-legal devices (spells text) (well-formed-read text plan x q) e in
             let all : n ≡ length (map lineNumber handedOut) =
-            rw length-map (read text plan x q .counts ∙ sym (legal-length (spells text) handedOut legal)) in
-            rw (l, over-front (map lineNumber handedOut) order n all, c)
-            (by-tests text none (rw (sound text plan x q, e)))
+            rw length-map (read-counts text plan x q ∙ sym (legal-length (spells text) handedOut legal)) in
+            rw (front-of (map lineNumber handedOut) order order′ n all l, c)
+            (by-tests text none (rw (no-fault-read text plan x q, e)))

@@ -1,13 +1,11 @@
--- 01, "Plans with their verdicts", its last part: a refusal's line and an order, put piece by piece.
+-- 01, "Plans with their verdicts", its last part: an order, put piece by piece.
 use Prim.Native.Nat.{ℕ, _+_, _≤_, _<_}
 use mathlib.Core.List.{List, [], _∷_, _++_, flatMap}
 use mathlib.Core.Path.{_≡_, refl, _∙_, ap}
 use native.Mathlib.Omega.{arith}
 use lib.ListN.{length, getD, length-append}
-use Rattle.model.specs.Answers.{refusalValues}
 use Rattle.model.specs.Text.{newline, decimal, tabbed}
-use Rattle.model.specs.Printed.{orderWord, refusedWord, printedLine, printedOrder, printedRefusal}
-use Rattle.model.specs.declared.Refusal.{Refusal}
+use Rattle.model.specs.Printed.{orderWord, printedLine, printedOrder}
 use Rattle.fields.specs.Puts.{PutsAs, valuesText}
 use Rattle.fields.proofs.Putting.{kept, moves, put-none, put-at-start, put-both}
 use Rattle.fields.proofs.Pieces.{pieces, pieces-all, put-more, printed-line}
@@ -20,9 +18,9 @@ whole : (order : List ℕ) (held : ℕ)
 unfolding printedOrder
 whole order held = refl
 
--- ---- a refusal
+-- ---- bytes put from the start of the buffer on
 
-shown : {bytes lent : List ℕ} {n : ℕ} {left : List ℕ} → PutsAs bytes 0 lent n left → ShowsAs bytes lent n left
+pub shown : {bytes lent : List ℕ} {n : ℕ} {left : List ℕ} → PutsAs bytes 0 lent n left → ShowsAs bytes lent n left
 shown x h = put-at-start x (omega (arith, moves x (omega arith)))
 
 -- a line of a word and numbers
@@ -31,12 +29,6 @@ line : (values : List ℕ) {word old : List ℕ} {p : ℕ} {mid : List ℕ} {q :
     → PutsAs (printedLine word values) 0 old q made
 line values {word} x y h =
     let e = printed-line values word in rw e (put-both x y (omega (arith, ap length e)))
-
-pub refusal-shown : (r : Refusal) {values old : List ℕ} {p : ℕ} {mid : List ℕ} {q : ℕ} {made : List ℕ}
-    → PutsAs refusedWord 0 old p mid → values ≡ refusalValues r → PutsAs (valuesText values) p mid q made
-    → ShowsAs (printedRefusal r) old q made
-unfolding printedRefusal
-refusal-shown r x e y h = shown (line (refusalValues r) x (rw e at y) h) h
 
 -- ---- an order: its first line, and its numbers, one to a line
 

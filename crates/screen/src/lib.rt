@@ -2,27 +2,18 @@
 // program prints, and the exported entry for the screens.
 use board::MOST_LINES;
 use model::ReadAnswer;
-use model::Refusal;
 use model::VerdictAnswer;
 ghost use Prim.Native.Nat.{_≤_};
 ghost use mathlib.Core.Path.{_≡_};
 ghost use lib.ListN.{length};
 ghost use Rattle.model.specs.Line.{maxLines};
-ghost use Rattle.model.specs.Printed.{printedRefusal, printedOrder};
+ghost use Rattle.model.specs.Printed.{printedOrder};
 ghost use Rattle.promises.specs.Screen.{PrintsAs, ScreensAs};
 ghost use Rattle.screen.specs.Shows.{ShowsAs};
 
 // The longest print there is: 14 bytes of the longest first line, and 4,013 of the numbers 1 to 1,024, each with its
 // newline. With a buffer of so many bytes everything fits.
 pub const ROOM: usize = 4027;
-
-// A refusal's line.
-fn put_refusal(out: &mut [u8], r: Refusal) -> usize
-    ensures { λ n. ⌜ ShowsAs (printedRefusal r) (now (out .entry)) n (now (out .exit)) ⌝ }
-{
-    let at = fields::put_word(out, 0, b"refused");
-    fields::put_values(out, at, &refusals::values(r))
-}
 
 // An order: how many lines and how many devices stay held, then its line numbers, one to a line.
 fn put_order(out: &mut [u8], order: &[u16], held: u32) -> usize
@@ -53,10 +44,10 @@ fn print_in(text: &[u8], plan: &mut [u32], order: &mut [u16], out: &mut [u8]) ->
             let lines = n as usize;
             match verdict::verdict(&plan[..lines], order) {
                 VerdictAnswer::Held(held) => put_order(out, &order[..lines], held),
-                VerdictAnswer::Refused(r) => put_refusal(out, r),
+                VerdictAnswer::Refused(r) => shows::put_refusal(out, r),
             }
         }
-        ReadAnswer::Refused(r) => put_refusal(out, r),
+        ReadAnswer::Refused(r) => shows::put_refusal(out, r),
     }
 }
 

@@ -1,9 +1,8 @@
 -- Members of what code makes of sets: of one device of a board, of both of two sets, of one of them alone, of one
 -- without the other; how many members there are with one more or less; and the lowest. All of it over the number of
 -- devices D. With `theory/proofs/Sets.antt` this is every law about sets as numbers.
-use Prim.Native.Nat.{ℕ, zero, suc, _+_, _-_, _/_, _%_, _^_, _<_, _≤_, min}
+use Prim.Native.Nat.{ℕ, zero, suc, _-_, _/_, _%_, _^_, _<_, _≤_, min}
 use mathlib.Core.Bool.{Bool, true, false, cond, not, _&&_}
-use mathlib.Core.List.{List}
 use mathlib.Core.Logic.{_⊎_, inl, inr}
 use mathlib.Core.Option.{Option, none, some, Option·getD}
 use mathlib.Core.Path.{_≡_, refl, sym, _∙_, ap}
@@ -11,13 +10,12 @@ use native.Mathlib.Nat.{lt-of-le-of-lt}
 use native.Mathlib.Omega.{arith}
 use lib.Bits.{bitAnd, bitXor, and-shr, and-step, and-le-l, xor-shr, xor-step, xor-lt, xor-zero-r}
 use lib.Dec.{eqb, ltb}
-use lib.ListN.{length}
-use borrow.Author.Tests.{eqb-true, eqb-false, eq-eqb, ne-eqb, lt-ltb, le-ltb}
-use Rattle.model.specs.Lists.{has, those, upFrom, firstOf}
+use borrow.Author.Tests.{eqb-true, eq-eqb, ne-eqb, lt-ltb, le-ltb}
+use Rattle.model.specs.Lists.{upFrom, firstOf}
 use Rattle.model.specs.Sets.{empty, only, member, lowestOf}
-use Rattle.theory.proofs.Tests.{clash, test, le-or-lt}
-use Rattle.theory.proofs.Lists.{has-upFrom, upFrom-has, those-same, Answer, first-answer, first-lowest}
-use Rattle.theory.proofs.Sets.{member-empty, member-only, empty-below, only-below}
+use Rattle.theory.proofs.Tests.{clash, test, and-split, le-or-lt}
+use Rattle.theory.proofs.Lists.{has-upFrom, upFrom-has, Answer, first-answer, first-lowest}
+use Rattle.theory.proofs.Sets.{member-empty, member-only, member-past, empty-below, only-below, same-members}
 use Rattle.sets.specs.Only.{onlyOf}
 use Rattle.sets.specs.Both.{both, differ, without}
 
@@ -142,3 +140,48 @@ member-turned D s o d h = member-differ s (onlyOf D o) d ∙ rw (member-only-of 
 pub differ-empty : (s : ℕ) → differ s empty ≡ s
 unfolding differ empty
 differ-empty s = xor-zero-r s
+
+-- ---- one device asked for
+
+-- sets that share no device have nothing in both
+none-in-both : (D s t : ℕ) → s < 2 ^ D → ((d : ℕ) → d < D → (member s d && member t d) ≡ false) → both s t ≡ empty
+none-in-both D s t h f =
+    same-members D (both s t) empty (both-below D s t h) (empty-below D)
+    (λ d l. member-both s t d ∙ f d l ∙ sym (member-empty d))
+
+pub member-asked : (D : ℕ) (asked : Bool) (s d : ℕ) → s < 2 ^ D
+    → not (eqb (both s (cond asked (onlyOf D d) empty)) empty) ≡ (asked && member s d)
+member-asked D asked s d h = go (test (asked && member s d))
+  where
+    one : ℕ
+    one = cond asked (onlyOf D d) empty
+
+    -- it is there: below D, since no set has more
+    there : asked ≡ true → member s d ≡ true → (D ≤ d) ⊎ (d < D) → member (both s one) d ≡ true
+    there a m (inl l) = clash (member s d) m (member-past D s d h l)
+    there a m (inr l) = member-both s one d ∙ rw (m, member-only-if D asked d d l, a) (eq-eqb d d refl)
+
+    apart : (m a b : Bool) → (b ≡ true → (a && m) ≡ false) → (m && (a && b)) ≡ false
+    apart true true true f = f refl
+    apart true true false f = refl
+    apart true false b f = refl
+    apart false a b f = refl
+
+    go : ((asked && member s d) ≡ true) ⊎ ((asked && member s d) ≡ false)
+        → not (eqb (both s one) empty) ≡ (asked && member s d)
+    go (inl e) =
+        let r = and-split asked (member s d) e in
+        let t = there (r .0) (r .1) (le-or-lt D d) in
+        rw (
+          e,
+          ne-eqb (both s one) empty
+              (λ q. clash (member (both s one) d) t (ap (λ (x : ℕ). member x d) q ∙ member-empty d)),
+        )
+    go (inr e) =
+        rw (
+          e,
+          eq-eqb (both s one) empty
+              (none-in-both D s one h
+              (λ k l. rw (member-only-if D asked d k l)
+              (apart (member s k) asked (eqb d k) (λ q. rw (eqb-true d k q) at e)))),
+        )

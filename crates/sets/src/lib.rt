@@ -5,7 +5,7 @@ use board::Jobs;
 use board::LAST_JOB;
 use board::Set;
 ghost use mathlib.Core.Path.{_≡_};
-ghost use mathlib.Core.Bool.{cond};
+ghost use mathlib.Core.Bool.{cond, _&&_};
 ghost use lib.ListN.{length};
 ghost use Rattle.model.specs.Lists.{upFrom, those};
 ghost use Rattle.model.specs.Sets.{empty, union, member, lowestOf};
@@ -77,6 +77,13 @@ pub fn member(s: Set, d: u32) -> bool
     ensures { λ r. ⌜ r ≡ member s d ⌝ }
 {
     (d < DEVICES) & ((s >> (d % DEVICES)) & 1 == 1)
+}
+
+// Is it asked for, and in the set? One test of a word, so that there is no branch on whether it is asked for.
+pub fn member_if(asked: bool, s: Set, d: u32) -> bool
+    ensures { λ r. ⌜ r ≡ (asked && member s d) ⌝ }
+{
+    both(s, only_if(asked, d)) != NONE
 }
 
 // How many devices the set has.

@@ -9,18 +9,19 @@ use mathlib.Core.Path.{_≡_, refl, sym, _∙_, ap, ap₂}
 use native.Mathlib.Omega.{arith}
 use lib.ListN.{getD}
 use Rattle.model.specs.Answers.{numberOf, placeOf, refusalValues, lineValues, readValues, writeValues, tableValues}
-use Rattle.model.specs.Answers.{verdictValues, moveValues, refuseIf, refuseAt, firstRefusal}
+use Rattle.model.specs.Answers.{verdictValues, moveValues, judgeValues, refuseIf, refuseAt, firstRefusal}
 use Rattle.model.specs.declared.Refusal.{Refusal}
 use Rattle.model.specs.declared.Refusal.the-variants.{TextTooLong, Malformed, TooManyLines, JobOutOfSequence}
 use Rattle.model.specs.declared.Refusal.the-variants.{BadStart, NeverStarted, GiveWithoutTake, TakeOfHeld}
 use Rattle.model.specs.declared.Refusal.the-variants.{TwoLasting, LeadsBack, ListTooShort, NotATake}
-use Rattle.model.specs.declared.Refusal.the-variants.{NoSuchDevice, StaleTable}
+use Rattle.model.specs.declared.Refusal.the-variants.{NoSuchDevice, StaleTable, IllegalStep}
 use Rattle.model.specs.declared.LineAnswer.{LineAnswer}
 use Rattle.model.specs.declared.ReadAnswer.{ReadAnswer}
 use Rattle.model.specs.declared.WriteAnswer.{WriteAnswer}
 use Rattle.model.specs.declared.TableAnswer.{TableAnswer}
 use Rattle.model.specs.declared.VerdictAnswer.{VerdictAnswer}
 use Rattle.model.specs.declared.MoveAnswer.{MoveAnswer}
+use Rattle.model.specs.declared.JudgeAnswer.{JudgeAnswer}
 
 -- the refusal of a number and a place
 refusalOf : ℕ → ℕ → Option Refusal
@@ -41,6 +42,7 @@ refusalOf number place =
     ∷ some (NotATake place)
     ∷ some (NoSuchDevice place)
     ∷ some (StaleTable place)
+    ∷ some (IllegalStep place)
     ∷ [])
     number none
 
@@ -60,9 +62,10 @@ refusal-back (ListTooShort needed) = refl
 refusal-back (NotATake asked) = refl
 refusal-back (NoSuchDevice asked) = refl
 refusal-back (StaleTable line) = refl
+refusal-back (IllegalStep position) = refl
 
--- the numbers are 1 to 14
-pub number-range : (r : Refusal) → (1 ≤ numberOf r) × (numberOf r ≤ 14)
+-- the numbers are 1 to 15
+pub number-range : (r : Refusal) → (1 ≤ numberOf r) × (numberOf r ≤ 15)
 number-range TextTooLong = (omega arith, omega arith)
 number-range (Malformed line) = (omega arith, omega arith)
 number-range TooManyLines = (omega arith, omega arith)
@@ -77,6 +80,7 @@ number-range (ListTooShort needed) = (omega arith, omega arith)
 number-range (NotATake asked) = (omega arith, omega arith)
 number-range (NoSuchDevice asked) = (omega arith, omega arith)
 number-range (StaleTable line) = (omega arith, omega arith)
+number-range (IllegalStep position) = (omega arith, omega arith)
 
 -- a refusal is known by its number and place
 pub one-refusal : (r s : Refusal) → numberOf r ≡ numberOf s → placeOf r ≡ placeOf s → r ≡ s
@@ -122,6 +126,11 @@ move-back : (a : MoveAnswer) → answerOf MoveAnswer.Changed MoveAnswer.Refused 
 move-back (MoveAnswer.Changed n) = done-back MoveAnswer.Changed MoveAnswer.Refused n
 move-back (MoveAnswer.Refused r) = refused-back MoveAnswer.Changed MoveAnswer.Refused r
 
+judge-back : (a : JudgeAnswer) → answerOf (λ x. JudgeAnswer.Legal) JudgeAnswer.Refused (judgeValues a) ≡ a
+unfolding answerOf
+judge-back JudgeAnswer.Legal = refl
+judge-back (JudgeAnswer.Refused r) = refused-back (λ x. JudgeAnswer.Legal) JudgeAnswer.Refused r
+
 -- the line reader's: one value for the end, two for a refusal, four for a line
 lineOf : List ℕ → LineAnswer
 unfolding answerOf
@@ -155,6 +164,9 @@ one-verdict-answer = one-answer verdictValues (answerOf VerdictAnswer.Held Verdi
 
 pub one-move-answer : (a b : MoveAnswer) → moveValues a ≡ moveValues b → a ≡ b
 one-move-answer = one-answer moveValues (answerOf MoveAnswer.Changed MoveAnswer.Refused) move-back
+
+pub one-judge-answer : (a b : JudgeAnswer) → judgeValues a ≡ judgeValues b → a ≡ b
+one-judge-answer = one-answer judgeValues (answerOf (λ x. JudgeAnswer.Legal) JudgeAnswer.Refused) judge-back
 
 -- ---- tests in a list
 

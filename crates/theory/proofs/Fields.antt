@@ -141,6 +141,20 @@ flatten-lines (b ∷ s) = go (eqb b newline) (flatten-lines s)
     go true ih = rw ih
     go false ih = front (linesOf s) ∙ rw ih
 
+-- where something stands, there is a first line, and something stands in it
+pub some-line : (s : List ℕ) → 1 ≤ length s
+    → (l : List ℕ) × (ls : List (List ℕ)) × (linesOf s ≡ l ∷ ls) × (1 ≤ length l)
+unfolding linesOf
+some-line [] h = absurd (omega arith)
+some-line (b ∷ s) h = go (eqb b newline) (linesOf s)
+  where
+    go : (t : Bool) (ls : List (List ℕ))
+        → (l : List ℕ) × (ms : List (List ℕ))
+        × (elim t [ true ↦ (b ∷ []) ∷ ls | false ↦ inFront b ls ] ≡ l ∷ ms) × (1 ≤ length l)
+    go true ls = (b ∷ [], ls, refl, omega arith)
+    go false [] = (b ∷ [], [], refl, omega arith)
+    go false (l ∷ ls) = (b ∷ l, ls, refl, omega arith)
+
 -- past its first line a text has its other lines
 abbrev PastFirst : List ℕ → List (List ℕ) → Type 0
 PastFirst s [] = Unit {0}

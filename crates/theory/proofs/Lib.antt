@@ -1,7 +1,10 @@
 -- The theorems about the definitions of `model`, in the order in which they build on each other; the one that a user
--- of a file wants stands last in it. A legal order exists exactly if the verdict is an order: `Verdict`. The round
--- trips: `Text`. The line reader: `Reader`; by an offset alone: `Offsets`. What is printed fits the screens' buffer:
--- `Printed`; and some print fills it: `Longest`. Contracts that are equations leave one outcome: `Tight`.
+-- of a file wants stands last in it. A legal order exists exactly if the verdict is an order: `Verdict`. An order from
+-- elsewhere passes exactly if it is legal, and otherwise strays at its first wrong entry: `Judged`; how much of it
+-- decides: `Cut`; of a text that has one, what is refused: `JudgedText`; and that what is past the judge's room changes
+-- nothing: `LaterBytes`. The round trips: `Text`. The line reader: `Reader`; by an offset alone: `Offsets`. What is
+-- printed fits the screens' buffer: `Printed`; and some print fills it: `Longest`. Contracts that are equations leave
+-- one outcome: `Tight`.
 pub mod Tests
 pub mod Tight
 pub mod Lists
@@ -23,7 +26,10 @@ pub mod Turns
 pub mod Progress
 pub mod Handed
 pub mod LineByLine
+pub mod Steps
 pub mod Verdict
+pub mod Judged
+pub mod Cut
 pub mod Numbers
 pub mod Fields
 pub mod Spelling
@@ -32,3 +38,5 @@ pub mod Reader
 pub mod Offsets
 pub mod Printed
 pub mod Longest
+pub mod JudgedText
+pub mod LaterBytes

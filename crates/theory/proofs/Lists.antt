@@ -1,7 +1,7 @@
 -- What the words of `model/Lists` mean: members of a list, of the positions, of those that pass; what a search finds,
 -- and that where it finds nothing nothing passes. One law for each word serves order, verdict, faults and moves.
 use Prim.Native.Nat.{ℕ, zero, suc, _+_, _<_, _≤_}
-use mathlib.Core.Bool.{Bool, true, false, cond, _||_}
+use mathlib.Core.Bool.{Bool, true, false, cond, _&&_, _||_}
 use mathlib.Core.List.{List, [], _∷_, _++_, map}
 use mathlib.Core.Logic.{_⊎_, inl, inr, _≢_, _↔_}
 use mathlib.Core.Option.{Option, none, some, Option·some-injective}
@@ -10,8 +10,8 @@ use native.Mathlib.Omega.{arith}
 use lib.Dec.{eqb, ltb}
 use lib.ListN.{length}
 use borrow.Author.Tests.{eqb-true, eq-eqb, eqb-false, ltb-true, ltb-false}
-use Rattle.model.specs.Lists.{upFrom, positions, any, has, those, firstOf, lower, leastBy}
-use Rattle.theory.proofs.Tests.{clash, no-some, test, or-split, or-left, or-right}
+use Rattle.model.specs.Lists.{upFrom, positions, any, all, has, those, firstOf, lower, leastBy}
+use Rattle.theory.proofs.Tests.{clash, no-some, test, or-split, or-left, or-right, and-split, and-both}
 
 -- ---- members
 
@@ -144,6 +144,33 @@ none-any f xs h = go (test (any f xs))
     go : (any f xs ≡ true) ⊎ (any f xs ≡ false) → any f xs ≡ false
     go (inl e) = let r = any-found f xs e in clash (f (r .0)) (r .2) (h (r .0) (r .1))
     go (inr e) = e
+
+-- all of a list pass, or one fails
+pub all-at : (f : ℕ → Bool) (xs : List ℕ) (k : ℕ) → all f xs ≡ true → has k xs ≡ true → f k ≡ true
+unfolding all
+all-at f [] k e h = has-none k h
+all-at f (x ∷ xs) k e h = let s = and-split (f x) (all f xs) e in go (s .0) (has-cases k x xs h) (all-at f xs k (s .1))
+  where
+    go : f x ≡ true → (k ≡ x) ⊎ (has k xs ≡ true) → (has k xs ≡ true → f k ≡ true) → f k ≡ true
+    go t (inl q) ih = rw q t
+    go t (inr m) ih = ih m
+
+pub each-all : (f : ℕ → Bool) (xs : List ℕ) → ((k : ℕ) → has k xs ≡ true → f k ≡ true) → all f xs ≡ true
+unfolding all
+each-all f [] h = refl
+each-all f (x ∷ xs) h =
+    and-both (f x) (all f xs) (h x (has-head x xs)) (each-all f xs (λ k m. h k (has-tail k x xs m)))
+
+pub not-all : (f : ℕ → Bool) (xs : List ℕ) → all f xs ≡ false → (k : ℕ) × (has k xs ≡ true) × (f k ≡ false)
+unfolding all
+not-all f [] h = clash true refl h
+not-all f (x ∷ xs) h = go (f x) refl h (not-all f xs)
+  where
+    go : (b : Bool) → f x ≡ b → (b && all f xs) ≡ false
+        → (all f xs ≡ false → (k : ℕ) × (has k xs ≡ true) × (f k ≡ false))
+        → (k : ℕ) × (has k (x ∷ xs) ≡ true) × (f k ≡ false)
+    go false e m ih = (x, has-head x xs, e)
+    go true e m ih = let r = ih m in (r .0, has-tail (r .0) x xs (r .1), r .2)
 
 -- ---- those that pass
 

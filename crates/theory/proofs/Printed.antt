@@ -4,10 +4,10 @@
 -- once, at two bytes and one more from each of 10, 100 and 1,000 on.
 use Prim.Native.Nat.{ℕ, zero, suc, _+_, _-_, _*_, _≤_, _<_}
 use mathlib.Core.Bool.{Bool, true, false, _||_}
-use mathlib.Core.List.{List, [], _∷_, _++_, append-assoc, append-nil, map, flatMap, headD}
+use mathlib.Core.List.{List, [], _∷_, _++_, map, flatMap, headD}
 use mathlib.Core.Logic.{_⊎_, inl, inr}
 use mathlib.Core.Option.{Option, none, some}
-use mathlib.Core.Path.{_≡_, refl, sym}
+use mathlib.Core.Path.{_≡_, refl}
 use native.Mathlib.Omega.{arith}
 use lib.Dec.{ltb}
 use lib.ListN.{length, length-append, length-map}
@@ -27,8 +27,8 @@ use Rattle.model.specs.declared.Refusal.{Refusal}
 use Rattle.model.specs.declared.Refusal.the-variants.{TextTooLong}
 use Rattle.theory.specs.Verdict.{twice, back}
 use Rattle.theory.proofs.Tests.{or-split, or-left, or-right, le-or-lt}
-use Rattle.theory.proofs.Lists.{has-head, those-length, left, left-le, left-lt, left-zero, left-one}
-use Rattle.theory.proofs.Lists.{left-every, among}
+use Rattle.theory.proofs.Lists.{has-head, those-length, left, left-le, left-lt, left-zero, left-every}
+use Rattle.theory.proofs.Lists.{among}
 use Rattle.theory.proofs.Answers.{all-tests, also, first-each}
 use Rattle.theory.specs.WellFormed.{BrokenAt, tooMany, malformed, outOfSequence, badStart, badGive, takeOfHeld}
 use Rattle.theory.specs.WellFormed.{Broken, atLine, noLines, noStart}
@@ -36,8 +36,9 @@ use Rattle.theory.proofs.WellFormed.{FaultView, broken, fault-view}
 use Rattle.theory.proofs.WellFormed.{broken-number, no-fault-exactly}
 use Rattle.theory.proofs.Claims.{length-upFrom}
 use Rattle.theory.proofs.Successors.{first-is}
-use Rattle.theory.proofs.LineByLine.{more-old, more-new, has-other}
+use Rattle.theory.proofs.LineByLine.{more-old, more-new}
 use Rattle.theory.proofs.Verdict.{OrderView, refused, order-view, accepted-is-legal}
+use Rattle.theory.proofs.Judged.{steps-counted}
 use Rattle.theory.proofs.Numbers.{digits-one, digits-two, digits-three, digits-four}
 use Rattle.theory.proofs.Text.{no-text-fault}
 
@@ -165,18 +166,10 @@ pub legal-length : (p o : List ℕ) → Legal p o → length o ≡ length p
 legal-length p o legal =
     omega (
       arith,
-      follow [] o (legal .steps),
+      steps-counted p [] o (legal .steps),
       left-zero (among o) (length p) (legal .whole),
       left-every (length p),
     )
-  where
-    follow : (done o : List ℕ) → Follow p done o
-        → length o + left (among (done ++ o)) (length p) ≡ left (among done) (length p)
-    follow done [] s = rw append-nil (omega arith)
-    follow done (i ∷ o) s =
-        let one = left-one (among done) (among (done ++ (i ∷ []))) i (s .0 .once) (more-new i done)
-        (λ k ne. has-other k i done ne) (length p) (s .0 .line) in
-        rw (sym (append-assoc done (i ∷ []) o)) (omega (arith, one, follow (done ++ (i ∷ [])) o (s .1)))
 
 -- ---- an order
 

@@ -1,6 +1,6 @@
 -- Boolean tests: what a test that passes or fails says of its parts. Every other file of this room leans on these.
 use Prim.Native.Nat.{ℕ, _≤_, _<_}
-use mathlib.Core.Bool.{Bool, true, false, cond, _&&_, _||_}
+use mathlib.Core.Bool.{Bool, true, false, cond, not, _&&_, _||_}
 use mathlib.Core.Logic.{_⊎_, inl, inr}
 use mathlib.Core.Option.{Option, none, some, Option·none-ne-some}
 use mathlib.Core.Path.{_≡_, refl, sym, ap}
@@ -64,6 +64,15 @@ and-right false b e = refl
 pub and-second : (a b : Bool) → a ≡ true → (a && b) ≡ false → b ≡ false
 and-second true b e h = h
 and-second false b e h = clash false e refl
+
+-- a test that passes only if another does
+pub only-if : (a b : Bool) → (not a || b) ≡ true → a ≡ true → b ≡ true
+only-if true b e h = e
+only-if false b e h = clash false h refl
+
+pub if-only : (a b : Bool) → (a ≡ true → b ≡ true) → (not a || b) ≡ true
+if-only true b h = h refl
+if-only false b h = refl
 
 pub le-or-lt : (a b : ℕ) → (a ≤ b) ⊎ (b < a)
 le-or-lt a b = go (test (leb a b))

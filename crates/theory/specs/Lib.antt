@@ -5,3 +5,4 @@ pub mod Claims
 pub mod Verdict
 pub mod Move
 pub mod Text
+pub mod Judged

@@ -25,7 +25,8 @@ use Rattle.theory.proofs.WellFormed.{no-fault-exactly}
 use Rattle.theory.proofs.Verdict.{OrderView, accepted, order-view}
 use Rattle.verdict.specs.declared.waiting.Waiting.{Waiting}
 use Rattle.verdict.specs.declared.order.Choice.{Choice}
-use Rattle.verdict.specs.Waiting.{Marked, FirstsListed, allPlaces, foremost, tallied, scarceBelow, counted}
+use Rattle.plan.specs.Jobs.{FirstsListed}
+use Rattle.verdict.specs.Waiting.{Marked, allPlaces, foremost, tallied, scarceBelow, counted}
 use Rattle.verdict.specs.Waiting.{passed, replaced, goesOn, choosing, CanFall}
 use Rattle.verdict.proofs.Counts.{can-fall}
 use Rattle.verdict.proofs.Choosing.{Accepted}

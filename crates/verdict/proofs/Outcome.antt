@@ -2,7 +2,7 @@
 use Prim.Native.Nat.{ℕ, _<_, _≤_}
 use mathlib.Core.List.{List, map}
 use mathlib.Core.Option.{none, some}
-use mathlib.Core.Path.{_≡_, sym, ap}
+use mathlib.Core.Path.{_≡_}
 use lib.ListN.{length}
 use borrow.Author.Tests.{lt-ltb, le-ltb}
 use Rattle.model.specs.Lists.{over}
@@ -11,42 +11,42 @@ use Rattle.model.specs.Line.{lineNumber}
 use Rattle.model.specs.WellFormed.{fault}
 use Rattle.model.specs.Handed.{handed}
 use Rattle.model.specs.Verdict.{noOrder, heldAtEnd}
-use Rattle.model.specs.Entries.{verdictRefusal, judging}
+use Rattle.model.specs.Entries.{verdictRefusal, ordering}
 use Rattle.model.specs.Board.{devices}
 use Rattle.model.specs.declared.Refusal.{Refusal}
 use Rattle.model.specs.declared.Refusal.the-variants.{ListTooShort}
 use Rattle.model.specs.declared.VerdictAnswer.{VerdictAnswer}
-use Rattle.promises.specs.Verdict.{JudgesAs}
+use Rattle.promises.specs.Verdict.{OrdersAs}
 use Rattle.promises.proofs.Tight.{by-refusal, by-none}
 
 module _ (p lent : List ℕ) where
-  refused : (r : Refusal) → verdictRefusal devices p lent ≡ some r → JudgesAs p lent (VerdictAnswer.Refused r) lent
-  unfolding judging
+  refused : (r : Refusal) → verdictRefusal devices p lent ≡ some r → OrdersAs p lent (VerdictAnswer.Refused r) lent
+  unfolding ordering
   refused r e =
       by-refusal VerdictAnswer.Refused (VerdictAnswer.Held (heldAtEnd devices p))
       (over (map lineNumber (handed p)) lent) lent (verdictRefusal devices p lent) r e
 
   -- 2 to 8
-  pub faulty : (r : Refusal) → fault devices p ≡ some r → JudgesAs p lent (VerdictAnswer.Refused r) lent
+  pub faulty : (r : Refusal) → fault devices p ≡ some r → OrdersAs p lent (VerdictAnswer.Refused r) lent
   unfolding firstRefusal
   faulty r e = refused r (rw e)
 
   module _ (sound : fault devices p ≡ none) where
     -- 11
-    pub short : length lent < length p → JudgesAs p lent (VerdictAnswer.Refused (ListTooShort (length p))) lent
+    pub short : length lent < length p → OrdersAs p lent (VerdictAnswer.Refused (ListTooShort (length p))) lent
     unfolding firstRefusal tooShort refuseIf
     short h = refused (ListTooShort (length p)) (rw (sound, lt-ltb (length lent) (length p) h))
 
     module _ (room : length p ≤ length lent) where
       -- 9 and 10
-      pub without-order : (r : Refusal) → noOrder devices p ≡ some r → JudgesAs p lent (VerdictAnswer.Refused r) lent
+      pub without-order : (r : Refusal) → noOrder devices p ≡ some r → OrdersAs p lent (VerdictAnswer.Refused r) lent
       unfolding firstRefusal tooShort refuseIf
       without-order r e = refused r (rw (sound, le-ltb (length lent) (length p) room, e))
 
       -- the order
       pub ordered : (held : ℕ) (left : List ℕ) → noOrder devices p ≡ none → held ≡ heldAtEnd devices p
-          → left ≡ over (map lineNumber (handed p)) lent → JudgesAs p lent (VerdictAnswer.Held held) left
-      unfolding judging firstRefusal tooShort refuseIf
+          → left ≡ over (map lineNumber (handed p)) lent → OrdersAs p lent (VerdictAnswer.Held held) left
+      unfolding ordering firstRefusal tooShort refuseIf
       ordered held left e h l = rw h
           (by-none VerdictAnswer.Refused (VerdictAnswer.Held (heldAtEnd devices p))
           (over (map lineNumber (handed p)) lent) lent (verdictRefusal devices p lent) left

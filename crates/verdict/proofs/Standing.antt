@@ -4,7 +4,7 @@
 -- places.
 use Prim.Native.Nat.{ℕ, suc, _+_, _-_, _<_, _≤_}
 use mathlib.Core.Bool.{Bool, true, false, cond, not, _&&_}
-use mathlib.Core.List.{List, [], _∷_, _++_, map}
+use mathlib.Core.List.{List, [], _∷_, _++_}
 use mathlib.Core.Logic.{_⊎_, inl, inr, _≢_}
 use mathlib.Core.Path.{_≡_, refl, sym, _∙_, ap}
 use native.Mathlib.Omega.{arith}
@@ -12,23 +12,22 @@ use lib.Dec.{eqb, ltb}
 use lib.ListN.{length, getD}
 use borrow.Author.Tests.{eqb-true, eqb-false, eq-eqb, ltb-true, lt-ltb, not-true}
 use Rattle.model.specs.Lists.{has}
-use Rattle.model.specs.Line.{job, kind, operand, isStart, starts, at, hasLines, firstLine, lineNumber, maxJob}
+use Rattle.model.specs.Line.{job, kind, operand, isStart, starts, at, hasLines, maxJob}
 use Rattle.model.specs.Mate.{deviceAt, lastingAt}
 use Rattle.model.specs.WellFormed.{WellFormed}
 use Rattle.model.specs.Legal.{precedes}
 use Rattle.model.specs.Board.{devices}
 use Rattle.theory.proofs.Tests.{clash, test, falsely, and-split, and-both, le-or-lt}
-use Rattle.theory.proofs.Lists.{has-none, has-cases, has-suc}
 use Rattle.theory.proofs.Line.{start-parts, start-of, start-operand, line-parts}
 use Rattle.theory.proofs.WellFormed.{any-line, start-line}
-use Rattle.theory.proofs.Successors.{first-is, first-at, earlier-precedes, start-precedes, Why, sameJob, starter, why}
+use Rattle.theory.proofs.Successors.{earlier-precedes, start-precedes, Why, sameJob, starter, why}
 use Rattle.theory.proofs.Successors.{jobs-grow, precedes-reaches}
 use Rattle.theory.specs.Verdict.{LastsTwice}
 use Rattle.theory.proofs.Places.{lasting-parts}
 use Rattle.theory.proofs.Progress.{lasting-own, device-below}
 use Rattle.theory.proofs.LineByLine.{Stands, LowestIs, stood, more-old, more-only, more-not, not-more}
-use Rattle.plan.specs.Jobs.{firstLines, numberOfFirst}
-use Rattle.rows.proofs.Filled.{entry-of}
+use Rattle.plan.specs.Jobs.{firstLines}
+use Rattle.plan.proofs.Firsts.{first-listed}
 use Rattle.verdict.specs.Waiting.{allPlaces, placeAt, followed, goesOn, lastingAfter, startedLine}
 use Rattle.verdict.proofs.Places.{Comes}
 
@@ -60,25 +59,6 @@ lasting-at p x h = go (followed p x && lastingAt p (suc x)) refl h
 
 -- ---- the first line of a job
 
-has-one : (i x : ℕ) → has i (x ∷ []) ≡ true → i ≡ x
-has-one i x h = go (has-cases i x [] h)
-  where
-    go : (i ≡ x) ⊎ (has i [] ≡ true) → i ≡ x
-    go (inl e) = e
-    go (inr m) = has-none i m
-
--- there is at most one
-first-one : (j : ℕ) (ls : List ℕ) (f : ℕ) → has f (firstLine j ls) ≡ true → firstLine j ls ≡ f ∷ []
-unfolding firstLine
-first-one j [] f h = has-none f h
-first-one j (l ∷ ls) f h = go (eqb (job l) j) h (λ g. first-one j ls g)
-  where
-    go : (b : Bool) → has f (elim b [ true ↦ 0 ∷ [] | false ↦ map suc (firstLine j ls) ]) ≡ true
-        → ((g : ℕ) → has g (firstLine j ls) ≡ true → firstLine j ls ≡ g ∷ [])
-        → elim b [ true ↦ 0 ∷ [] | false ↦ map suc (firstLine j ls) ] ≡ f ∷ []
-    go true h ih = rw (has-one f 0 h)
-    go false h ih = let r = has-suc f (firstLine j ls) h in rw (r .1) (ap (map suc) (ih (r .0) (r .2)))
-
 -- line x starts the job of line i, which is its first line
 pub record Begun (p : List ℕ) (x i : ℕ) : Type 0 where
   pub line : i < length p
@@ -92,8 +72,18 @@ pub record Starts (p : List ℕ) (x : ℕ) : Type 0 where
   pub begun : Begun p x (startedLine p x)
 
 pub the-start : {p : List ℕ} → WellFormed devices p → (x : ℕ) → isStart (at p x) ≡ true → Starts p x
-unfolding startedLine firstLines numberOfFirst lineNumber isStart hasLines
-the-start {p} w x e = go (first-at j p (k .0) (k .1) (eqb-true (job (at p (k .0))) j (k .2)))
+unfolding startedLine isStart hasLines
+the-start {p} w x e =
+    let f = first-listed p j (k .0) small (k .1) (eqb-true (job (at p (k .0))) j (k .2)) in
+    let z : startedLine p x ≡ f .line = rw (e, f .number) (omega arith) in record {
+      aJob = small;
+      listed = rw z (f .number);
+      begun = rw z (record {
+        line = f .inPlan;
+        start = rw (f .ofJob) s;
+        lowest = λ i l q. f .lowest i l (q ∙ f .ofJob);
+      });
+    }
   where
     j : ℕ
     j = operand (at p x)
@@ -106,25 +96,6 @@ the-start {p} w x e = go (first-at j p (k .0) (k .1) (eqb-true (job (at p (k .0)
 
     small : j ≤ maxJob
     small = start-operand devices (at p x) (w .lines x (start-line p x j s)) (eqb-true (kind (at p x)) 3 e)
-
-    go : (f : ℕ) × (has f (firstLine j p) ≡ true) × (f ≤ k .0) → Starts p x
-    go r =
-        let f = r .0 in
-        let one = first-one j p f (r .1) in
-        let its = first-is j p f (r .1) in
-        let number : getD (firstLines p) j 0 ≡ suc f =
-        entry-of (λ j. numberOfFirst (firstLine j p)) 0 (suc maxJob) j (omega (arith, small)) ∙ ap numberOfFirst one in
-        let z : startedLine p x ≡ f = rw (e, number) (omega arith) in record {
-          aJob = small;
-          listed = rw z number;
-          begun = rw z (record {
-            line = its .0;
-            start = rw (its .1) s;
-            lowest = λ i l q. (
-                let b = first-at j p i l (q ∙ its .1) in
-                let y = has-one (b .0) f (rw one at (b .1)) in omega (arith, b .2));
-          });
-        }
 
 started-at : {p : List ℕ} → WellFormed devices p → (x : ℕ) → startedLine p x < length p → Begun p x (startedLine p x)
 unfolding startedLine

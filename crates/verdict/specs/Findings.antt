@@ -5,7 +5,8 @@ use mathlib.Core.Path.{_≡_}
 use Rattle.model.specs.Board.{devices}
 use Rattle.rows.specs.Lasting.{heldToEnd, heldTwice}
 use Rattle.rows.specs.Holds.{rowsOf}
-use Rattle.verdict.specs.Waiting.{Marked, FirstsListed}
+use Rattle.plan.specs.Jobs.{FirstsListed}
+use Rattle.verdict.specs.Waiting.{Marked}
 
 pub record Findings (p first rs lasting : List ℕ) (held twice : ℕ) : Type 0 where
   pub marked : Marked p lasting

@@ -30,11 +30,6 @@ pub record Marked (p lasting : List ℕ) : Type 0 where
   pub sound : fault devices p ≡ none
   pub marks : lasting ≡ lastingFlags p
 
--- it has no fault, and for each job the number of its first line is listed
-pub record FirstsListed (p first : List ℕ) : Type 0 where
-  pub sound : fault devices p ≡ none
-  pub firsts : first ≡ firstLines p
-
 -- ---- places: those of the jobs, job j at j - 1, and past them those of the devices
 
 abbrev pub allPlaces : ℕ

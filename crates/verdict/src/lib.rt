@@ -8,7 +8,7 @@ use board::Set;
 use model::Refusal;
 use model::VerdictAnswer;
 use rows::HoldsAnswer;
-ghost use Rattle.promises.specs.Verdict.{JudgesAs};
+ghost use Rattle.promises.specs.Verdict.{OrdersAs};
 ghost use Rattle.verdict.specs.Findings.{Findings};
 
 mod order;
@@ -16,7 +16,7 @@ mod waiting;
 
 // The verdict on a plan without a fault, by what was found of it: 11; 9 and 10, each with the lowest device of its set;
 // then the order.
-fn judge(
+fn decide(
     plan: &[u32],
     first: &[u32; EACH_JOB],
     rows: &[Set; EACH_DEVICE],
@@ -26,7 +26,7 @@ fn judge(
     order: &mut [u16],
 ) -> VerdictAnswer
     requires { ⌜ Findings (now plan) (now first) (now rows) (now lasting) held twice ⌝ }
-    ensures { λ r. ⌜ JudgesAs (now (plan .entry)) (now (order .entry)) r (now (order .exit)) ⌝ }
+    ensures { λ r. ⌜ OrdersAs (now (plan .entry)) (now (order .entry)) r (now (order .exit)) ⌝ }
 {
     let n = plan.len();
     if order.len() < n {
@@ -47,13 +47,13 @@ fn judge(
 // The verdict on any list of numbers: the order's line numbers into the front of the lent list; a refusal leaves the
 // list as it was.
 pub fn verdict(plan: &[u32], order: &mut [u16]) -> VerdictAnswer
-    ensures { λ r. ⌜ JudgesAs (now (plan .entry)) (now (order .entry)) r (now (order .exit)) ⌝ }
+    ensures { λ r. ⌜ OrdersAs (now (plan .entry)) (now (order .entry)) r (now (order .exit)) ⌝ }
 {
     let mut first = [0u32; EACH_JOB];
     let mut rows = [sets::NONE; EACH_DEVICE];
     let mut lasting = [0u8; MOST_LINES];
     match rows::holds(plan, &mut first, &mut rows, &mut lasting) {
         HoldsAnswer::Refused(r) => VerdictAnswer::Refused(r),
-        HoldsAnswer::Made(held, twice) => judge(plan, &first, &rows, &lasting, held, twice, order),
+        HoldsAnswer::Made(held, twice) => decide(plan, &first, &rows, &lasting, held, twice, order),
     }
 }

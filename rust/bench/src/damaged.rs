@@ -1,9 +1,11 @@
 //! The two sides on plans of all kinds, before any time is taken: whole and damaged plans, rings, lists too short,
-//! stale tables. A version that refused differently would not be one to hold times against.
+//! stale tables, orders that are legal and orders that are not. A version that refused differently would not be one to
+//! hold times against.
 
 use crate::sides::{FAST, OURS};
 use bench::fast;
-use second::line::pack;
+use second::elsewhere::{damaged, mixed};
+use second::line::{pack, Line};
 use second::random::{plan, ring, wish, Cut, Random};
 use std::collections::BTreeMap;
 
@@ -16,6 +18,8 @@ pub type Counts = BTreeMap<(&'static str, u64), usize>;
 /// Tries both sides; what differs is an error.
 pub fn compare(random: &mut Random) -> Result<Counts, String> {
     let mut counts = Counts::new();
+    // Orders have a generator of their own, so that the plans do not hang on them.
+    let mut for_orders = random.clone();
     for _ in 0..TRIED {
         let mut packed = any_plan(random);
         let mut text = vec![0; 16 * packed.len()];
@@ -32,6 +36,7 @@ pub fn compare(random: &mut Random) -> Result<Counts, String> {
             table[at] ^= 1 << random.below(32);
         }
         compare_lists(random, &text, &packed, &mut counts)?;
+        compare_judge(&mut for_orders, &packed, &mut counts)?;
         compare_move(random, &packed, &table, &mut counts)?;
     }
     Ok(counts)
@@ -142,6 +147,22 @@ fn compare_lists(
     meet(counts, "table", table(OURS.table), table(FAST.table))?;
     let verdict = |side: fn(&[u32], &mut [u16]) -> u64| lend(&halves, |list| side(plan, list));
     meet(counts, "verdict", verdict(OURS.verdict), verdict(FAST.verdict))
+}
+
+/// The judge, with the order that is handed out, mixed or not, mostly damaged; for a plan without one, with the lines
+/// as they stand.
+fn compare_judge(random: &mut Random, plan: &[u32], counts: &mut Counts) -> Result<(), String> {
+    let lines: Vec<Line> = plan.iter().map_while(|&line| Line::unpacked(line)).collect();
+    let mut order: Vec<u16> = (1..=plan.len().min(1_030) as u16).collect();
+    let has_order = (FAST.verdict)(plan, &mut order) >> 32 == 0;
+    if has_order && random.once_in(2) {
+        order = mixed(random, &lines, &order);
+    }
+    if !random.once_in(4) {
+        order = damaged(random, plan.len(), &order);
+    }
+    let side = |judge: fn(&[u32], &[u16]) -> u64| (judge(plan, &order), ());
+    meet(counts, "judge", side(OURS.judge), side(FAST.judge))
 }
 
 /// The move, mostly of a take, to a device that may not be there, with a table that may be stale or short.

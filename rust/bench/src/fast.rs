@@ -1,16 +1,18 @@
-//! The five entries once more in Rust, written plainly and for speed: what the library's times are held against.
+//! The six entries once more in Rust, written plainly and for speed: what the library's times are held against.
 //!
 //! Each takes what the library's entry of that name takes, tests the same cases in the same order, and answers with
 //! the same 64-bit number. A refusal leaves every lent list as it was. Sets of devices and of jobs are words, working
 //! space is local arrays of fixed size; there is no heap, no hashing and no unsafe code.
 
 mod claims;
+mod judge;
 mod moving;
 mod scan;
 mod text;
 mod verdict;
 
 pub use claims::table;
+pub use judge::judge;
 pub use moving::move_claim;
 pub use text::{read, write};
 pub use verdict::verdict;

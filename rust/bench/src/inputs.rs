@@ -1,6 +1,8 @@
-//! What both sides are given: accepted plans, the same as text and as packed numbers, and lists of moves.
+//! What both sides are given: accepted plans, the same as text and as packed numbers, orders to judge, and lists of
+//! moves.
 
 use bench::fast;
+use second::elsewhere::mixed;
 use second::line::{pack, Line, Verb};
 use second::random::{plan, Random, Wish};
 use second::read::write;
@@ -19,6 +21,56 @@ pub struct Input {
     pub text: Vec<u8>,
     pub plan: Vec<u32>,
     pub table: Vec<u32>,
+    pub orders: Orders,
+}
+
+/// Which order is judged.
+#[derive(Clone, Copy, PartialEq, Eq, Debug)]
+pub enum Which {
+    /// It is the one that the verdict hands out.
+    Handed,
+    /// It is another legal one, its entries mixed at random.
+    Mixed,
+    /// It is such a one, in which near the end an entry comes twice.
+    Late,
+}
+
+impl Which {
+    pub fn words(self) -> &'static str {
+        match self {
+            Which::Handed => "handed out",
+            Which::Mixed => "mixed",
+            Which::Late => "late fault",
+        }
+    }
+}
+
+/// Orders of one plan.
+#[derive(Default)]
+pub struct Orders {
+    handed: Vec<u16>,
+    mixed: Vec<u16>,
+    late: Vec<u16>,
+}
+
+impl Orders {
+    /// Orders besides the one that is handed out. The generator is one for orders alone, so that plans and moves do not
+    /// hang on them.
+    fn new(random: &mut Random, lines: &[Line], handed: Vec<u16>) -> Orders {
+        let mixed = mixed(random, lines, &handed);
+        let mut late = mixed.clone();
+        let at = late.len() - 1 - random.below(late.len() / 16);
+        late[at] = late[at - 1];
+        Orders { handed, mixed, late }
+    }
+
+    pub fn list(&self, which: Which) -> &[u16] {
+        match which {
+            Which::Handed => &self.handed,
+            Which::Mixed => &self.mixed,
+            Which::Late => &self.late,
+        }
+    }
 }
 
 /// A claim to move: of which plan, which line, to which device.
@@ -50,6 +102,7 @@ impl Inputs {
     pub fn new(random: &mut Random, lines: usize) -> (Inputs, Make) {
         let mut make = Make::default();
         let mut plans = Vec::new();
+        let mut for_orders = random.clone();
         while plans.len() < LINES / lines {
             let wish = Wish {
                 lines,
@@ -60,9 +113,8 @@ impl Inputs {
                 lasting: 6,
             };
             let lines = plan(random, wish);
-            let input = Input::new(&lines);
             // The wish makes plans that have an order; one that had none would be no input for these times.
-            if input.is_accepted() {
+            if let Some(input) = Input::new(&mut for_orders, &lines) {
                 make.add(&lines);
                 plans.push(input);
             }
@@ -74,15 +126,16 @@ impl Inputs {
 }
 
 impl Input {
-    fn new(lines: &[Line]) -> Input {
+    /// The plan with all that is asked about it, if it has an order.
+    fn new(for_orders: &mut Random, lines: &[Line]) -> Option<Input> {
         let plan = pack(lines);
-        let mut table = vec![0; plan.len()];
+        let (mut table, mut handed) = (vec![0; plan.len()], vec![0; plan.len()]);
         fast::table(&plan, &mut table);
-        Input { text: write(lines), plan, table }
-    }
-
-    fn is_accepted(&self) -> bool {
-        fast::verdict(&self.plan, &mut vec![0; self.plan.len()]) >> 32 == 0
+        let accepted = fast::verdict(&plan, &mut handed) >> 32 == 0;
+        accepted.then(|| {
+            let orders = Orders::new(for_orders, lines, handed);
+            Input { text: write(lines), plan, table, orders }
+        })
     }
 }
 

@@ -8,7 +8,7 @@ mod inputs;
 mod report;
 mod sides;
 
-use inputs::Inputs;
+use inputs::{Inputs, Which};
 use report::{Figures, Report};
 use second::random::Random;
 use sides::{Entry, Lent, FAST, OURS};
@@ -18,7 +18,16 @@ use std::time::Duration;
 const SEED: u64 = 20_260_418;
 const ROUNDS: usize = 301;
 const SIZES: [usize; 3] = [256, 512, 1_024];
-const ENTRIES: [Entry; 5] = [Entry::Read, Entry::Write, Entry::Table, Entry::Verdict, Entry::Move];
+const ENTRIES: [Entry; 8] = [
+    Entry::Read,
+    Entry::Write,
+    Entry::Table,
+    Entry::Verdict,
+    Entry::Judge(Which::Handed),
+    Entry::Judge(Which::Mixed),
+    Entry::Judge(Which::Late),
+    Entry::Move,
+];
 
 /// The value of an environment variable, or another where it is not set.
 fn asked<T: std::str::FromStr>(name: &str, otherwise: T) -> T {
@@ -39,10 +48,10 @@ fn round(entry: Entry, inputs: &Inputs, ours_first: bool) -> Result<(Pair, Vec<u
         (OURS.run(entry, inputs, &mut ours), time)
     };
     if ours.answers != fast.answers {
-        return Err(format!("{entry:?}, {} lines: the answers differ", inputs.lines));
+        return Err(format!("{entry}, {} lines: the answers differ", inputs.lines));
     }
     if ours.lists != fast.lists {
-        return Err(format!("{entry:?}, {} lines: the lists differ", inputs.lines));
+        return Err(format!("{entry}, {} lines: the lists differ", inputs.lines));
     }
     Ok((times, ours.answers))
 }

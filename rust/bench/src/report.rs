@@ -85,7 +85,7 @@ impl Report {
             for OfSize { lines, ours, fast, .. } in sizes {
                 let ratio = ratio(ours, fast);
                 let (ours, fast) = (median(ours.clone()), median(fast.clone()));
-                println!("| {entry:?} | {lines} | {ours:.0} | {fast:.0} | {ratio:.2} |");
+                println!("| {entry} | {lines} | {ours:.0} | {fast:.0} | {ratio:.2} |");
             }
         }
         self.print_growth();
@@ -97,7 +97,7 @@ impl Report {
     /// How the plans of all kinds came out.
     fn print_tried(&self) {
         println!("So they were on {TRIED} plans of all kinds, whole and damaged. How often each entry refused:\n");
-        for entry in ["read", "write", "table", "verdict", "move"] {
+        for entry in ["read", "write", "table", "verdict", "judge", "move"] {
             let of_entry = self.tried.iter().filter(|((name, _), _)| *name == entry);
             let words: Vec<String> =
                 of_entry.map(|((_, number), count)| came_out(*number, *count)).collect();
@@ -115,7 +115,7 @@ impl Report {
             if let (Some(small), Some(large)) = (sizes.first(), sizes.last()) {
                 let (ours, fast) =
                     (ratio(&large.ours, &small.ours), ratio(&large.fast, &small.fast));
-                println!("| {entry:?} | {ours:.2} | {fast:.2} |");
+                println!("| {entry} | {ours:.2} | {fast:.2} |");
             }
         }
     }

@@ -1,17 +1,19 @@
 //! The two sides: the library's entries and the fast ones, each with its own lent lists.
 
-use crate::inputs::{Input, Inputs};
+use crate::inputs::{Input, Inputs, Which};
 use bench::fast;
 use gimmerskip::raw;
+use std::fmt;
 use std::hint::black_box;
 use std::time::{Duration, Instant};
 
-/// The five entries of a side, called through pointers, so that neither side grows into the loop that times it.
+/// The six entries of a side, called through pointers, so that neither side grows into the loop that times it.
 pub struct Side {
     pub read: fn(&[u8], &mut [u32]) -> u64,
     pub write: fn(&[u32], &mut [u8]) -> u64,
     pub table: fn(&[u32], &mut [u32]) -> u64,
     pub verdict: fn(&[u32], &mut [u16]) -> u64,
+    pub judge: fn(&[u32], &[u16]) -> u64,
     pub move_claim: fn(&mut [u32], &mut [u32], u32, u32) -> u64,
 }
 
@@ -20,6 +22,7 @@ pub const OURS: Side = Side {
     write: raw::write,
     table: raw::table,
     verdict: raw::verdict,
+    judge: raw::judge,
     move_claim: raw::move_claim,
 };
 
@@ -28,6 +31,7 @@ pub const FAST: Side = Side {
     write: fast::write,
     table: fast::table,
     verdict: fast::verdict,
+    judge: fast::judge,
     move_claim: fast::move_claim,
 };
 
@@ -37,7 +41,18 @@ pub enum Entry {
     Write,
     Table,
     Verdict,
+    Judge(Which),
     Move,
+}
+
+impl fmt::Display for Entry {
+    /// As it stands in the report.
+    fn fmt(&self, out: &mut fmt::Formatter<'_>) -> fmt::Result {
+        match self {
+            Entry::Judge(which) => write!(out, "Judge, {}", which.words()),
+            other => write!(out, "{other:?}"),
+        }
+    }
 }
 
 impl Entry {
@@ -117,6 +132,7 @@ impl Side {
                 Entry::Read => (self.read)(black_box(&input.text), &mut lists.plan),
                 Entry::Write => (self.write)(plan, &mut lists.text),
                 Entry::Table => (self.table)(plan, &mut lists.sets),
+                Entry::Judge(which) => (self.judge)(plan, black_box(input.orders.list(which))),
                 _ => (self.verdict)(plan, &mut lists.order),
             });
         }

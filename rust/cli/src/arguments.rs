@@ -19,11 +19,14 @@ pub enum Kind {
     Move,
     /// `check FILE..`
     Check,
+    /// `judge PLAN ORDER`
+    Judge,
 }
 
 impl Kind {
     /// All of them, as the help has them.
-    pub const ALL: [Kind; 5] = [Kind::Order, Kind::Explain, Kind::Table, Kind::Move, Kind::Check];
+    pub const ALL: [Kind; 6] =
+        [Kind::Order, Kind::Explain, Kind::Table, Kind::Move, Kind::Check, Kind::Judge];
 
     /// The word by which it is asked for.
     pub fn word(self) -> &'static str {
@@ -33,6 +36,7 @@ impl Kind {
             Kind::Table => "table",
             Kind::Move => "move",
             Kind::Check => "check",
+            Kind::Judge => "judge",
         }
     }
 }
@@ -79,6 +83,13 @@ pub enum Command {
     Check {
         /// The plans.
         files: Vec<OsString>,
+    },
+    /// Says whether a list is a legal order of a plan.
+    Judge {
+        /// The plan.
+        plan: OsString,
+        /// The list of line numbers.
+        order: OsString,
     },
 }
 
@@ -192,6 +203,7 @@ fn command(kind: Kind, given: Given) -> Result<Command, Trouble> {
         Kind::Order | Kind::Check => (1, usize::MAX),
         Kind::Explain | Kind::Table => (1, 1),
         Kind::Move => (3, 3),
+        Kind::Judge => (2, 2),
     };
     if operands.len() < least {
         return Err(misused(&format!("{} needs more operands", kind.word()), Some(kind)));
@@ -199,6 +211,9 @@ fn command(kind: Kind, given: Given) -> Result<Command, Trouble> {
     if operands.len() > most {
         let over = shown::name(&operands[most]);
         return Err(misused(&format!("{over} is one operand too many"), Some(kind)));
+    }
+    if kind == Kind::Judge && operands.iter().all(|operand| operand == "-") {
+        return Err(misused("only one of PLAN and ORDER can be `-`", Some(kind)));
     }
     Ok(match kind {
         Kind::Order => Command::Order { files: operands, steps },
@@ -209,6 +224,7 @@ fn command(kind: Kind, given: Given) -> Result<Command, Trouble> {
             let (file, line, device) = (operands.remove(0), operands.remove(0), operands.remove(0));
             Command::Move(Move { file, line, device, in_place })
         }
+        Kind::Judge => Command::Judge { plan: operands.remove(0), order: operands.remove(0) },
     })
 }
 
@@ -258,6 +274,9 @@ mod tests {
         assert!(trouble("order").starts_with("order needs more operands\nuse: gimmerskip order"));
         assert!(trouble("explain a b").starts_with("b is one operand too many"));
         assert!(trouble("move a 1").starts_with("move needs more operands"));
+        assert!(trouble("judge a").starts_with("judge needs more operands\nuse: gimmerskip judge"));
+        assert!(trouble("judge - -").starts_with("only one of PLAN and ORDER can be `-`\nuse: "));
+        assert!(trouble("judge a b c").starts_with("c is one operand too many"));
         assert!(trouble("explain --steps a").starts_with("explain has no option --steps"));
         assert!(trouble("order --in-place a").starts_with("order has no option --in-place"));
         assert!(trouble("order a --names").starts_with("--names needs a file"));

@@ -56,6 +56,13 @@ impl Desk {
         self.say(&words);
     }
 
+    /// Says all there is to say of a refusal on standard error.
+    pub fn say_all(&mut self, name: &str, refused: &Diagnosis) {
+        self.met(Status::Refused);
+        let words = refused.long(name, self.err.style);
+        self.say(&words);
+    }
+
     /// Keeps a status in mind, if it is worse than those before.
     pub fn met(&mut self, status: Status) {
         self.worst = self.worst.max(status);

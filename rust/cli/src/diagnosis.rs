@@ -1,12 +1,15 @@
-//! What is wrong with a plan, in words. Number and place come from the library; the words come from looking at the
-//! text, and where the look finds nothing they are general.
+//! What is wrong with a plan, a move or an order from elsewhere, in words. Number and place come from the library; the
+//! words come from looking at the text, and where the look finds nothing they are general.
 
+mod astray;
+mod entry;
 mod faults;
 mod moves;
 mod no_order;
 mod text;
 mod tried;
 
+pub use astray::of_list;
 pub use moves::of_move;
 
 use crate::input::Text;
@@ -89,9 +92,11 @@ impl Diagnosis {
             out.push('\n');
             self.put_lines(&mut out, style);
         }
-        out.push('\n');
         let mend = Some(format!("To mend it, {}.", self.mend)).filter(|_| !self.mend.is_empty());
-        let sentences = self.said.iter().chain(&mend).chain(&self.example);
+        let mut sentences = self.said.iter().chain(&mend).chain(&self.example).peekable();
+        if sentences.peek().is_some() {
+            out.push('\n');
+        }
         out.extend(sentences.flat_map(|sentence| [sentence, "\n"]));
         out
     }

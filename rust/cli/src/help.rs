@@ -14,6 +14,7 @@ pub fn use_line(kind: Option<Kind>) -> &'static str {
         Some(Kind::Table) => "gimmerskip table [--names NAMES] FILE",
         Some(Kind::Move) => "gimmerskip move [--in-place] [--names NAMES] FILE LINE DEVICE",
         Some(Kind::Check) => "gimmerskip check [--names NAMES] FILE..",
+        Some(Kind::Judge) => "gimmerskip judge [--names NAMES] PLAN ORDER",
     }
 }
 
@@ -25,6 +26,7 @@ fn brief(kind: Kind) -> &'static str {
         Kind::Table => "prints the lines of a plan with the devices that they claim",
         Kind::Move => "moves the claim of a line to another device",
         Kind::Check => "says of each plan, in one line, whether it is accepted",
+        Kind::Judge => "says whether an order from elsewhere is a legal one of a plan",
     }
 }
 
@@ -53,33 +55,47 @@ fn more(kind: Kind) -> &'static str {
              --in-place   replaces the file, whole or not at all, and prints no plan\n"
         }
         Kind::Check => "A line for each file: `accepted` with its counts, or `refused` with number, place and words.\n",
+        Kind::Judge => {
+            "ORDER is a list of line numbers, one a line, from any maker. It may also be what `order` prints: a first\n\
+             line with the word `order` and two counts is passed over. Standard output gets what the program `judge`\n\
+             prints for the plan, `--` and the numbers: `legal`, or `refused`, number and place. The place of a 15 is\n\
+             where the list first goes wrong, counted from 1, or one past its end where it stops too soon. Which rule\n\
+             is broken there, and what the next step could be, is said in words on standard error.\n"
+        }
+    }
+}
+
+/// What the operands are.
+fn operands(kind: Option<Kind>) -> &'static str {
+    match kind {
+        Some(Kind::Judge) => "PLAN is a plan; `-`, for it or for ORDER, is standard input, and `--` ends the options.",
+        _ => "FILE is a plan; `-` is standard input, and `--` ends the options.",
     }
 }
 
 /// What all subcommands have in common.
-const COMMON: &str = "\
-FILE is a plan; `-` is standard input, and `--` ends the options.
-
+const COMMON: &str = "
   --names NAMES   a file with a line for each device that has a name: its number, a tab, the name
   --help          this help, or that of a command
   --version       the version
 
-The status is 0 if all went well, 1 if a plan or a move is refused, 2 if there was trouble with the use, with a file,
-or with input and output.
+The status is 0 if all went well, 1 if a plan, an order or a move is refused, 2 if there was trouble with the use, with
+a file, or with input and output.
 ";
 
 /// The page of help for a subcommand, or for all of them.
 pub fn page(kind: Option<Kind>) -> String {
     let head = format!("use: {}\n\n", use_line(kind));
+    let common = format!("{}\n{COMMON}", operands(kind));
     let Some(kind) = kind else {
         let line = |kind: &Kind| format!("  {:<10}{}\n", kind.word(), brief(*kind));
         let commands: String = Kind::ALL.iter().map(line).collect();
         return format!(
-            "{head}Finds the order of a plan, or says why there is none.\n\n{commands}\n{COMMON}"
+            "{head}Finds the order of a plan, or says why there is none.\n\n{commands}\n{common}"
         );
     };
     let brief = brief(kind);
-    format!("{head}{}{}.\n{}\n{COMMON}", brief[..1].to_uppercase(), &brief[1..], more(kind))
+    format!("{head}{}{}.\n{}\n{common}", brief[..1].to_uppercase(), &brief[1..], more(kind))
 }
 
 #[cfg(test)]

@@ -8,6 +8,9 @@ use std::fs::File;
 use std::io::{self, Read};
 use std::os::fd::AsFd;
 
+/// How standard input is called.
+pub const STANDARD: &str = "standard input";
+
 /// Fails where a file has no name: the system's words would not say so.
 pub fn named(name: &OsStr) -> Result<(), Trouble> {
     match name.is_empty() {
@@ -47,7 +50,7 @@ impl Input {
     /// Reads at most so many bytes of a file or of standard input.
     pub fn read(&mut self, name: &OsStr, most: usize) -> Result<Text, Trouble> {
         named(name)?;
-        let shown = if name == "-" { "standard input".to_string() } else { shown::name(name) };
+        let shown = if name == "-" { STANDARD.to_string() } else { shown::name(name) };
         let told = |error: &io::Error| Trouble::with(&shown, error);
         let file = if name == "-" { self.standard() } else { File::open(name) };
         let file = file.map_err(|error| told(&error))?;

@@ -1,4 +1,4 @@
-//! The command for growers: `gimmerskip order`, `explain`, `table`, `move` and `check`.
+//! The command for growers: `gimmerskip order`, `explain`, `table`, `move`, `check` and `judge`.
 //!
 //! It stands on the wrapper of the proved archives: what is accepted or refused, with which number and at which place,
 //! is always theirs. This crate reads files, finds words, and writes. [`run`] is the whole command; a subcommand is a
@@ -15,6 +15,8 @@ pub mod explain;
 pub mod gaps;
 pub mod help;
 pub mod input;
+pub mod judge;
+pub mod list;
 pub mod look;
 pub mod moving;
 pub mod names;
@@ -68,6 +70,7 @@ fn answer(desk: &mut Desk, asked: Asked) -> Result<(), Trouble> {
         Command::Table { file } => table::run(desk, &file),
         Command::Move(asked) => moving::run(desk, &asked),
         Command::Check { files } => check::run(desk, &files),
+        Command::Judge { plan, order } => judge::run(desk, &plan, &order),
     }
 }
 

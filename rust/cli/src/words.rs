@@ -44,6 +44,36 @@ pub fn together(word: &str, first: usize, last: usize) -> String {
     }
 }
 
+/// So many of a longer row of lines are told.
+const FEW: usize = 6;
+
+/// One of some lines, the first few of them told: `line 3`, `line 3 or 4`, `line 1, 2, 3, 4, 5, 6 or one of 9 more`.
+pub fn one_of(word: &str, lines: &[u16]) -> String {
+    let numbers = |lines: &[u16]| lines.iter().map(u16::to_string).collect::<Vec<_>>().join(", ");
+    match lines {
+        [front @ .., last] if !front.is_empty() && lines.len() <= FEW + 1 => {
+            format!("{word} {} or {last}", numbers(front))
+        }
+        _ if lines.len() <= FEW + 1 => format!("{word} {}", numbers(lines)),
+        _ => {
+            let more = grouped(lines.len() - FEW);
+            format!("{word} {} or one of {more} more", numbers(&lines[..FEW]))
+        }
+    }
+}
+
+/// The first few of some lines: `line 3`, `lines 3 and 4`, `lines 1, 2, 3, 4, 5, 6 and 9 more`.
+pub fn few(word: &str, lines: &[u16]) -> String {
+    match lines {
+        [line] => format!("{word} {line}"),
+        _ if lines.len() <= FEW + 1 => format!("{word}s {}", listed(lines)),
+        _ => {
+            let first: Vec<String> = lines[..FEW].iter().map(u16::to_string).collect();
+            format!("{word}s {} and {} more", first.join(", "), grouped(lines.len() - FEW))
+        }
+    }
+}
+
 #[cfg(test)]
 mod tests {
     use super::*;
@@ -65,5 +95,18 @@ mod tests {
         );
         assert_eq!(together("line", 3, 7), "lines 3 to 7");
         assert_eq!(held(1), "1 device stays held");
+        assert_eq!(
+            (few("line", &[3]), few("line", &[3, 4])),
+            ("line 3".into(), "lines 3 and 4".into())
+        );
+        let lines: Vec<u16> = (1..=15).collect();
+        assert_eq!(few("line", &lines[..7]), "lines 1, 2, 3, 4, 5, 6 and 7");
+        assert_eq!(few("line", &lines), "lines 1, 2, 3, 4, 5, 6 and 9 more");
+        assert_eq!(
+            (one_of("line", &[3]), one_of("line", &[3, 4]), one_of("line", &[3, 4, 7])),
+            ("line 3".into(), "line 3 or 4".into(), "line 3, 4 or 7".into())
+        );
+        assert_eq!(one_of("line", &lines[..7]), "line 1, 2, 3, 4, 5, 6 or 7");
+        assert_eq!(one_of("line", &lines), "line 1, 2, 3, 4, 5, 6 or one of 9 more");
     }
 }

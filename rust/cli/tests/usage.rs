@@ -8,7 +8,7 @@ use std::process::Command;
 #[test]
 fn help_and_version() {
     let all = run(&["--help"]).ends(0);
-    for word in ["order", "explain", "table", "move", "check"] {
+    for word in ["order", "explain", "table", "move", "check", "judge"] {
         assert!(all.text().contains(&format!("\n  {word} ")), "{word}");
         let page = run(&[word, "--help"]).ends(0);
         assert!(page.text().starts_with(&format!("use: gimmerskip {word} ")), "{word}");
@@ -23,13 +23,15 @@ fn help_and_version() {
 
 #[test]
 fn wrong_use_is_trouble() {
-    let wrong: [(&[&str], &str); 10] = [
+    let wrong: [(&[&str], &str); 12] = [
         (&[], "a command is missing"),
         (&["water"], "unknown command water"),
         (&["order"], "order needs more operands"),
         (&["check"], "check needs more operands"),
         (&["explain", "a", "b"], "b is one operand too many"),
         (&["move", "a", "1"], "move needs more operands"),
+        (&["judge", "a"], "judge needs more operands"),
+        (&["judge", "a", "b", "c"], "c is one operand too many"),
         (&["order", "-x"], "unknown option -x"),
         (&["table", "--steps", "a"], "table has no option --steps"),
         (&["order", "a", "--names"], "--names needs a file"),

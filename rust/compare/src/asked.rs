@@ -12,6 +12,8 @@ pub enum Asked<'a> {
     Packed { plan: &'a [u32], room: usize },
     /// A packed plan and a table that were lent, a line and a device.
     Move { plan: &'a [u32], sets: &'a [u32], line: u32, device: u32 },
+    /// A packed plan, and an order from elsewhere.
+    Order { plan: &'a [u32], order: &'a [u16] },
     /// A text on the program's standard input, in so many pieces.
     Fed { text: &'a [u8], pieces: usize },
     /// The program with a standard input or output that does not work.
@@ -24,7 +26,7 @@ impl Asked<'_> {
         match self {
             Asked::Text { room, .. } | Asked::Packed { room, .. } => *room,
             Asked::Move { sets, .. } => sets.len(),
-            Asked::Fed { .. } | Asked::Streams { .. } => 0,
+            Asked::Order { .. } | Asked::Fed { .. } | Asked::Streams { .. } => 0,
         }
     }
 }
@@ -48,6 +50,9 @@ impl Input for Asked<'_> {
             Asked::Move { plan, sets, line, device } => {
                 let table = format!("table of {}: {sets:?}", sets.len());
                 format!("{}{table}\nline {line}, device {device}\n", told_plan(plan))
+            }
+            Asked::Order { plan, order } => {
+                format!("{}order of {} entries: {order:?}\n", told_plan(plan), order.len())
             }
             Asked::Fed { text, pieces } => format!("{}in {pieces} pieces\n", told_text(text)),
             Asked::Streams { what } => format!("{what}\n"),

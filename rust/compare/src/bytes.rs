@@ -61,7 +61,7 @@ fn edge(random: &mut Random) -> Vec<u8> {
 }
 
 /// A text of one of these kinds.
-fn any_text(random: &mut Random) -> Vec<u8> {
+pub fn any_text(random: &mut Random) -> Vec<u8> {
     match random.below(8) {
         0 => edge(random),
         1 | 2 => {

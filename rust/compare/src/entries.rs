@@ -54,7 +54,7 @@ fn fill<T: Word>(
 
 /// What was lent for reading has to be there unchanged. The compiler may take that for granted, so
 /// the list is looked at again as if it were new.
-fn stays<T: Word>(run: &mut Run, entry: &str, asked: &Asked, list: &[T], lent: &Lent<T>) {
+pub fn stays<T: Word>(run: &mut Run, entry: &str, asked: &Asked, list: &[T], lent: &Lent<T>) {
     let name = format!("{entry}: what was lent for reading stays");
     run.tally.compare(&name, asked, list, black_box(lent).list());
 }
@@ -66,7 +66,7 @@ fn lent_text(run: &mut Run, text: &[u8]) -> Lent<u8> {
 }
 
 /// A packed plan lent for reading. Its last job could go on where it ends.
-fn lent_plan(plan: &[u32]) -> Lent<u32> {
+pub fn lent_plan(plan: &[u32]) -> Lent<u32> {
     Lent::among(plan, &[plan.last().map_or(1_024, |last| last / 1_024 * 1_024)])
 }
 
@@ -158,6 +158,9 @@ fn legal(run: &mut Run, asked: &Asked, plan: &[u32], held: u64, order: &[u16]) {
     let lines = order.iter().take(plan.len()).map(|&line| line.into()).collect::<Vec<usize>>();
     let wanted = check_packed(plan).ok().and_then(|plan| orders::held_after(&plan, &lines));
     run.tally.compare(name, asked, wanted.map(u64::from), Some(held));
+    let said = answer(raw::judge(plan, &order[..plan.len()]));
+    let name = "verdict: what is handed out passes the judge";
+    run.tally.compare(name, asked, Ok(0), said);
 }
 
 /// Counts a plan in its classes, after its verdict.
@@ -207,7 +210,7 @@ pub fn screen(run: &mut Run, text: &[u8], room: usize) -> Vec<u8> {
 fn sort_screen(run: &mut Run, text: &[u8], room: usize) {
     let order = second::read::read(text).and_then(|plan| plain::verdict(&plan));
     let wanted = order.map(|order| u64::from(order.held));
-    run.keep(text, &wanted);
+    run.texts.keep(text, &wanted);
     if room < SCREEN {
         run.tally.meet("screen: calls");
         run.tally.meet("screen: too little room");

@@ -1,13 +1,15 @@
 //! The plans of "Plans with their verdicts" of document 01, starred and not, through every entry
-//! and the program, with the answers that stand there. The second program is held against the same
+//! and the programs, with the answers that stand there; and their orders through the judge, who by
+//! request 1 of document 02 lets them pass. The second program is held against the same
 //! calls, as on any other plan.
 
 use crate::asked::Asked;
 use crate::entries::{self, Filled};
+use crate::judging::judge;
 use crate::moves::{moved, Kept};
 use crate::processes;
 use crate::program::Program;
-use crate::run::Run;
+use crate::run::{Answer, Run};
 use second::listed::{all, packed, text, Listed, A, B};
 use second::plain::{Order, SCREEN};
 use second::random::Move;
@@ -93,17 +95,58 @@ fn from_a_to_b(run: &mut Run) {
     run.tally.compare(name, &asked, wanted, (said, kept.plan, kept.sets));
 }
 
-/// All listed plans, through everything. The program is left out where it is missing.
-pub fn listed(run: &mut Run, program: Option<&Program>) {
+/// The listed order with what the judge has to say of it. A plan without one gets an empty list.
+fn judgement(listed: &Listed) -> (Vec<u16>, Answer) {
+    match &listed.verdict {
+        Ok(order) => (order.lines.clone(), Ok(0)),
+        Err(refusal) if refusal.number < 9 => (Vec::new(), Err(*refusal)),
+        Err(_) => (Vec::new(), Err(Refusal { number: 15, place: 1 })),
+    }
+}
+
+/// The listed order through the judge.
+fn through_judge(run: &mut Run, listed: &Listed) {
+    let (plan, (order, wanted)) = (packed(&listed.plan), judgement(listed));
+    let said = judge(run, &plan, &order);
+    let asked = Asked::Order { plan: &plan, order: &order };
+    run.tally.compare(&format!("listed, {}: judge", listed.name), &asked, wanted, said);
+}
+
+/// The listed order, in a text behind its plan, through the program that judges.
+fn through_judge_program(run: &mut Run, listed: &Listed, program: &Program) {
+    let (order, wanted) = judgement(listed);
+    let entries: String = order.iter().map(|line| format!("{line}\n")).collect();
+    let text = [&text(&listed.plan)[..], b"--\n", entries.as_bytes()].concat();
+    let wanted = match wanted {
+        Ok(_) => "legal\n".to_string(),
+        Err(refusal) => format!("refused\t{}\t{}\n", refusal.number, refusal.place),
+    };
+    let out = processes::print(run, program, &text, vec![text.clone()]);
+    let asked = Asked::Fed { text: &text, pieces: 1 };
+    let name = format!("listed, {}: {}", listed.name, program.name);
+    run.tally.compare(&name, &asked, wanted.into_bytes(), out);
+}
+
+/// The listed plan through the program that orders.
+fn through_order_program(run: &mut Run, listed: &Listed, program: &Program) {
+    let text = text(&listed.plan);
+    let out = processes::print(run, program, &text, vec![text.clone()]);
+    let asked = Asked::Fed { text: &text, pieces: 1 };
+    let name = format!("listed, {}: {}", listed.name, program.name);
+    run.tally.compare(&name, &asked, printed(listed), out);
+}
+
+/// All listed plans, through everything. A program is left out where it is missing.
+pub fn listed(run: &mut Run, order: Option<&Program>, judge: Option<&Program>) {
     for listed in &all() {
         through_entries(run, listed);
         through_move(run, listed);
-        if let Some(program) = program {
-            let text = text(&listed.plan);
-            let out = processes::print(run, program, &text, vec![text.clone()]);
-            let asked = Asked::Fed { text: &text, pieces: 1 };
-            let name = format!("listed, {}: program", listed.name);
-            run.tally.compare(&name, &asked, printed(listed), out);
+        through_judge(run, listed);
+        if let Some(program) = order {
+            through_order_program(run, listed, program);
+        }
+        if let Some(program) = judge {
+            through_judge_program(run, listed, program);
         }
     }
     from_a_to_b(run);

@@ -1,13 +1,12 @@
-//! The program held against the second program, on the texts that the other comparisons kept for
-//! it, and on streams that fail. The paragraph is that on the program in "Plans with their
-//! verdicts" of document 01.
+//! A program held against the second program, on the texts that were kept for it, and on streams
+//! that fail. The paragraphs are that on the program `order` in "Plans with their verdicts" of
+//! document 01, and that on the program `judge` in request 1 of document 02.
 
 use crate::asked::Asked;
 use crate::program::{Ended, Program};
-use crate::run::{Answer, Run};
-use second::plain::{self, printed};
+use crate::run::{Run, Texts};
 use second::random::Random;
-use second::read::{read, TEXT};
+use second::read::TEXT;
 use std::fs::{File, OpenOptions};
 use std::process::Stdio;
 use std::time::Duration;
@@ -16,16 +15,14 @@ use std::time::Duration;
 pub fn print(run: &mut Run, program: &Program, text: &[u8], pieces: Vec<Vec<u8>>) -> Vec<u8> {
     let asked = Asked::Fed { text, pieces: pieces.len() };
     let name = match pieces.len() {
-        1 => "program: prints what the second program prints",
-        _ => "program: prints it too for a text that comes in pieces",
+        1 => format!("{}: prints what the second program prints", program.name),
+        _ => format!("{}: prints it too for a text that comes in pieces", program.name),
     };
-    let order = read(text).and_then(|plan| plain::verdict(&plan));
-    let wanted: Answer = order.map(|order| u64::from(order.held));
-    run.meet("program", &wanted);
+    run.meet(program.name, &(program.answers)(text));
     let ended = program.fed(pieces, Duration::from_millis(1));
     let out = ended.out.clone();
-    let wanted = Ended { out: printed(text), err: Vec::new(), by_itself: true };
-    run.tally.compare(name, &asked, wanted, ended);
+    let wanted = Ended { out: (program.prints)(text), err: Vec::new(), by_itself: true };
+    run.tally.compare(&name, &asked, wanted, ended);
     out
 }
 
@@ -43,8 +40,8 @@ fn pieces(random: &mut Random, text: &[u8]) -> Vec<Vec<u8>> {
 }
 
 /// All texts that were kept, whole, and some of each kind in pieces.
-fn kept_texts(run: &mut Run, program: &Program) {
-    for texts in std::mem::take(&mut run.texts).into_values() {
+fn kept_texts(run: &mut Run, program: &Program, texts: Texts) {
+    for texts in texts.kinds() {
         for (at, text) in texts.iter().enumerate() {
             print(run, program, text, vec![text.clone()]);
             if at % 16 == 0 {
@@ -67,49 +64,53 @@ fn long_texts(run: &mut Run, program: &Program) {
     }
     let endless = File::open("/dev/zero").expect("there is an endless file");
     let asked = Asked::Streams { what: "standard input never ends" };
-    let wanted = Ended { out: printed(&[0; TEXT + 1]), err: Vec::new(), by_itself: true };
+    let out = (program.prints)(&[0; TEXT + 1]);
+    let wanted = Ended { out, err: Vec::new(), by_itself: true };
     let ended = program.with(endless.into(), Stdio::piped());
-    run.tally.compare("program: an input without end is too long", &asked, wanted, ended);
+    let name = format!("{}: an input without end is too long", program.name);
+    run.tally.compare(&name, &asked, wanted, ended);
 }
 
 /// A stream that fails: nothing on standard output, and one line on standard error.
-fn fails(run: &mut Run, name: &str, what: &str, ended: Ended) {
+fn fails(run: &mut Run, program: &Program, name: &str, what: &str, ended: Ended) {
     let newlines = ended.err.iter().filter(|&&byte| byte == b'\n').count();
     let one_line = newlines == 1 && ended.err.len() > 1 && ended.err.ends_with(b"\n");
     let what = format!("{what}; standard error had b\"{}\"", ended.err.escape_ascii());
     let wanted = (Vec::new(), true, true);
     let answer = (ended.out, one_line, ended.by_itself);
-    run.tally.compare(name, &Asked::Streams { what: &what }, wanted, answer);
+    let name = format!("{}: {name}", program.name);
+    run.tally.compare(&name, &Asked::Streams { what: &what }, wanted, answer);
 }
 
 /// Standard input that cannot be read, and standard output that cannot be written.
 fn broken_streams(run: &mut Run, program: &Program) {
     let directory = File::open("/").expect("the root can be opened");
     let ended = program.with(directory.into(), Stdio::piped());
-    fails(run, "program: a directory as input", "standard input is a directory", ended);
+    fails(run, program, "a directory as input", "standard input is a directory", ended);
     let unread = OpenOptions::new().write(true).open("/dev/null").expect("it can be written");
     let ended = program.with(unread.into(), Stdio::piped());
-    fails(run, "program: an input for writing only", "standard input is for writing only", ended);
+    fails(run, program, "an input for writing only", "standard input is for writing only", ended);
     let ended = program.redirected("<&-");
-    fails(run, "program: a closed input", "standard input is closed", ended);
+    fails(run, program, "a closed input", "standard input is closed", ended);
     let full = OpenOptions::new().write(true).open("/dev/full").expect("it can be opened");
     let ended = program.with(Stdio::null(), full.into());
-    fails(run, "program: a full output", "standard output is full", ended);
+    fails(run, program, "a full output", "standard output is full", ended);
     let ended = program.redirected(">&-");
-    fails(run, "program: a closed output", "standard output is closed", ended);
+    fails(run, program, "a closed output", "standard output is closed", ended);
 }
 
 /// Whether the program is there; if not, that is a failure and the rest cannot be run.
 pub fn is_there(run: &mut Run, program: &Program) -> bool {
     let there = program.path.is_file();
     let what = format!("looked for {}", program.path.display());
-    run.tally.compare("program: it is there", &Asked::Streams { what: &what }, true, there);
+    let name = format!("{}: it is there", program.name);
+    run.tally.compare(&name, &Asked::Streams { what: &what }, true, there);
     there
 }
 
-/// All runs of the program.
-pub fn processes(run: &mut Run, program: &Program) {
-    kept_texts(run, program);
+/// All runs of a program, with the texts that were kept for it.
+pub fn processes(run: &mut Run, program: &Program, texts: Texts) {
+    kept_texts(run, program, texts);
     long_texts(run, program);
     broken_streams(run, program);
 }

@@ -1,14 +1,17 @@
-//! The program `order` as a process: its standard input whole, in pieces, too long or not to be
-//! read, and its standard output, also one that takes nothing. The paragraph is that on the program
-//! in "Plans with their verdicts" of document 01.
+//! The programs `order` and `judge` as processes: standard input whole, in pieces, too long or not
+//! to be read, and standard output, also one that takes nothing. The paragraphs are that on the
+//! program in "Plans with their verdicts" of document 01, and request 1 of document 02.
 
+use crate::run::Answer;
+use second::read::read;
+use second::{judge, plain};
 use std::io::{Read, Write};
 use std::path::PathBuf;
 use std::process::{Child, ChildStdin, Command, Stdio};
 use std::thread;
 use std::time::{Duration, Instant};
 
-/// The program is given up after this long; it needs some thousandths of a second.
+/// A program is given up after this long; it needs some thousandths of a second.
 const PATIENCE: Duration = Duration::from_secs(10);
 
 /// How a run of the program ended.
@@ -20,17 +23,38 @@ pub struct Ended {
     pub by_itself: bool,
 }
 
-/// The program, by its path.
+/// A program.
 pub struct Program {
+    /// With this begin the names of its classes and checks.
+    pub name: &'static str,
     pub path: PathBuf,
+    /// What the second program answers for a text, and what it prints.
+    pub answers: fn(&[u8]) -> Answer,
+    pub prints: fn(&[u8]) -> Vec<u8>,
+}
+
+/// The path in an environment variable, or where the build leaves a program.
+fn path(variable: &str, program: &str) -> PathBuf {
+    let built = || [env!("CARGO_MANIFEST_DIR"), "../../target/bin", program].iter().collect();
+    std::env::var_os(variable).map_or_else(built, PathBuf::from)
 }
 
 impl Program {
-    /// The path in the environment variable ORDER, or where the build leaves the program.
-    pub fn new() -> Program {
-        let default = concat!(env!("CARGO_MANIFEST_DIR"), "/../../target/bin/order");
-        let path = std::env::var_os("ORDER").map_or(PathBuf::from(default), PathBuf::from);
-        Program { path }
+    /// The program `order`.
+    pub fn order() -> Program {
+        let answers = |text: &[u8]| {
+            let order = read(text).and_then(|plan| plain::verdict(&plan));
+            order.map(|order| u64::from(order.held))
+        };
+        let path = path("ORDER", "order");
+        Program { name: "program order", path, answers, prints: plain::printed }
+    }
+
+    /// The program `judge`.
+    pub fn judge() -> Program {
+        let answers = |text: &[u8]| judge::judge_text(text).map(|()| 0);
+        let path = path("JUDGE", "judge");
+        Program { name: "program judge", path, answers, prints: judge::printed }
     }
 
     /// A run with these pieces on standard input, with a pause after each but the last.

@@ -1,8 +1,9 @@
 //! The state of a run, and the classes of calls and plans that it has to meet. The classes are the
-//! numbers of "Refusal numbers" of document 01, entry by entry, and the shapes of plans on which
-//! "Claims and rows" and "The order handed out" turn.
+//! numbers of "Refusal numbers" of document 01, and 15 of document 02, entry by entry, the shapes of
+//! plans on which "Claims and rows" and "The order handed out" turn, and the sentences of "Legal
+//! orders".
 
-use crate::{small, wrapper};
+use crate::{judging, small, wrapper};
 use second::random::Random;
 use second::tally::{Tally, LEAST};
 use second::Refusal;
@@ -10,13 +11,13 @@ use std::collections::BTreeMap;
 
 /// The least number of calls of each entry.
 const CALLS: u64 = 20_000;
-/// So many texts of each answer are kept for the program.
+/// So many texts of each answer are kept for a program.
 const KEPT: usize = 240;
 
-/// Each entry, and the program, with the refusals that it can give. The lists are checked by each
+/// Each entry, and each program, with the refusals that it can give. The lists are checked by each
 /// entry itself, so a packed list too long gives 3; a text too long, 1, reaches readers of texts
 /// alone. The screens' entry has no list that could be too short: too little room is no refusal.
-const REFUSALS: [(&str, &[u32]); 8] = [
+const REFUSALS: [(&str, &[u32]); 10] = [
     ("line", &[1, 2, 3]),
     ("read", &[1, 2, 3, 4, 5, 6, 7, 8, 11]),
     ("write", &[2, 3, 4, 5, 6, 7, 8, 11]),
@@ -24,7 +25,9 @@ const REFUSALS: [(&str, &[u32]); 8] = [
     ("verdict", &[2, 3, 4, 5, 6, 7, 8, 9, 10, 11]),
     ("move", &[2, 3, 4, 5, 6, 7, 8, 11, 12, 13, 14]),
     ("screen", &[1, 2, 3, 4, 5, 6, 7, 8, 9, 10]),
-    ("program", &[1, 2, 3, 4, 5, 6, 7, 8, 9, 10]),
+    ("judge", &[2, 3, 4, 5, 6, 7, 8, 15]),
+    ("program order", &[1, 2, 3, 4, 5, 6, 7, 8, 9, 10]),
+    ("program judge", &[1, 2, 3, 4, 5, 6, 7, 8, 15]),
 ];
 
 /// The other classes.
@@ -45,19 +48,40 @@ const OTHERS: [&str; 11] = [
 /// What an entry says: its number on success, or its refusal.
 pub type Answer = Result<u64, Refusal>;
 
-/// The run: what it has seen, what it draws from, and the texts kept for the program, by the
-/// refusal's number, 0 being acceptance.
+/// Texts kept for a program, by the number of the refusal that they get, 0 being acceptance.
+#[derive(Default)]
+pub struct Texts {
+    by_number: BTreeMap<u32, Vec<Vec<u8>>>,
+}
+
+impl Texts {
+    /// Keeps a text, if there are not enough of its kind.
+    pub fn keep(&mut self, text: &[u8], answer: &Answer) {
+        let number = answer.as_ref().err().map_or(0, |refusal| refusal.number);
+        let texts = self.by_number.entry(number).or_default();
+        if texts.len() < KEPT {
+            texts.push(text.to_vec());
+        }
+    }
+
+    /// The texts, kind by kind.
+    pub fn kinds(self) -> impl Iterator<Item = Vec<Vec<u8>>> {
+        self.by_number.into_values()
+    }
+}
+
+/// The run: what it has seen, what it draws from, and the texts kept for the program `order`.
 pub struct Run {
     pub tally: Tally,
     pub random: Random,
-    pub texts: BTreeMap<u32, Vec<Vec<u8>>>,
+    pub texts: Texts,
 }
 
 impl Run {
     /// Nothing seen yet.
     pub fn new(seed: u64) -> Run {
         let tally = Tally::new(classes());
-        Run { tally, random: Random::new(seed), texts: BTreeMap::new() }
+        Run { tally, random: Random::new(seed), texts: Texts::default() }
     }
 
     /// Counts a call by its answer.
@@ -68,28 +92,20 @@ impl Run {
             Err(refusal) => self.tally.meet(&format!("{entry}: refusal {}", refusal.number)),
         }
     }
-
-    /// Keeps a text for the program, if there are not enough of its kind.
-    pub fn keep(&mut self, text: &[u8], answer: &Answer) {
-        let number = answer.as_ref().err().map_or(0, |refusal| refusal.number);
-        let texts = self.texts.entry(number).or_default();
-        if texts.len() < KEPT {
-            texts.push(text.to_vec());
-        }
-    }
 }
 
 /// All classes, each with the least number that has to be met.
 fn classes() -> Vec<(String, u64)> {
     let mut classes = Vec::new();
     for (entry, numbers) in REFUSALS {
-        // A process takes its time, so the program is called less often.
-        let calls = if entry == "program" { LEAST } else { CALLS };
+        // A process takes its time, so a program is called less often.
+        let calls = if entry.starts_with("program") { LEAST } else { CALLS };
         classes.push((format!("{entry}: calls"), calls));
         classes.push((format!("{entry}: accepted"), LEAST));
         classes.extend(numbers.iter().map(|number| (format!("{entry}: refusal {number}"), LEAST)));
     }
     classes.extend(OTHERS.map(|class| (class.to_string(), LEAST)));
+    classes.extend(judging::CLASSES.map(|class| (class.to_string(), LEAST)));
     classes.push(small::all_class());
     classes.extend(wrapper::classes());
     classes

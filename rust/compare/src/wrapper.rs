@@ -46,7 +46,7 @@ pub fn classes() -> Vec<(String, u64)> {
 }
 
 /// A refusal as the second program has it.
-fn as_second(refusal: gimmerskip::Refusal) -> Refusal {
+pub fn as_second(refusal: gimmerskip::Refusal) -> Refusal {
     Refusal { number: refusal.number(), place: refusal.place().into() }
 }
 

@@ -81,6 +81,26 @@ pub fn verdict(plan: &[u32], order: &mut [u16]) -> Result<usize, Refusal> {
     outcome(raw::verdict(plan, order))
 }
 
+/// Judges an order from elsewhere: whether these line numbers, whoever made the list, are a legal order of the plan.
+/// What [`verdict`] hands out is one; a plan can have many others.
+///
+/// # Errors
+///
+/// Refuses with 2 to 8 what is no plan, and then with 15 a list that is no legal order. The place of a 15 is where the
+/// list first goes wrong, counted from 1, and one past its end where it stops too soon: so the list itself is at fault
+/// up to its length, and something is missing behind it exactly if the place is `order.len() + 1`.
+///
+/// ```
+/// use gimmerskip::{entries, Refusal};
+///
+/// assert_eq!(entries::judge(&[1_285, 1_541], &[1, 2]), Ok(()));
+/// assert_eq!(entries::judge(&[1_285, 1_541], &[2, 1]), Err(Refusal::IllegalStep(1)));
+/// assert_eq!(entries::judge(&[1_285, 1_541], &[1]), Err(Refusal::IllegalStep(2)));
+/// ```
+pub fn judge(plan: &[u32], order: &[u16]) -> Result<(), Refusal> {
+    outcome(raw::judge(plan, order)).map(|_| ())
+}
+
 /// Moves the claim of a line, counted from 1, to another device: the take there, and the give that matches it. The sets
 /// are the plan's table, from [`table`] or from earlier moves; those on the way back to line 1 are mended, and the
 /// count is that of the lines whose set is then another.

@@ -2,10 +2,10 @@
 //!
 //! A plan is a list of steps, one a line, each of a job: it takes a shared device, gives it back, starts another job or
 //! does something that touches no device. [`Plan`] reads a plan and gives its order, its steps, its table of claims and
-//! its text; [`Tabled`] keeps a plan and its table together while claims are moved; [`Holds`] says who holds what, and
-//! why a plan has no order. The functions of [`entries`] work on slices that the caller lends, and [`lines`](lines())
-//! hands out the lines of a text one by one. What is refused comes back as a [`Refusal`], which says in words what is
-//! wrong and where.
+//! its text, and judges orders from elsewhere; [`Tabled`] keeps a plan and its table together while claims are moved;
+//! [`Holds`] says who holds what, and why a plan has no order. The functions of [`entries`] work on slices that the
+//! caller lends, and [`lines`](lines()) hands out the lines of a text one by one. What is refused comes back as a
+//! [`Refusal`], which says in words what is wrong and where.
 //!
 //! Jobs and lines count from 1, devices from 0 to 31. The work is done by archives of proved code, `libport.a`,
 //! `libreader.a` and `libscreen.a`; [`raw`] is the only place that calls into them. [`Step`], [`Holds`] and the words
@@ -57,6 +57,24 @@
 //!     let (device, then) = (arc.device, plan.step(arc.then).unwrap());
 //!     println!("job {} keeps device {device} from line {} on; then line {} is {then}", arc.job, arc.line, arc.then);
 //! }
+//! # Ok::<(), Refusal>(())
+//! ```
+//!
+//! # An order from elsewhere
+//!
+//! Two jobs take the same device for a while, and either may come first. The order handed out is one of the legal ones;
+//! a list from elsewhere is judged by the rules alone.
+//!
+//! ```
+//! use gimmerskip::{Plan, Refusal};
+//!
+//! let plan = Plan::from_text("1\tstart\t2\n1\ttake\t1\n1\tgive\t1\n2\ttake\t1\n2\tgive\t1\n")?;
+//! assert_eq!(plan.verdict()?.lines, [1, 2, 3, 4, 5]);
+//! assert_eq!(plan.judge(&[1, 4, 5, 2, 3]), Ok(()));
+//! // Line 2 takes what line 4 holds.
+//! assert_eq!(plan.judge(&[1, 4, 2, 3, 5]), Err(Refusal::IllegalStep(3)));
+//! // The list stops before its fifth entry.
+//! assert_eq!(plan.judge(&[1, 2, 3, 4]), Err(Refusal::IllegalStep(5)));
 //! # Ok::<(), Refusal>(())
 //! ```
 //!

@@ -162,6 +162,27 @@ impl Plan {
         Ok(Order { lines, held })
     }
 
+    /// Judges an order from elsewhere: whether these line numbers, whoever made the list, are a legal order. The one
+    /// that [`Plan::verdict`] hands out is accepted, and so is every other legal one.
+    ///
+    /// # Errors
+    ///
+    /// Refuses with 15 a list that is no legal order. The place is where the list first goes wrong, counted from 1; one
+    /// past its end, `order.len() + 1`, tells that all entries are right so far and the list stops too soon.
+    ///
+    /// ```
+    /// use gimmerskip::{Plan, Refusal};
+    ///
+    /// let plan = Plan::from_text("1\tstart\t2\n1\ttake\t5\n2\tdo\t7\n")?;
+    /// assert_eq!(plan.judge(&plan.verdict()?.lines), Ok(()));
+    /// assert_eq!(plan.judge(&[1, 2, 3]), Ok(()));
+    /// assert_eq!(plan.judge(&[1, 3, 3]), Err(Refusal::IllegalStep(3)));
+    /// # Ok::<(), Refusal>(())
+    /// ```
+    pub fn judge(&self, order: &[u16]) -> Result<(), Refusal> {
+        entries::judge(&self.lines, order)
+    }
+
     /// Moves the claim of a line, counted from 1, to another device, and mends the plan's table along the way; the
     /// count is that of the lines whose set is then another. The table is what [`Plan::table`] gave, kept up by earlier
     /// moves; [`Tabled`](crate::Tabled) keeps both together.

@@ -10,6 +10,7 @@ mod c {
         pub fn gimmerskip_write(plan: *const u32, n: usize, text: *mut u8, room: usize) -> u64;
         pub fn gimmerskip_table(plan: *const u32, n: usize, sets: *mut u32, room: usize) -> u64;
         pub fn gimmerskip_verdict(plan: *const u32, n: usize, order: *mut u16, room: usize) -> u64;
+        pub fn gimmerskip_judge(plan: *const u32, n: usize, order: *const u16, m: usize) -> u64;
         pub fn gimmerskip_move(
             plan: *mut u32,
             n: usize,
@@ -52,6 +53,11 @@ pub fn table(plan: &[u32], sets: &mut [u32]) -> u64 {
 /// The verdict on a plan, with its order: the number of devices still held.
 pub fn verdict(plan: &[u32], order: &mut [u16]) -> u64 {
     unsafe { c::gimmerskip_verdict(plan.as_ptr(), plan.len(), order.as_mut_ptr(), order.len()) }
+}
+
+/// An order from elsewhere, judged for a plan: 0 if it is legal.
+pub fn judge(plan: &[u32], order: &[u16]) -> u64 {
+    unsafe { c::gimmerskip_judge(plan.as_ptr(), plan.len(), order.as_ptr(), order.len()) }
 }
 
 /// The claim of a line, counted from 1, moved to a device: the number of sets that changed.

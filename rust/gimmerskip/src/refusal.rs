@@ -7,8 +7,8 @@ use core::fmt;
 /// The first answer that is a refusal; answers below it are counts.
 const FIRST: u64 = 1 << 32;
 
-/// Why an entry refuses. Each case but two carries its place, a line or a device or what was asked for; the places of
-/// those two are always the same. A refused call has changed nothing that it was lent.
+/// Why an entry refuses. Each case but two carries its place, a line or a device, what was asked for or a position; the
+/// places of those two are always the same. A refused call has changed nothing that it was lent.
 ///
 /// ```
 /// use gimmerskip::Refusal;
@@ -48,7 +48,11 @@ pub enum Refusal {
     NoSuchDevice(u32),
     /// 14: the table is stale at this line, of all such lines on the way the nearest to the one to be moved.
     StaleTable(u32),
-    /// None of the fourteen, kept as it came. The archives that this crate is made for never answer so; only others,
+    /// 15: the list is no legal order of the plan: it goes wrong first at this position, counted from 1. Where the
+    /// position is the list's length plus one, every entry is right so far, and the list stops too soon; the refusal
+    /// does not know the length, so that its words leave both open.
+    IllegalStep(u32),
+    /// None of the fifteen, kept as it came. The archives that this crate is made for never answer so; only others,
     /// with rules that are not known here, could. It is no success, and under another number it would send its reader
     /// to the wrong place: so it has a case of its own.
     Unlisted {
@@ -77,11 +81,12 @@ impl Refusal {
             (12, asked) => Refusal::NotATake(asked),
             (13, asked) => Refusal::NoSuchDevice(asked),
             (14, line) => Refusal::StaleTable(line),
+            (15, position) => Refusal::IllegalStep(position),
             (number, place) => Refusal::Unlisted { number, place },
         }
     }
 
-    /// The number: 1 to 14, unless it is [`Refusal::Unlisted`].
+    /// The number: 1 to 15, unless it is [`Refusal::Unlisted`].
     pub fn number(self) -> u32 {
         match self {
             Refusal::TextTooLong => 1,
@@ -98,11 +103,12 @@ impl Refusal {
             Refusal::NotATake(_) => 12,
             Refusal::NoSuchDevice(_) => 13,
             Refusal::StaleTable(_) => 14,
+            Refusal::IllegalStep(_) => 15,
             Refusal::Unlisted { number, .. } => number,
         }
     }
 
-    /// The place: a line, a device, a length or what was asked for, by the number.
+    /// The place: a line, a device, a length, what was asked for or a position, by the number.
     pub fn place(self) -> u32 {
         use Refusal::*;
         match self {
@@ -113,6 +119,7 @@ impl Refusal {
             TwoLasting(device) | LeadsBack(device) => device,
             ListTooShort(needed) => needed,
             NotATake(asked) | NoSuchDevice(asked) => asked,
+            IllegalStep(position) => position,
             Unlisted { place, .. } => place,
         }
     }
@@ -185,6 +192,12 @@ impl fmt::Display for Refusal {
             }
             Refusal::NoSuchDevice(asked) => {
                 write!(out, "there is no device {asked}: the highest is 31")
+            }
+            Refusal::IllegalStep(position) => {
+                write!(
+                    out,
+                    "entry {position} of the order is no legal next step, or the order stops before it"
+                )
             }
             other => {
                 write!(out, "refused with number {} and place {}", other.number(), other.place())

@@ -11,6 +11,7 @@ fn a_text_is_read_ordered_moved_and_written() {
     assert_eq!(entries::table(&plan, &mut sets), Ok(2));
     assert_eq!(entries::move_claim(&mut plan, &mut sets, 1, 6), Ok(1));
     assert_eq!(entries::verdict(&plan, &mut order), Ok(0));
+    assert_eq!(entries::judge(&plan, &order), Ok(()));
     let mut text = [0; 18];
     assert_eq!(entries::write(&plan, &mut text), Ok(18));
     assert_eq!(&text, b"1\ttake\t6\n1\tgive\t6\n");

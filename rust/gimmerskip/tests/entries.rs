@@ -5,7 +5,7 @@
 mod common;
 
 use common::text;
-use gimmerskip::{entries, SCREEN_ROOM};
+use gimmerskip::{entries, Refusal, SCREEN_ROOM};
 use second::listed::{packed, A, B, D, E, G, H};
 
 #[test]
@@ -55,6 +55,28 @@ fn the_verdict_has_the_order_and_what_is_held() {
         let mut order = vec![9; lines.len() + 1];
         assert_eq!(entries::verdict(&packed(short), &mut order), Ok(held), "{short}");
         assert_eq!(order, [lines, &[9]].concat(), "{short}");
+    }
+}
+
+#[test]
+fn the_judge_takes_legal_orders_and_no_others() {
+    let astray = |position| Err(Refusal::IllegalStep(position));
+    let cases: [(&str, &[u16], Result<(), Refusal>); 12] = [
+        (A, &[1, 4, 5, 6, 2, 3], Ok(())),
+        (D, &[1, 2, 3, 4, 5, 6, 7, 8, 9], Ok(())),
+        (D, &[1, 6, 7, 8, 9, 2, 3, 4, 5], Ok(())),
+        ("", &[], Ok(())),
+        ("", &[1], astray(1)),
+        (A, &[1, 4, 5, 6, 2], astray(6)),
+        (A, &[1, 4, 5, 6, 2, 3, 3], astray(7)),
+        (A, &[1, 2, 3, 4, 5, 6], astray(5)),
+        (A, &[4, 1, 5, 6, 2, 3], astray(1)),
+        (A, &[1, 4, 0, 6, 2, 3], astray(3)),
+        (A, &[1, 4, u16::MAX, 6, 2, 3], astray(3)),
+        (A, &[7; 2_000], astray(1)),
+    ];
+    for (short, order, answer) in cases {
+        assert_eq!(entries::judge(&packed(short), order), answer, "{short}: {order:?}");
     }
 }
 

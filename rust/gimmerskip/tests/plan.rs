@@ -46,6 +46,18 @@ fn a_plan_gives_its_order_and_its_table() {
 }
 
 #[test]
+fn the_order_handed_out_is_judged_legal() {
+    for listed in all().into_iter().filter(|listed| listed.verdict.is_ok()) {
+        let plan = plan(&listed.plan);
+        let mut order = plan.verdict().expect("it has an order").lines;
+        assert_eq!(plan.judge(&order), Ok(()), "{}", listed.name);
+        order.push(1);
+        let past = Refusal::IllegalStep(order.len() as u32);
+        assert_eq!(plan.judge(&order), Err(past), "{}", listed.name);
+    }
+}
+
+#[test]
 fn the_table_of_a_moved_plan_is_the_one_worked_out_afresh() {
     let mut moved = plan(A);
     let mut table = moved.table();

@@ -9,7 +9,7 @@ use gimmerskip::{entries, outcome, Plan, Refusal};
 use second::listed::{packed, A, F, G, H};
 
 /// Every refusal with its number, its place and its words.
-const WORDS: [(Refusal, u32, u32, &str); 15] = [
+const WORDS: [(Refusal, u32, u32, &str); 16] = [
     (Refusal::TextTooLong, 1, 0, "the text has more than 12288 bytes"),
     (Refusal::Malformed(3), 2, 3, "line 3 is no line that a plan can have"),
     (
@@ -60,6 +60,12 @@ const WORDS: [(Refusal, u32, u32, &str); 15] = [
         4,
         "line 4 has a stale set: it does not follow from the plan and the sets after it",
     ),
+    (
+        Refusal::IllegalStep(3),
+        15,
+        3,
+        "entry 3 of the order is no legal next step, or the order stops before it",
+    ),
 ];
 
 #[test]
@@ -71,7 +77,7 @@ fn each_has_its_number_its_place_and_its_words() {
         let answer = u64::from(number) << 32 | u64::from(place);
         assert_eq!(outcome(answer), Err(refusal));
     }
-    for number in 1..=14 {
+    for number in 1..=15 {
         assert!(WORDS.iter().any(|row| row.1 == number), "{number} has its words");
     }
 }
@@ -99,7 +105,7 @@ fn an_answer_below_the_refusals_is_a_count() {
 
 #[test]
 fn an_answer_of_no_known_number_is_kept_as_it_came() {
-    for (number, place) in [(15, 7), (u32::MAX, u32::MAX), (1, 1), (3, 1_024), (0, 4)] {
+    for (number, place) in [(16, 7), (u32::MAX, u32::MAX), (1, 1), (3, 1_024), (0, 4)] {
         let refusal = Refusal::new(number, place);
         assert_eq!(refusal, Refusal::Unlisted { number, place });
         assert_eq!((refusal.number(), refusal.place()), (number, place));
@@ -196,6 +202,15 @@ fn eleven_needs_the_length_and_comes_before_the_verdict() {
     assert!(short.iter().all(|&byte| byte == 9));
     assert_eq!(entries::verdict(&packed(G), &mut []), Err(Refusal::ListTooShort(3)));
     assert_eq!(entries::order(&whole, &mut [9; 4_026]), Err(Refusal::ListTooShort(4_027)));
+}
+
+#[test]
+fn fifteen_comes_after_the_plans_faults() {
+    let twice = packed("1 take 3; 1 take 3");
+    assert_eq!(entries::judge(&twice, &[]), Err(Refusal::TakeOfHeld(2)));
+    assert_eq!(plan(A).judge(&[]), Err(Refusal::IllegalStep(1)));
+    assert_eq!(plan(G).judge(&[1, 2, 3]), Err(Refusal::IllegalStep(3)), "9 is no bar");
+    assert_eq!(plan(G).judge(&[1, 3]), Err(Refusal::IllegalStep(3)));
 }
 
 #[test]

@@ -1,21 +1,25 @@
-//! The second program: document 01 read once more, apart from the library, so that the two can be
-//! compared. It shares no code with the library and knows nothing of how the library works.
+//! The second program: documents 01 and 02 read once more, apart from the library, so that the two
+//! can be compared. It shares no code with the library and knows nothing of how the library works.
 //!
 //! Inside it stand two readings that are kept apart from each other as well:
 //!
-//! * the first, [`read`] and [`orders`], knows the text, the rules of a well-formed plan and what a
-//!   legal order is, and finds out by trying whether a plan has one;
+//! * the first, [`read`], [`orders`] and [`judge`], knows the text, the rules of a well-formed plan
+//!   and what a legal order is, judges one from elsewhere rule by rule, and finds out by trying
+//!   whether a plan has one;
 //! * the second, [`plain`], knows claims, rows, circles, the order handed out and the move.
 //!
-//! [`orders`] and [`read`] never call [`plain`], and [`plain`] never calls [`orders`]; the run
-//! `readings` is the only place where their answers meet. [`random`] makes the plans for it,
-//! [`damage`] spoils them, [`small`] brings every small one, [`listed`] those of document 01 with
-//! their answers, and [`tally`] counts what was seen.
+//! [`orders`], [`judge`] and [`read`] never call [`plain`], and [`plain`] never calls [`orders`] or
+//! [`judge`], which do not call each other either; the run `readings` is the only place where their
+//! answers meet. [`random`] makes the plans for it, [`damage`] spoils them, [`small`] brings every
+//! small one, [`listed`] those of document 01 with their answers, [`elsewhere`] makes and spoils
+//! orders, and [`tally`] counts what was seen.
 
 #![forbid(unsafe_code)]
 #![warn(missing_docs)]
 
 pub mod damage;
+pub mod elsewhere;
+pub mod judge;
 pub mod line;
 pub mod listed;
 pub mod orders;

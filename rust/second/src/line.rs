@@ -1,7 +1,7 @@
 //! A line of a plan as plain data, its packed number, and a refusal.
 //!
 //! Reads, of document 01: the table of verbs and the packed form under "The plan as text", and
-//! the shape of a refusal under "Refusal numbers".
+//! the shape of a refusal under "Refusal numbers"; of document 02: request 1, its refusal.
 
 /// The highest job.
 pub const JOBS: u32 = 64;
@@ -100,9 +100,10 @@ pub fn pack(plan: &[Line]) -> Vec<u32> {
 /// A refusal: its number and its place.
 #[derive(Clone, Copy, Debug, PartialEq, Eq, Hash)]
 pub struct Refusal {
-    /// 1 to 14.
+    /// 1 to 15.
     pub number: u32,
-    /// A line, a device, a length or nought, by the number. It is wide enough for any length.
+    /// A line, a device, a length, a position or nought, by the number. It is wide enough for any
+    /// length.
     pub place: u64,
 }
 

@@ -92,6 +92,36 @@ pub fn held_after(plan: &[Line], order: &[usize]) -> Option<u32> {
     Some(course.holder.iter().flatten().count() as u32)
 }
 
+/// How many entries from the front may come, one after another.
+pub fn beginning(plan: &[Line], order: &[usize]) -> usize {
+    let plan = Plan::new(plan);
+    let mut course = Course::new(&plan);
+    let come = |number: &&usize| {
+        let at = number.checked_sub(1).filter(|&at| at < plan.lines.len());
+        let goes = at.filter(|&at| course.may_come(&plan, at));
+        goes.inspect(|&at| course.come(&plan, at)).is_some()
+    };
+    order.iter().take_while(come).count()
+}
+
+/// Goes on as long as some line may come, always with one that is chosen of those. It may end
+/// before all are done: a legal beginning need not be that of a legal order.
+pub fn walk(plan: &[Line], choose: &mut dyn FnMut(&[usize]) -> usize) -> Vec<usize> {
+    let plan = Plan::new(plan);
+    let mut course = Course::new(&plan);
+    let mut order = Vec::new();
+    loop {
+        let lines = (0..plan.lines.len()).filter(|&at| course.may_come(&plan, at));
+        let next: Vec<usize> = lines.map(|at| at + 1).collect();
+        if next.is_empty() {
+            return order;
+        }
+        let number = choose(&next);
+        course.come(&plan, number - 1);
+        order.push(number);
+    }
+}
+
 /// Whether the order is a legal one.
 pub fn is_legal(plan: &[Line], order: &[usize]) -> bool {
     held_after(plan, order).is_some()

@@ -5,7 +5,9 @@ use native.Mathlib.Omega.{arith}
 use lib.Seq.{length-take-le}
 use borrow.Author.Needs.{needs}
 use Rattle.model.specs.Line.{maxLines}
-use Rattle.screen.proofs.Screened.{lines-few, prints-none, prints-fault, prints-why, prints-order}
+use Rattle.promises.proofs.WasRead.{read-few}
+use Rattle.screen.proofs.Shown.{shown}
+use Rattle.screen.proofs.Screened.{prints-none, prints-fault, prints-why, prints-order}
 use Rattle.screen.proofs.print_in.Statement.{statement}
 use Rattle.screen.proofs.print_in.Tie as tie
 
@@ -26,7 +28,7 @@ lines c = c .before .n .given .0 .0
 few : (c : tie.After-known-told) → lines c ≤ maxLines
 few c =
     let s = start (at-read c) in
-    lines-few (s .args .text .now) (s .args .plan .now) (at-read c .read .ensures) (c .before .n .given .1)
+    read-few (s .args .text .now) (s .args .plan .now) (at-read c .read .ensures) (c .before .n .given .1)
 
 -- ---- the needs
 
@@ -66,14 +68,14 @@ returns-3 c =
     let r = at-read (at-lines v) in
     prints-why _ _ _ _ (start r .pre) (r .read .ensures) (r .before .before .if1 .left)
     (at-lines v .before .n .given .1) (v .verdict .ensures)
-    (c .before .before .before .before .before .r .given .1) (c .before .before .put-refusal .ensures)
+    (c .before .before .before .before .before .r .given .1) (shown (c .before .before .put-refusal .ensures))
 
 -- a fault of the text
 returns-4 : tie.Need-returns-4
 returns-4 c =
     let r = c .before .before .before .before .before .before .before .before .before in
     prints-fault _ _ _ _ (start r .pre) (r .read .ensures) (r .before .before .if1 .left)
-    (c .before .before .before .before .before .r2 .given .1) (c .before .before .put-refusal2 .ensures)
+    (c .before .before .before .before .before .r2 .given .1) (shown (c .before .before .put-refusal2 .ensures))
 
 pub print-in-spec : {M : Type 1} → statement M
 print-in-spec =

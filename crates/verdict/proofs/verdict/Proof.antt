@@ -1,13 +1,13 @@
 -- `verdict::verdict` meets its contract: what the search for the holds refuses is refused; else its findings are
--- judged.
+-- decided on.
 use borrow.Author.Needs.{needs}
 use Rattle.verdict.proofs.Findings.{holds-refused, holds-made}
 use Rattle.verdict.proofs.Outcome.{faulty}
 use Rattle.verdict.proofs.verdict.Statement.{statement}
 use Rattle.verdict.proofs.verdict.Tie as tie
 
-judge-requires : tie.Need-judge-requires
-judge-requires c κs =
+decide-requires : tie.Need-decide-requires
+decide-requires c κs =
     holds-made (c .before .before .before .before .before .before .before .holds .ensures)
     (c .before .before .before .before .before .held .given .1)
 
@@ -21,5 +21,5 @@ returns c =
 pub verdict-spec : {M : Type 1} → statement M
 verdict-spec =
     tie.close
-    (tie.spec (λ c κs. search needs) (λ c. search needs) (λ c. search needs) judge-requires returns (λ c. search needs)
+    (tie.spec (λ c κs. search needs) (λ c. search needs) (λ c. search needs) decide-requires returns (λ c. search needs)
     (λ c. search needs))

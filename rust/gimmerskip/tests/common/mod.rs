@@ -23,6 +23,7 @@ pub fn fault(list: &[u32]) -> Option<Refusal> {
     if said.is_some() {
         let (mut same, mut order) = (list.to_vec(), [9; MAX_LINES]);
         assert_eq!(entries::verdict(list, &mut order).err(), said);
+        assert_eq!(entries::judge(list, &order).err(), said);
         assert_eq!(entries::move_claim(&mut same, &mut sets, 1, 0).err(), said);
         assert_eq!((&text, &sets, &order), (&[9; 12_288], &[9; MAX_LINES], &[9; MAX_LINES]));
         assert_eq!(same, list);

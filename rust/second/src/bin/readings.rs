@@ -1,9 +1,10 @@
-//! The comparison run: the two readings of document 01 meet here, and nowhere else.
+//! The comparison run: the two readings of documents 01 and 02 meet here, and nowhere else.
 //!
 //! The first reading (the text, the rules, and all orders tried) is held against the second
 //! (claims, rows, the order handed out, the move), on random plans, on planted rings, and on every
 //! small plan. The paragraphs concerned are "Legal orders" against "Claims and rows" and "The
-//! order handed out", and "Moving a claim" against working out the edited plan afresh.
+//! order handed out", and "Moving a claim" against working out the edited plan afresh; and, of
+//! document 02, request 1 against orders followed step by step.
 //!
 //! Prints its seed, the number of plans by class, and each check with its number of comparisons. A
 //! difference is printed with its plan and both answers. The seed is taken from the environment
@@ -11,6 +12,8 @@
 
 #[path = "readings/by_hand.rs"]
 mod by_hand;
+#[path = "readings/judged.rs"]
+mod judged;
 #[path = "readings/lists.rs"]
 mod lists;
 #[path = "readings/moves.rs"]
@@ -32,8 +35,8 @@ const SMALL: usize = 6;
 /// The class of all of them.
 const ALL_SMALL: &str = "plan: small, each there is";
 
-/// The other classes of plans and moves that have to be met.
-const CLASSES: [&str; 17] = [
+/// The other classes of plans, moves and orders that have to be met.
+const CLASSES: [&str; 19] = [
     "plan: accepted",
     "plan: refusal 9",
     "plan: refusal 10",
@@ -51,6 +54,8 @@ const CLASSES: [&str; 17] = [
     "move: refusal 12",
     "move: refusal 13",
     "move: refusal 14",
+    "order: legal",
+    "order: refusal 15",
 ];
 
 /// Counts the plan in its classes.
@@ -197,6 +202,7 @@ fn main() -> ExitCode {
         lists::damaged_texts(&mut tally, &mut random);
         lists::lent_lists(&mut tally, &mut random);
         moves::moves(&mut tally, &mut random);
+        judged::judged(&mut tally, &mut random);
         print_small(&all_small(&mut tally));
         tally.print()
     })

@@ -1,4 +1,4 @@
--- `verdict::judge` meets its contract: the outcome by what its tests found.
+-- `verdict::decide` meets its contract: the outcome by what its tests found.
 use mathlib.Core.Option.{none}
 use mathlib.Core.Path.{_≡_, _∙_, ap}
 use native.Mathlib.Omega.{arith}
@@ -10,8 +10,8 @@ use Rattle.rows.specs.Where.{circlesOf}
 use Rattle.verdict.proofs.Steps.{few}
 use Rattle.verdict.proofs.Findings.{two-lasting, leads-back, has-order, count-held}
 use Rattle.verdict.proofs.Outcome.{short, without-order, ordered}
-use Rattle.verdict.proofs.judge.Statement.{statement}
-use Rattle.verdict.proofs.judge.Tie as tie
+use Rattle.verdict.proofs.decide.Statement.{statement}
+use Rattle.verdict.proofs.decide.Tie as tie
 
 length-fits : tie.Need-cast-t13
 length-fits c = omega (arith, few (c .before .before .before .pre .marked))
@@ -74,8 +74,8 @@ returns-4 c =
     ordered (a .plan .now) (a .order .now) (pre .marked .sound) (room here .if1 .left) (c .count .result) _
     (orderly test) (c .count .ensures ∙ count-held pre (orderly test)) (handed .hand-out .ensures)
 
-pub judge-spec : {M : Type 1} → statement M
-judge-spec =
+pub decide-spec : {M : Type 1} → statement M
+decide-spec =
     tie.close
     (tie.spec length-fits returns (λ c κs. search needs) returns-2 (λ c κs. search needs) (λ c κs. search needs)
     returns-3 hand-out-requires (λ c κs. search needs) (λ c. search needs) returns-4)

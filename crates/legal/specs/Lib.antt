@@ -1,0 +1,2 @@
+-- What the contracts of `legal` cite beside `model`, `plan` and `promises`.
+pub mod Steps

@@ -1,0 +1,25 @@
+-- What `judge` promises (02, request 1), and the words for what follows. `entries` is the order from elsewhere, as line
+-- numbers; nothing that is lent is written to.
+use Prim.Native.Nat.{ℕ}
+use mathlib.Core.List.{List}
+use mathlib.Core.Path.{_≡_}
+use Rattle.model.specs.Answers.{judgeValues}
+use Rattle.model.specs.WellFormed.{WellFormed}
+use Rattle.model.specs.Judged.{judging}
+use Rattle.model.specs.Board.{devices}
+use Rattle.model.specs.declared.Refusal.{Refusal}
+use Rattle.model.specs.declared.Refusal.the-variants.{IllegalStep}
+use Rattle.model.specs.declared.JudgeAnswer.{JudgeAnswer}
+use Rattle.theory.specs.WellFormed.{Broken}
+use Rattle.theory.specs.Judged.{StrayAt}
+
+pub record JudgesAs (plan entries : List ℕ) (answer : JudgeAnswer) : Type 0 where
+  pub answers : judgeValues answer ≡ judgeValues (judging devices plan entries)
+
+-- ---- what follows
+
+-- why an order is refused: 2 to 8 of the plan; where nothing is broken, 15 where the list first goes wrong or stops
+pub data NotPassed (plan entries : List ℕ) : Refusal → Type 0 where
+  faulty : (r : Refusal) → Broken devices plan r → NotPassed plan entries r
+  astray : (position : ℕ) → WellFormed devices plan → StrayAt plan entries position
+      → NotPassed plan entries (IllegalStep position)

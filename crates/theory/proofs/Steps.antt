@@ -1,0 +1,213 @@
+-- What one step of an order changes (01, "Legal orders"): which devices are held after it. At most one take of a device
+-- is done and not given back, for a take may follow only where its device is not held. So a take makes its device held,
+-- a give makes it free, and every other device stays as it was.
+use Prim.Native.Nat.{ℕ, _<_}
+use mathlib.Core.Bool.{Bool, true, false, cond, not, _&&_, _||_}
+use mathlib.Core.List.{List, [], _∷_, _++_}
+use mathlib.Core.Logic.{_⊎_, inl, inr}
+use mathlib.Core.Option.{some, Option·some-injective}
+use mathlib.Core.Path.{_≡_, refl, sym, _∙_, ap}
+use native.Mathlib.Omega.{arith}
+use lib.Dec.{eqb}
+use lib.ListN.{length}
+use borrow.Author.Tests.{eqb-true, eq-eqb, not-true}
+use Rattle.model.specs.Lists.{has}
+use Rattle.model.specs.Line.{job, isTake, isGive, operand, at}
+use Rattle.model.specs.Mate.{takesAt, deviceAt, takes, mate}
+use Rattle.model.specs.WellFormed.{Rules}
+use Rattle.model.specs.Legal.{givenBack, held, MayFollow}
+use Rattle.theory.proofs.Tests.{clash, falsely, tests-agree, or-left, or-right, and-split, and-both}
+use Rattle.theory.proofs.Lists.{has-none, any-found, any-at}
+use Rattle.theory.proofs.Line.{take-no-give}
+use Rattle.theory.proofs.Successors.{earlier-precedes}
+use Rattle.theory.proofs.Mate.{pair, mate-names-device, give-has-take}
+use Rattle.theory.proofs.Edited.{open-are-takes}
+use Rattle.theory.proofs.Turns.{taking, given-parts, given-back, still-given}
+use Rattle.theory.proofs.LineByLine.{more-old, more-new, more-only}
+
+-- line k took device d and did not give it back
+pub record Holds (p done : List ℕ) (k d : ℕ) : Type 0 where
+  pub isDone : has k done ≡ true
+  pub took : takes p k d ≡ true
+  pub kept : givenBack p done k ≡ false
+
+pub held-found : (p done : List ℕ) (d : ℕ) → held p done d ≡ true → (k : ℕ) × Holds p done k d
+unfolding held
+held-found p done d h =
+    let r = any-found (λ k. takes p k d && not (givenBack p done k)) done h in
+    let s = and-split (takes p (r .0) d) (not (givenBack p done (r .0))) (r .2) in
+    (r .0, record { isDone = r .1; took = s .0; kept = not-true (givenBack p done (r .0)) (s .1) })
+
+pub held-at : (p done : List ℕ) (k d : ℕ) → Holds p done k d → held p done d ≡ true
+unfolding held
+held-at p done k d h =
+    any-at (λ k. takes p k d && not (givenBack p done k)) done k (h .isDone)
+    (and-both (takes p k d) (not (givenBack p done k)) (h .took) (rw (h .kept)))
+
+-- at most one line holds a device
+abbrev pub HeldOnce : List ℕ → List ℕ → Type 0
+HeldOnce p done = (k t d : ℕ) → Holds p done k d → Holds p done t d → k ≡ t
+
+pub held-once-first : (p : List ℕ) → HeldOnce p []
+held-once-first p k t d h g = has-none k (h .isDone)
+
+-- the line at x takes or gives device d
+unfoldable pub handles : List ℕ → ℕ → ℕ → Bool
+handles p x d = (isTake (at p x) || isGive (at p x)) && eqb (operand (at p x)) d
+
+module _ (p : List ℕ) (rules : Rules p) (done : List ℕ) (x : ℕ) (may : MayFollow p done x) where
+  abbrev next : List ℕ
+  next = done ++ (x ∷ [])
+
+  -- what was given back in the step is the take that line x gives back
+  not-yet : (k : ℕ) → givenBack p next k ≡ true → givenBack p done k ≡ false → mate p k ≡ some x
+  not-yet k h f = let r = given-parts p next k h in go (r .0) (r .1) (more-only (r .0) x done (r .2))
+    where
+      go : (m : ℕ) → mate p k ≡ some m → (has m done ≡ true) ⊎ (m ≡ x) → mate p k ≡ some x
+      go m e (inl g) = clash (givenBack p done k) (given-back p done k m e g) f
+      go m e (inr q) = rw q at e
+
+  kept-before : (k : ℕ) → givenBack p next k ≡ false → givenBack p done k ≡ false
+  kept-before k h =
+      falsely (givenBack p done k)
+      (λ g. clash (givenBack p next k) (still-given p done next k (λ m e. more-old m x done e) g) h)
+
+  -- who holds a device after the step held it before, or is line x
+  holds-before : (k d : ℕ) → Holds p next k d → Holds p done k d ⊎ (k ≡ x)
+  holds-before k d h = go (more-only k x done (h .isDone))
+    where
+      go : (has k done ≡ true) ⊎ (k ≡ x) → Holds p done k d ⊎ (k ≡ x)
+      go (inl e) = inl (record { isDone = e; took = h .took; kept = kept-before k (h .kept) })
+      go (inr q) = inr q
+
+  pub held-once-on : HeldOnce p done → HeldOnce p next
+  held-once-on one k t d h g = go (holds-before k d h) (holds-before t d g)
+    where
+      free : (i : ℕ) → Holds p done i d → takes p x d ≡ true → k ≡ t
+      free i b u = clash (held p done d) (held-at p done i d b) (may .free d u)
+
+      go : Holds p done k d ⊎ (k ≡ x) → Holds p done t d ⊎ (t ≡ x) → k ≡ t
+      go (inl a) (inl b) = one k t d a b
+      go (inr a) (inr b) = a ∙ sym b
+      go (inl a) (inr b) = free k a (rw b at (g .took))
+      go (inr a) (inl b) = free t b (rw a at (h .took))
+
+  handles-take : (d : ℕ) → takes p x d ≡ true → handles p x d ≡ true
+  unfolding handles takes takesAt deviceAt
+  handles-take d t =
+      let s = and-split (isTake (at p x)) (eqb (operand (at p x)) d) t in
+      and-both (isTake (at p x) || isGive (at p x)) (eqb (operand (at p x)) d)
+      (or-left (isTake (at p x)) (isGive (at p x)) (s .0)) (s .1)
+
+  -- a take that line x gives back is of its device
+  handles-give : (k d : ℕ) → takes p k d ≡ true → mate p k ≡ some x → handles p x d ≡ true
+  unfolding handles takes takesAt deviceAt
+  handles-give k d t e =
+      let s = and-split (isTake (at p k)) (eqb (operand (at p k)) d) t in
+      and-both (isTake (at p x) || isGive (at p x)) (eqb (operand (at p x)) d)
+      (or-right (isTake (at p x)) (isGive (at p x)) (pair p k x e .gives))
+      (eq-eqb (operand (at p x)) d (mate-names-device p rules k x (s .0) e ∙ eqb-true (operand (at p k)) d (s .1)))
+
+  -- a device that line x does not handle is held as it was
+  held-same : (d : ℕ) → handles p x d ≡ false → held p next d ≡ held p done d
+  held-same d n = tests-agree (held p next d) (held p done d) to from
+    where
+      to : held p next d ≡ true → held p done d ≡ true
+      to h = let r = held-found p next d h in go (r .0) (r .1) (holds-before (r .0) d (r .1))
+        where
+          go : (k : ℕ) → Holds p next k d → Holds p done k d ⊎ (k ≡ x) → held p done d ≡ true
+          go k g (inl b) = held-at p done k d b
+          go k g (inr q) = clash (handles p x d) (handles-take d (rw q at (g .took))) n
+
+      from : held p done d ≡ true → held p next d ≡ true
+      from h =
+          let r = held-found p done d h in
+          let k = r .0 in
+          let g = r .1 in
+          held-at p next k d
+          (record {
+            isDone = more-old k x done (g .isDone);
+            took = g .took;
+            kept = falsely (givenBack p next k)
+                (λ b. clash (handles p x d) (handles-give k d (g .took) (not-yet k b (g .kept))) n);
+          })
+
+  -- a take makes its device held, where its give is not done
+  held-taken : ((i : ℕ) → i < length p → x < i → job (at p x) ≡ job (at p i) → has i done ≡ false) → (d : ℕ)
+      → takes p x d ≡ true → held p next d ≡ true
+  held-taken later d t =
+      held-at p next x d (record { isDone = more-new x done; took = t; kept = falsely (givenBack p next x) no })
+    where
+      no : givenBack p next x ≡ true → ⊥
+      no g =
+          let r = given-parts p next x g in
+          let q = pair p x (r .0) (r .1) in
+          let same = sym (q .sameJob (r .0) (omega (arith, q .below)) (omega arith)) in
+          go (r .0) (q .inPlan) (q .below) same (more-only (r .0) x done (r .2))
+        where
+          go : (m : ℕ) → m < length p → x < m → job (at p x) ≡ job (at p m) → (has m done ≡ true) ⊎ (m ≡ x) → ⊥
+          go m l lt e (inl h) = clash (has m done) h (later m l lt e)
+          go m l lt e (inr h) = omega arith
+
+  -- the take that a give gives back held its device
+  held-given : isGive (at p x) ≡ true → (t : ℕ) × Holds p done t (operand (at p x)) × (mate p t ≡ some x)
+  unfolding takes takesAt deviceAt
+  held-given g =
+      let r = give-has-take p rules x g in
+      let t = r .0 in
+      let isT = open-are-takes p (job (at p x)) x 0 t (r .1) in
+      let q = pair p t x (r .2) in
+      let before = earlier-precedes p t x (q .below) (sym (q .sameJob x (omega (arith, q .below)) (omega arith))) in (
+        t,
+        record {
+          isDone = may .after t (omega (arith, q .below, may .line)) before;
+          took = and-both (isTake (at p t)) (eqb (operand (at p t)) (operand (at p x))) isT
+              (eq-eqb (operand (at p t)) (operand (at p x)) (sym (mate-names-device p rules t x isT (r .2))));
+          kept = falsely (givenBack p done t) (still t (r .2));
+        },
+        r .2,
+      )
+    where
+      still : (t : ℕ) → mate p t ≡ some x → givenBack p done t ≡ true → ⊥
+      still t e b =
+          let s = given-parts p done t b in
+          let z = Option·some-injective (s .0) x (sym (s .1) ∙ e) in
+          clash (has x done) (rw z at (s .2)) (may .once)
+
+  -- a give makes its device free
+  held-freed : HeldOnce p done → isGive (at p x) ≡ true → held p next (operand (at p x)) ≡ false
+  held-freed one g = falsely (held p next (operand (at p x))) no
+    where
+      no : held p next (operand (at p x)) ≡ true → ⊥
+      no h =
+          let r = held-found p next (operand (at p x)) h in
+          go (r .0) (r .1) (holds-before (r .0) (operand (at p x)) (r .1))
+        where
+          go : (k : ℕ) → Holds p next k (operand (at p x)) → Holds p done k (operand (at p x)) ⊎ (k ≡ x) → ⊥
+          go k b (inr q) =
+              clash (isGive (at p x)) g
+              (take-no-give (at p x) (taking p x (operand (at p x)) (rw q at (b .took))))
+          go k b (inl a) =
+              let t = held-given g in
+              let z = one k (t .0) (operand (at p x)) a (t .1) in
+              clash (givenBack p next k) (given-back p next k x (rw z (t .2)) (more-new x done)) (b .kept)
+
+  -- The devices held after the step: what line x takes or gives is turned.
+  pub held-step : HeldOnce p done
+      → ((i : ℕ) → i < length p → x < i → job (at p x) ≡ job (at p i) → has i done ≡ false) → (d : ℕ)
+      → held p next d ≡ cond (handles p x d) (not (held p done d)) (held p done d)
+  unfolding handles takes takesAt deviceAt
+  held-step one later d = go (isTake (at p x)) (isGive (at p x)) (eqb (operand (at p x)) d) refl refl refl
+    where
+      go : (a b c : Bool) → isTake (at p x) ≡ a → isGive (at p x) ≡ b → eqb (operand (at p x)) d ≡ c
+          → held p next d ≡ cond ((a || b) && c) (not (held p done d)) (held p done d)
+      go true b true e f q =
+          let t = and-both (isTake (at p x)) (eqb (operand (at p x)) d) e q in
+          held-taken later d t ∙ sym (ap not (may .free d t))
+      go false true true e f q =
+          let z = eqb-true (operand (at p x)) d q in
+          let g = held-given f in
+          rw (← z) (held-freed one f ∙ sym (ap not (held-at p done (g .0) (operand (at p x)) (g .1))))
+      go true b false e f q = held-same d (rw (e, q))
+      go false true false e f q = held-same d (rw (e, f, q))
+      go false false c e f q = held-same d (rw (e, f))
