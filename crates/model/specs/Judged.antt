@@ -1,5 +1,6 @@
--- 02, request 1: an order from elsewhere, judged entry by entry against 01, "Legal orders". An entry is the number of a
--- line, from 1; 0 is no line's. Then the program that reads a plan and such an order in one text.
+-- 02, request 1: an order from elsewhere, judged entry by entry against 01, "Legal orders". An entry names a line by
+-- its number, from 1; 0 and a number past the last line name none. Then the program that reads a plan and such an order
+-- in one text.
 use Prim.Native.Nat.{ℕ, zero, suc, _+_, _*_}
 use mathlib.Core.Bool.{Bool, true, false, cond, not, _&&_, _||_}
 use mathlib.Core.List.{List, [], _∷_, _++_, map, getLastD, dropLast}
@@ -26,15 +27,16 @@ mayFollow p done i =
     ltb i (length p) && not (has i done) && all (λ k. not (precedes p k i) || has k done) (positions p)
     && not (takesAt p i && held p done (deviceAt p i))
 
--- Where a list goes wrong, counted from 1: `passed` entries were gone through, and their lines are done. It goes wrong
--- at the first entry that may not follow or, where a line is undone at its end, just past the end.
+-- Where a list goes wrong, counted from 1. So many entries are gone through, and their lines are among those done. It
+-- goes wrong at the first entry that may not follow or, where a line is undone at its end, just past the end.
 unfoldable pub strayAfter : List ℕ → List ℕ → ℕ → List ℕ → Option ℕ
 unfolding mayFollow all has positions
-strayAfter p done passed [] = cond (all (λ i. has i done) (positions p)) none (some (suc passed))
-strayAfter p done passed (zero ∷ es) = some (suc passed)
-strayAfter p done passed (suc i ∷ es) =
-    elim (mayFollow p done i) [ true ↦ strayAfter p (done ++ (i ∷ [])) (suc passed) es | false ↦ some (suc passed) ]
+strayAfter p done gone [] = cond (all (λ i. has i done) (positions p)) none (some (suc gone))
+strayAfter p done gone (zero ∷ es) = some (suc gone)
+strayAfter p done gone (suc i ∷ es) =
+    elim (mayFollow p done i) [ true ↦ strayAfter p (done ++ (i ∷ [])) (suc gone) es | false ↦ some (suc gone) ]
 
+-- from the front, with nothing done
 unfoldable pub stray : List ℕ → List ℕ → Option ℕ
 unfolding strayAfter
 stray p es = strayAfter p [] 0 es
@@ -69,7 +71,7 @@ unfolding same partingLine
 entryPart [] = []
 entryPart (l ∷ ls) = elim (same l partingLine) [ true ↦ ls | false ↦ entryPart ls ]
 
--- a line's entry: its number, or 0 where its newline is missing or no number stands before it
+-- a line's entry: its number, or 0 where its newline is missing or what stands before it is no number
 unfoldable pub entryOf : List ℕ → ℕ
 unfolding number getLastD
 entryOf l = cond (eqb (getLastD l 0) newline) (Option·getD (number (dropLast l)) 0) 0
@@ -100,7 +102,7 @@ unfoldable pub judgePrinted : ℕ → List ℕ → List ℕ
 unfolding judgeLine judgedBy judgeTextRefusal
 judgePrinted D text = judgeLine (judgedBy (judgeTextRefusal D text))
 
--- The first 17,412 bytes of a text decide: a plan's, the line that parts, five for each entry of a legal order, and one
--- more, which shows where a list goes on.
+-- The first 17,412 bytes of a text decide: as many as a plan's text can have, the line that parts, five for each entry
+-- of a legal order, and one more, which shows where a list goes on.
 abbrev pub judgeRoom : ℕ
 judgeRoom = maxBytes + length partingLine + maxLines * 5 + 1

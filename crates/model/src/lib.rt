@@ -32,7 +32,7 @@ pub enum Refusal {
     NoSuchDevice(u32),
     // 14: the stored set of this line is stale
     StaleTable(u32),
-    // 15: an order from elsewhere goes wrong, or stops, at this position
+    // 15: in an order from elsewhere the entry at this position cannot come there, or is missing
     IllegalStep(u32),
 }
 

@@ -1,5 +1,5 @@
 -- The words in which theory says why an order from elsewhere is not legal (02, request 1): up to an entry every entry
--- may come, and there the list goes wrong or stops. Then the same of a text with a plan and entries.
+-- may come, and that one may not, or is missing. Then the same of a text with a plan and entries.
 use Prim.Native.Nat.{ℕ, suc, _<_, _≤_}
 use mathlib.Core.Bool.{false}
 use mathlib.Core.List.{List, [], _∷_, _++_, map}
