@@ -35,7 +35,6 @@ static const char *const WORDS[][2] = {
     [GIMMERSKIP_BAD_START] = {"line ", " starts a job that is not higher, is started already, or has no lines"},
     [GIMMERSKIP_NEVER_STARTED] = {"line ", " begins a job that no line starts"},
     [GIMMERSKIP_GIVE_WITHOUT_TAKE] = {"line ", " gives a device that is not the latest its job still holds"},
-    [GIMMERSKIP_TAKE_OF_HELD] = {"line ", " takes a device that its job holds already"},
     [GIMMERSKIP_TWO_LASTING] = {"two jobs would hold device ", " to the end"},
     [GIMMERSKIP_LEADS_BACK] = {"device ", " leads back to itself"},
     [GIMMERSKIP_LIST_TOO_SHORT] = {"a list is too short, it needs a length of ", ""},

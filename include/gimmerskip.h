@@ -33,12 +33,13 @@ extern "C" {
 
 /*
  * The version, in three numbers and as a text; it is that of the wrapper for Rust and of the command too. A new entry
- * or refusal raises the second number: gimmerskip_judge came with 0.2.0.
+ * or refusal raises the second number, and so does what an entry answers otherwise than before: gimmerskip_judge came
+ * with 0.2.0, and since 0.3.0 a job may take again what it holds.
  */
 #define GIMMERSKIP_VERSION_MAJOR 0
-#define GIMMERSKIP_VERSION_MINOR 2
+#define GIMMERSKIP_VERSION_MINOR 3
 #define GIMMERSKIP_VERSION_PATCH 0
-#define GIMMERSKIP_VERSION "0.2.0"
+#define GIMMERSKIP_VERSION "0.3.0"
 
 /* The most lines of a plan. Lists of so many entries are long enough for every plan. */
 #define GIMMERSKIP_MAX_LINES 1024
@@ -65,7 +66,8 @@ extern "C" {
 #define GIMMERSKIP_STACK_JUDGE 1168
 #define GIMMERSKIP_STACK_MOVE 1456
 
-/* Why an entry refuses. Each comment says what the place of that refusal is. */
+/* Why an entry refuses. Each comment says what the place of that refusal is. 8 is free: it was given where a job takes
+   a device that it holds, which is allowed now. */
 enum gimmerskip_refusal {
     GIMMERSKIP_TEXT_TOO_LONG = 1,        /* the text is longer than GIMMERSKIP_MAX_BYTES; the place is 0 */
     GIMMERSKIP_MALFORMED = 2,            /* a line is malformed, unended, or the packed number of none; that line */
@@ -74,13 +76,12 @@ enum gimmerskip_refusal {
     GIMMERSKIP_BAD_START = 5,            /* the started job is not higher, is started already, or is empty; that line */
     GIMMERSKIP_NEVER_STARTED = 6,        /* nothing starts a job; the first line of that job */
     GIMMERSKIP_GIVE_WITHOUT_TAKE = 7,    /* the given device is not the latest its job still holds; that line */
-    GIMMERSKIP_TAKE_OF_HELD = 8,         /* the job already holds the device it takes; that line */
     GIMMERSKIP_TWO_LASTING = 9,          /* more than one lasting take of a device; the lowest such device */
     GIMMERSKIP_LEADS_BACK = 10,          /* a device leads to itself again; the lowest such device */
     GIMMERSKIP_LIST_TOO_SHORT = 11,      /* the list to fill is too short; the length it needs */
     GIMMERSKIP_NOT_A_TAKE = 12,          /* the line to move is no take of the plan; the line that was asked */
     GIMMERSKIP_NO_SUCH_DEVICE = 13,      /* a claim cannot move to a device over 31; the device that was asked */
-    GIMMERSKIP_STALE_TABLE = 14,         /* the table does not fit on the way; its line nearest to the one to move */
+    GIMMERSKIP_STALE_TABLE = 14,         /* a set that the move may change does not fit; the first such line */
     GIMMERSKIP_ILLEGAL_STEP = 15         /* an order goes wrong or stops too soon; where, counted from 1 */
 };
 
@@ -127,7 +128,7 @@ uint64_t gimmerskip_line(const uint8_t *text, size_t n, size_t offset);
  * A text into packed numbers.
  * Reads   the n bytes at text.
  * Writes  into plan one packed number a line; it needs room for as many as there are lines.
- * Answers the number of lines. Refuses with 1 to 8 where the text is no plan, then with 11; plan is then as it was.
+ * Answers the number of lines. Refuses with 1 to 7 where the text is no plan, then with 11; plan is then as it was.
  */
 uint64_t gimmerskip_read(const uint8_t *text, size_t n, uint32_t *plan, size_t room);
 
@@ -135,15 +136,15 @@ uint64_t gimmerskip_read(const uint8_t *text, size_t n, uint32_t *plan, size_t r
  * A packed plan into text.
  * Reads   the n packed numbers at plan, all of which are the plan.
  * Writes  into text the lines, each ended by a newline, and no byte of 0 behind them; it needs room for all of them.
- * Answers the number of bytes. Refuses with 2 to 8 where the list is no plan, then with 11; text is then as it was.
+ * Answers the number of bytes. Refuses with 2 to 7 where the list is no plan, then with 11; text is then as it was.
  */
 uint64_t gimmerskip_write(const uint32_t *plan, size_t n, uint8_t *text, size_t room);
 
 /*
- * The table of claims.
+ * The table of claims. What its job holds already a line takes again, but does not claim.
  * Reads   the n packed numbers at plan.
  * Writes  into sets the claim set of each line; it needs room for n.
- * Answers the number of lines, n. Refuses with 2 to 8 where the list is no plan, then with 11; sets is then as it was.
+ * Answers the number of lines, n. Refuses with 2 to 7 where the list is no plan, then with 11; sets is then as it was.
  */
 uint64_t gimmerskip_table(const uint32_t *plan, size_t n, uint32_t *sets, size_t room);
 
@@ -151,7 +152,7 @@ uint64_t gimmerskip_table(const uint32_t *plan, size_t n, uint32_t *sets, size_t
  * The verdict, and the order where there is one.
  * Reads   the n packed numbers at plan.
  * Writes  into order the line numbers in the order in which the lines are done; it needs room for n.
- * Answers the number of devices that are still held after the last line. Refuses with 2 to 8 where the list is no plan,
+ * Answers the number of devices that are still held after the last line. Refuses with 2 to 7 where the list is no plan,
  *         then with 11, then with 9 or 10 where the plan has no legal order; order is then as it was.
  */
 uint64_t gimmerskip_verdict(const uint32_t *plan, size_t n, uint16_t *order, size_t room);
@@ -161,7 +162,7 @@ uint64_t gimmerskip_verdict(const uint32_t *plan, size_t n, uint16_t *order, siz
  * Reads   the n packed numbers at plan and the m line numbers at order, which may be any numbers, and more or fewer
  *         than the plan has lines.
  * Writes  nothing.
- * Answers 0 if the list is a legal order of the plan. Refuses with 2 to 8 where the first list is no plan, then with 15
+ * Answers 0 if the list is a legal order of the plan. Refuses with 2 to 7 where the first list is no plan, then with 15
  *         where the second one first goes wrong, counted from 1; m + 1 tells that it stops too soon.
  */
 uint64_t gimmerskip_judge(const uint32_t *plan, size_t n, const uint16_t *order, size_t m);
@@ -171,11 +172,12 @@ uint64_t gimmerskip_judge(const uint32_t *plan, size_t n, const uint16_t *order,
  * Reads   the n packed numbers at plan and the first n sets at sets, which is the plan's table from gimmerskip_table or
  *         from earlier moves; so room is at least n.
  * Writes  into plan the new device, in the take and in its give if it has one, and into sets the mended sets of the
- *         lines on the way, from the moved line back to line 1.
- * Answers the number of lines whose set is now another. Refuses with 2 to 8 where the list is no plan, then with 11
- *         where sets is too short, then with 12, 13 or 14, and last with 8 where the job would hold the new device
- *         twice, at the take that would be the second; plan and sets are then both as they were. A plan without a legal
- *         order can be moved too.
+ *         lines that a move may change: those on the way, from the moved line back to line 1, and those under the take,
+ *         which stand between it and its give or, where it has none, behind it in its job.
+ * Answers the number of lines whose set is now another. Refuses with 2 to 7 where the list is no plan, then with 11
+ *         where sets is too short, then with 12, 13 or 14; plan and sets are then both as they were. For 14 the sets on
+ *         the way are looked at first, going back, and then those under the take, going down. A claim can be moved to a
+ *         device that its job holds, and from one, and a plan without a legal order can be moved too.
  */
 uint64_t gimmerskip_move(uint32_t *plan, size_t n, uint32_t *sets, size_t room, uint32_t line, uint32_t device);
 

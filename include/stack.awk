@@ -1,8 +1,9 @@
 # Reads off compiled code how many bytes of stack each function can need, its own return address counted: of all ways
-# through its instructions the deepest, with what it calls. What it reads is `objdump -dr --no-show-raw-insn` of one
-# archive; what it prints is a line for each function, its name and its bytes. A function of another archive counts as
-# the bytes in `outside`, its return address among them, and its name is printed with the word `outside`. Where code
-# does anything that cannot be followed here, that is said and the exit status is 1: a jump or call to a place worked
+# through its instructions the deepest, with what it calls. What it reads is `objdump -r` and then `objdump -dr
+# --no-show-raw-insn` of one archive; what it prints is a line for each function, its name and its bytes. A function of
+# another archive counts as the bytes in `outside`, its return address among them, and its name is printed with the word
+# `outside`. A jump by a table of the function's own constants is followed to every place in the table. Where code does
+# anything that cannot be followed here, that is said and the exit status is 1: any other jump or call to a place worked
 # out as it runs, a stack pointer set to something unknown, two depths at one place, a function that calls itself.
 
 function unread(f, why) {
@@ -39,6 +40,13 @@ function reach(f, i, d) {
     depth[f, i] = d
 }
 
+# The name in an address such as `name+0x1c`; what is added to it is left in `added`.
+function named(address,    at) {
+    at = match(address, /[-+]0x[0-9a-f]+$/)
+    added = at ? (substr(address, at, 1) == "-" ? -1 : 1) * number(substr(address, at + 1)) : 0
+    return at ? substr(address, 1, at - 1) : address
+}
+
 function deeper(f, d) {
     if (d > deepest[f]) deepest[f] = d
 }
@@ -48,6 +56,49 @@ function calls(f, i, d,    to) {
     to = rel[f, i]
     if (arg[f, i] ~ /^\*/ || to == "") unread(f, "it calls or jumps to a place that is not in the code")
     deeper(f, d + need(to))
+}
+
+# The instruction that loads the table by which the jump at i goes, or 0. A table is used by four instructions:
+# `lea TABLE(%rip),%B`, `movslq (%B,%I,4),%R`, `add %B,%R` and `jmp *%R`. The first three stand together; between them
+# and the jump there may be some that leave %R alone.
+function table_load(f, i,    to, base) {
+    to = substr(arg[f, i], 2)
+    if (to !~ /^%r[a-z0-9]+$/) return 0
+    while (--i > 2 && arg[f, i] !~ (",%" parts(to) "$"))
+        if (op[f, i] !~ /^(lea|mov|movabs|movb|movl|movq|movzbl|xor)$/) return 0
+    base = arg[f, i]
+    sub(/,.*/, "", base)
+    if (i <= 2 || op[f, i] != "add" || base !~ /^%r/ || base == to || arg[f, i] != base "," to) return 0
+    if (op[f, i - 1] != "movslq" || arg[f, i - 1] !~ ("^\\(" base ",%r[a-z0-9]+,4\\)," to "$")) return 0
+    return op[f, i - 2] == "lea" && arg[f, i - 2] == "0x0(%rip)," base && ((f, i - 2) in section) ? i - 2 : 0
+}
+
+# A pattern for the names of a 64-bit register and of its lower parts.
+function parts(register,    name) {
+    name = substr(register, 3)
+    return name ~ /^[0-9]/ ? "r" name "[dwb]?" : "[er]?(" name "|" substr(name, 1, 1) "[lh]|" name "l)"
+}
+
+# From the jump at i, where the stack is d bytes deep, to every place in its table. The table begins where the code
+# loads it from, and ends where the next that is loaded begins, or with its section; each of its numbers is the way from
+# its beginning to a place in f. What stands between the load and the jump is kept, for nothing else may lead there.
+function follow_table(f, i, d,    load, from, start, at) {
+    load = table_load(f, i)
+    if (!load) unread(f, "it calls or jumps to a place that is not in the code")
+    while (i > load) inner[f, ++inners[f]] = i--
+    from = section[f, load]
+    start = begins[f, load]
+    if (!((from, start) in entry)) unread(f, "its table is not there")
+    for (at = start; ((from, at) in entry) && (at == start || !((from, at) in beginning)); at += 4) {
+        if (entry[from, at] != ".text." f) unread(f, "its table leads out of it")
+        jump(f, place[f, entry_added[from, at] - (at - start)], d)
+    }
+}
+
+# A jump to instruction i of f, where the stack is d bytes deep.
+function jump(f, i, d) {
+    jumped[f, i] = 1
+    reach(f, i, d)
 }
 
 # Follows one instruction. Only functions that call nothing may use the 128 bytes below the stack pointer; who uses any
@@ -60,19 +111,22 @@ function follow(f, i,    o, a, d) {
     if (o ~ /^call/) calls(f, i, d)
     if (o ~ /^ret/ && d != 8) unread(f, "it returns with something left on the stack")
     if (o ~ /^(ret|ud2|hlt)/) return
-    if (o ~ /^j/ && (rel[f, i] != "" || a ~ /^\*/)) calls(f, i, d - 8)
-    else if (o ~ /^j/) reach(f, place[f, number(a)], d)
+    if (o == "jmp" && a ~ /^\*/) follow_table(f, i, d)
+    else if (o ~ /^j/ && (rel[f, i] != "" || a ~ /^\*/)) calls(f, i, d - 8)
+    else if (o ~ /^j/) jump(f, place[f, number(a)], d)
     if (o !~ /^jmp/) reach(f, i + 1, d)
 }
 
 # The bytes that f needs, worked out once.
-function need(f) {
+function need(f,    k) {
     if (f in needs) return needs[f]
     if (!(f in known)) return leaves(f)
     if (f in begun) unread(f, "it calls itself")
     begun[f] = 1
     reach(f, 1, 8)
     while (open[f] > 0) follow(f, todo[f, open[f]--])
+    for (k = 1; k <= inners[f]; k++)
+        if ((f, inner[f, k]) in jumped) unread(f, "it jumps in between the load of a table and its use")
     return needs[f] = deepest[f]
 }
 
@@ -82,6 +136,20 @@ function leaves(f) {
     return outside
 }
 
+/^RELOCATION RECORDS FOR / {
+    records = substr($4, 2)
+    sub(/\]:$/, "", records)
+    next
+}
+/^Disassembly of section / { records = "" }
+records != "" {
+    if (records !~ /^\.rodata/ || $2 != "R_X86_64_PC32") next
+    at = number($1)
+    if ((records, at) in entry) unread(records, "there are two of this name")
+    entry[records, at] = named($3)
+    entry_added[records, at] = added
+    next
+}
 /^[0-9a-f]+ <.*>:$/ {
     f = substr($0, index($0, "<") + 1)
     sub(/>:$/, "", f)
@@ -91,6 +159,11 @@ function leaves(f) {
     next
 }
 $2 ~ /^R_X86_64_/ {
+    if (op[f, n[f]] == "lea" && $2 == "R_X86_64_PC32") {
+        section[f, n[f]] = named($3)
+        begins[f, n[f]] = added + 4
+        beginning[section[f, n[f]], added + 4] = 1
+    }
     if ($2 !~ /^R_X86_64_(PLT32|PC32)$/ || op[f, n[f]] !~ /^(call|j)/) next
     to = $3
     if (to !~ /-0x4$/) unread(f, "it calls a place inside " to)

@@ -31,14 +31,14 @@ static struct {
     size_t calls;
 } known[ENTRIES] = {
     [NOTHING] = {"nothing", 8, 0x1, 0, 0, 0},
-    [ORDER] = {"order", GIMMERSKIP_STACK_ORDER, 0x7ff, 0, 0, 0},
+    [ORDER] = {"order", GIMMERSKIP_STACK_ORDER, 0x6ff, 0, 0, 0},
     [LINE] = {"line", GIMMERSKIP_STACK_LINE, 0xf, 0, 0, 0},
-    [READ] = {"read", GIMMERSKIP_STACK_READ, 0x9ff, 0, 0, 0},
-    [WRITE] = {"write", GIMMERSKIP_STACK_WRITE, 0x9fd, 0, 0, 0},
-    [TABLE] = {"table", GIMMERSKIP_STACK_TABLE, 0x9fd, 0, 0, 0},
-    [VERDICT] = {"verdict", GIMMERSKIP_STACK_VERDICT, 0xffd, 0, 0, 0},
-    [JUDGE] = {"judge", GIMMERSKIP_STACK_JUDGE, 0x81fd, 0, 0, 0},
-    [MOVE] = {"move", GIMMERSKIP_STACK_MOVE, 0x79fd, 0, 0, 0},
+    [READ] = {"read", GIMMERSKIP_STACK_READ, 0x8ff, 0, 0, 0},
+    [WRITE] = {"write", GIMMERSKIP_STACK_WRITE, 0x8fd, 0, 0, 0},
+    [TABLE] = {"table", GIMMERSKIP_STACK_TABLE, 0x8fd, 0, 0, 0},
+    [VERDICT] = {"verdict", GIMMERSKIP_STACK_VERDICT, 0xefd, 0, 0, 0},
+    [JUDGE] = {"judge", GIMMERSKIP_STACK_JUDGE, 0x80fd, 0, 0, 0},
+    [MOVE] = {"move", GIMMERSKIP_STACK_MOVE, 0x78fd, 0, 0, 0},
 };
 
 /* One call: which entry, what it is lent, and what it answers. A list has one place more than is ever needed. */
@@ -95,7 +95,7 @@ static __attribute__((noinline)) void make_call(struct call *c) {
 }
 
 /* The painted stack, in words of 8 bytes: the stack pointer moves by no less. */
-enum { WORDS = 2560 };
+enum { WORDS = 4096 };
 static _Alignas(64) uint64_t stack[WORDS];
 
 /* Makes a call on the stack above, painted with a byte; answers how many bytes of it are not the paint any more. The
@@ -282,35 +282,29 @@ static void try_all(struct list *l) {
     try_text(text, n);
 }
 
-/* A plan without a fault while it grows: which devices each job holds, and who has still to start whom. */
+/* A plan without a fault while it grows: what its present job has taken and not given, and who has still to start
+   whom. */
 struct growth {
     struct list list;
     uint32_t starter[JOBS + 1];
-    uint32_t held[DEVICES];
+    uint32_t held[LINES];
     uint32_t depth;
-    uint32_t holds;
 };
 
-/* One more line of a job that starts nothing: a take, a give of what was taken last, or an action. */
+/* One more line of a job that starts nothing: a take, of what it holds already among others, a give of what was taken
+   last, or an action. */
 static void grow_line(struct growth *g, uint32_t job) {
-    uint32_t device = below(DEVICES);
     switch (below(4)) {
     case 0:
         add(&g->list, job, DO, below(256));
         break;
     case 1:
-        if (g->depth == 0)
-            break;
-        g->depth--;
-        g->holds &= ~((uint32_t)1 << g->held[g->depth]);
-        add(&g->list, job, GIVE, g->held[g->depth]);
+        if (g->depth > 0)
+            add(&g->list, job, GIVE, g->held[--g->depth]);
         break;
     default:
-        if (g->holds >> device & 1)
-            break;
-        g->held[g->depth++] = device;
-        g->holds |= (uint32_t)1 << device;
-        add(&g->list, job, TAKE, device);
+        g->held[g->depth] = g->depth > 0 && below(4) == 0 ? g->held[below(g->depth)] : below(DEVICES);
+        add(&g->list, job, TAKE, g->held[g->depth++]);
     }
 }
 
@@ -329,7 +323,6 @@ static void start_others(struct growth *g, uint32_t job, uint32_t jobs) {
 
 static void grow_job(struct growth *g, uint32_t job, uint32_t jobs, uint32_t lines, uint32_t left) {
     g->depth = 0;
-    g->holds = 0;
     for (uint32_t k = 0; k < lines; k++)
         grow_line(g, job);
     give_back(g, job, left);
@@ -379,6 +372,18 @@ static void nest(struct list *l, size_t times, uint32_t left) {
     }
 }
 
+/* One job that takes a few devices again and again, as deep as it goes, and gives back all that is over `left` of its
+   takes, in a plan of the most lines. */
+static void deepen(struct list *l, uint32_t devices, uint32_t left) {
+    const uint32_t takes = (LINES + left) / 2;
+    l->n = 0;
+    for (uint32_t k = 0; k < takes; k++)
+        add(l, 1, TAKE, k % devices);
+    for (uint32_t k = takes; k > left; k--)
+        add(l, 1, GIVE, (k - 1) % devices);
+    fill_up(l, 1);
+}
+
 /* Job 1 starts jobs 2 to `last`. */
 static void start_all(struct list *l, uint32_t last) {
     l->n = 0;
@@ -412,6 +417,8 @@ static void at_the_limits(void) {
         try_all(l);
         nest(l, 1 + k % 16, DEVICES);
         try_all(l);
+        deepen(l, k, k % 2 ? LINES : k);
+        try_all(l);
         keep(l, k, 0, 1);
         try_all(l);
         keep(l, k, 1, k % 2 ? 1 : 3);
@@ -443,7 +450,6 @@ static void each_fault(void) {
         {2, {1024, 2048}},                /* 6: nothing starts job 2 */
         {1, {1536}},                      /* 7: a give of what was not taken */
         {3, {1280, 1281, 1536}},          /* 7: a give of what was not taken last */
-        {2, {1280, 1280}},                /* 8: a take of what the job holds */
         {3, {1794, 1280, 2304}},          /* 9: two lasting takes */
         {4, {1280, 1794, 2304, 2560}},    /* 10: job 2 waits for what its starter keeps */
     };

@@ -17,9 +17,10 @@ use Rattle.model.specs.Claims.{own, joined, table}
 use Rattle.theory.proofs.Tests.{test}
 use Rattle.theory.proofs.Line.{line-parts}
 use Rattle.theory.specs.Claims.{claim}
+use Rattle.theory.specs.Outer.{plainAt}
 use Rattle.theory.proofs.Claims.{claim-is, length-table}
 use Rattle.claims.specs.Claim.{operands, begunOf, claimOf}
-use Rattle.claims.proofs.Joining.{setOf, beyond-is, set-here, set-there, own-is}
+use Rattle.claims.proofs.Joining.{setOf, beyond-is, set-here, set-there, own-is, begun-is}
 
 -- what job j claims from line i on
 abbrev pub claimFrom : List ℕ → ℕ → ℕ → ℕ
@@ -51,10 +52,10 @@ module _ (p claimed : List ℕ) (k : ℕ) (m : Claimed p claimed (suc k)) (h : k
   next-is = m .are (job l) (job-place devices l ok)
 
   -- what the code makes of a line is the table's set
-  pub claim-made : claimOf (at p k) (getD claimed (job (at p k)) 0) claimed ≡ claim p k
+  pub claim-made : claimOf (plainAt p k) (getD claimed (job (at p k)) 0) claimed ≡ claim p k
   unfolding claimOf begunOf operand
   claim-made =
-      rw (own-is devices p k ok, next-is, m .are (operand l) (omega arith))
+      rw (own-is devices p k ok, begun-is p claimed k, next-is, m .are (operand l) (omega arith))
       (ap (union (own p k)) (sym (beyond-is p (table p) k)) ∙ sym (claim-is p k h))
 
   -- the first of the job's lines is now this one, and the other jobs have theirs

@@ -12,8 +12,12 @@ use Rattle.sets.specs.Only.{onlyOf}
 use Rattle.model.specs.Line.{job, operand, isTake, isStart, isLine, at, firstLine}
 use Rattle.model.specs.Mate.{takesAt, deviceAt}
 use Rattle.model.specs.Claims.{successors, own, joined, beyond}
+use Rattle.theory.specs.Outer.{againAt, plainAt}
 use Rattle.theory.proofs.Line.{device-line}
+use Rattle.theory.proofs.Claims.{outermost}
+use Rattle.theory.proofs.Outer.{plain-operand, plain-take, plain-start}
 use Rattle.sets.proofs.Members.{only-of}
+use Rattle.claims.specs.Claim.{begunOf}
 
 -- ---- unions with the empty set
 
@@ -83,14 +87,19 @@ pub set-there : (v l : ℕ) (t ls : List ℕ) (j : ℕ) → eqb (job l) j ≡ fa
 unfolding firstLine
 set-there v l t ls j e = rw (firstLine, e) (shifted v t (firstLine j ls))
 
--- ---- the own claim, as the code works it out from the line alone
+-- ---- the own claim, as the code works it out from the line as it counts
 
 pub own-is : (D : ℕ) (p : List ℕ) (i : ℕ) → isLine D (at p i) ≡ true
-    → cond (isTake (at p i)) (onlyOf D (operand (at p i))) empty ≡ own p i
-unfolding own takesAt deviceAt
-own-is D p i h = go (isTake (at p i)) refl
+    → cond (isTake (plainAt p i)) (onlyOf D (operand (plainAt p i))) empty ≡ own p i
+unfolding own deviceAt
+own-is D p i h = rw (plain-take p i, plain-operand (againAt p i) (at p i)) (go (takesAt p i) refl)
   where
-    go : (b : Bool) → isTake (at p i) ≡ b
+    go : (b : Bool) → takesAt p i ≡ b
         → cond b (onlyOf D (operand (at p i))) empty ≡ cond b (only (operand (at p i))) empty
     go false e = refl
-    go true e = only-of D (operand (at p i)) (device-line D (at p i) h (rw e))
+    go true e = only-of D (operand (at p i)) (device-line D (at p i) h (rw (outermost p i e .0)))
+
+-- what a started job claims, by the line as it counts
+pub begun-is : (p claimed : List ℕ) (i : ℕ) → begunOf (plainAt p i) claimed ≡ begunOf (at p i) claimed
+unfolding begunOf
+begun-is p claimed i = rw (plain-start p i, plain-operand (againAt p i) (at p i))

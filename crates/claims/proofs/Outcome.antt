@@ -18,7 +18,7 @@ use Rattle.promises.specs.Table.{TablesAs}
 use Rattle.promises.proofs.Tight.{meets}
 
 module _ (p lent : List ℕ) where
-  -- 2 to 8
+  -- 2 to 7
   pub faulty : (r : Refusal) → fault devices p ≡ some r → TablesAs p lent (TableAnswer.Refused r) lent
   unfolding tabling outcome firstRefusal
   faulty r e = rw e (meets refl refl)

@@ -17,6 +17,7 @@ use Rattle.model.specs.Line.{job, isLine, at}
 use Rattle.model.specs.Claims.{table}
 use Rattle.theory.proofs.Tests.{test}
 use Rattle.theory.specs.Claims.{claim}
+use Rattle.theory.specs.Outer.{plainAt}
 use Rattle.theory.proofs.Claims.{length-table}
 use Rattle.claims.specs.Claim.{operands, claimOf, tableIn}
 use Rattle.claims.proofs.Claimed.{Claimed, none-claimed, claim-made, claimed-on}
@@ -101,7 +102,7 @@ none-done p old = record { inPlan = omega arith; same = refl; written = none-wri
 
 -- one line further back, with what the code made of the line and its job j
 pub one-done : (p old out claimed : List ℕ) (k j s : ℕ) → Done p old out claimed (suc k)
-    → isLine devices (at p k) ≡ true → j ≡ job (at p k) → s ≡ claimOf (at p k) (getD claimed j 0) claimed
+    → isLine devices (at p k) ≡ true → j ≡ job (at p k) → s ≡ claimOf (plainAt p k) (getD claimed j 0) claimed
     → Done p old (set out k s) (set claimed j s) k
 one-done p old out claimed k j s d ok e is =
     let made : s ≡ claim p k = is ∙ rw e (claim-made p claimed k (d .claims) (d .inPlan) ok) in record {

@@ -1,4 +1,5 @@
--- A line's claim set as the code joins it, from the sets of the lines after it (01, "Claims and rows").
+-- A line's claim set as the code joins it, from the sets of the lines after it (01, "Claims and rows"). Lines are taken
+-- as they count.
 use Prim.Native.Nat.{ℕ}
 use mathlib.Core.Bool.{cond}
 use mathlib.Core.List.{List}

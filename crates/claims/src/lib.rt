@@ -1,17 +1,21 @@
-// The table of claims (01, "Claims and rows"): one set a line, worked out in one pass from the end.
+// The table of claims (01, "Claims and rows"): one set a line, worked out in one pass from the end. Lines are taken as
+// they count: one that takes again what its job holds claims nothing, as a do (02, request 2).
+use board::EACH_JOB;
+use board::MOST_LINES;
 use board::Set;
 use line::EACH_OPERAND;
 use model::Refusal;
 use model::TableAnswer;
 use plan::Checked;
 ghost use mathlib.Core.Path.{_≡_};
-ghost use mathlib.Core.Bool.{true};
-ghost use Prim.Native.Nat.{ℕ, _≤_, _<_};
+ghost use mathlib.Core.Option.{none};
+ghost use Prim.Native.Nat.{_≤_};
 ghost use lib.ListN.{length};
 ghost use Rattle.model.specs.Lists.{over};
-ghost use Rattle.model.specs.Line.{isLine, at};
+ghost use Rattle.model.specs.WellFormed.{fault};
 ghost use Rattle.model.specs.Claims.{table};
 ghost use Rattle.model.specs.Board.{devices};
+ghost use Rattle.plan.specs.Again.{againFlags};
 ghost use Rattle.claims.specs.Claim.{ownOf, claimWith, begunOf, claimOf};
 ghost use Rattle.promises.specs.Table.{TablesAs};
 
@@ -45,9 +49,9 @@ pub fn claim(l: u32, next: Set, claimed: &[Set; EACH_OPERAND]) -> Set
     joined(l, next, begun(l, claimed))
 }
 
-// The table, from the plan's end, into the front of the lent list.
-fn fill(plan: &[u32], sets: &mut [Set])
-    requires { ⌜ ((k : ℕ) → k < length (now plan) → isLine devices (at (now plan) k) ≡ true)
+// The table, from the plan's end, into the front of the lent list. `again` has the flags of the lines that take again.
+fn fill(plan: &[u32], again: &[u8; MOST_LINES], sets: &mut [Set])
+    requires { ⌜ (fault devices (now plan) ≡ none) × (now again ≡ againFlags (now plan))
         × (length (now plan) ≤ length (now sets)) ⌝ }
     ensures { λ r. ⌜ now (sets .exit) ≡ over (table (now (plan .entry))) (now (sets .entry)) ⌝ }
 {
@@ -55,7 +59,7 @@ fn fill(plan: &[u32], sets: &mut [Set])
     let mut i = plan.len();
     while 0 < i {
         i -= 1;
-        let l = plan[i];
+        let l = line::plain(plan[i], again[i] == 1);
         let j = line::job(l) as usize;
         let s = claim(l, claimed[j], &claimed);
         sets[i] = s;
@@ -63,17 +67,20 @@ fn fill(plan: &[u32], sets: &mut [Set])
     }
 }
 
-// The table of a plan's claims, into the front of the lent list; a refusal (2 to 8, 11) leaves the list as it was.
+// The table of a plan's claims, into the front of the lent list; a refusal (2 to 7, 11) leaves the list as it was.
 pub fn table(plan: &[u32], sets: &mut [Set]) -> TableAnswer
     ensures { λ r. ⌜ TablesAs (now (plan .entry)) (now (sets .entry)) r (now (sets .exit)) ⌝ }
 {
-    if let Checked::Refused(r) = plan::fault(plan) {
+    let mut first = [0u32; EACH_JOB];
+    let mut starter = [0u32; EACH_JOB];
+    let mut again = [0u8; MOST_LINES];
+    if let Checked::Refused(r) = plan::scan(plan, &mut first, &mut starter, &mut again) {
         return TableAnswer::Refused(r);
     }
     let n = plan.len();
     if sets.len() < n {
         return TableAnswer::Refused(Refusal::ListTooShort(n as u32));
     }
-    fill(plan, sets);
+    fill(plan, &again, sets);
     TableAnswer::Lines(n as u32)
 }

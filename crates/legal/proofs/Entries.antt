@@ -1,40 +1,79 @@
--- The code's tests of an entry, one after the other: it is the number of a line; of its job's next line; and that line
--- takes no device held. Then what a line that is done changes: places in the list of next lines, and a device.
-use Prim.Native.Nat.{ℕ, zero, suc, _+_, _<_, _≤_}
+-- The line that an entry names (02, request 1), as it counts (request 2), which its flag tells: the code's test of it
+-- asks for the outermost takes of the plan. Then what a line that is done changes: places in the list of next lines,
+-- and a device.
+use Prim.Native.Nat.{ℕ, suc, _+_, _-_, _<_, _≤_}
 use mathlib.Core.Bool.{Bool, true, false, cond, not, _&&_, _||_}
 use mathlib.Core.List.{List}
 use mathlib.Core.Path.{_≡_, refl, sym, _∙_}
 use native.Mathlib.Numerals.{add-one}
 use native.Mathlib.Omega.{arith}
+use lib.Dec.{eqb, ltb}
 use lib.ListN.{length, getD, set}
-use borrow.Author.Tests.{eqb-true, eq-eqb, ne-eqb, lt-ltb, le-ltb}
+use borrow.Author.Tests.{eqb-true, eqb-false, ltb-false}
 use Rattle.model.specs.Sets.{empty, member}
-use Rattle.model.specs.Line.{job, kind, operand, isTake, isGive, isStart, starts, isLine, at, maxJob}
+use Rattle.model.specs.Line.{job, kind, operand, isTake, isGive, isStart, starts, isLine, at, maxJob, maxLines}
+use Rattle.model.specs.Mate.{deviceAt, takesAt}
+use Rattle.model.specs.WellFormed.{WellFormed}
 use Rattle.model.specs.Board.{devices}
-use Rattle.theory.proofs.Tests.{clash}
+use Rattle.theory.specs.Outer.{againAt, plain, plainAt}
+use Rattle.theory.proofs.Tests.{clash, or-neither}
 use Rattle.theory.proofs.Line.{line-parts, start-parts, start-of, start-operand}
+use Rattle.theory.proofs.Claims.{getD-upFrom}
+use Rattle.theory.proofs.Outer.{plain-job, plain-operand, plain-line, plain-take, plain-start}
 use Rattle.sets.specs.Only.{onlyOf}
+use Rattle.plan.specs.Again.{againFlag, againFlags}
 use Rattle.legal.specs.Steps.{isNext, startedBy, passed}
 
--- ---- an entry
+-- ---- the line that an entry names
 
-module _ (p next : List ℕ) (held : ℕ) where
-  pub past-lines : (e : ℕ) → length p < e → isNext p next held e ≡ false
-  unfolding isNext
-  past-lines zero h = refl
-  past-lines (suc i) h = rw (le-ltb i (length p) (omega arith))
+-- an entry that is neither 0 nor past n lines is the number of one of them
+pub numbered : (e n : ℕ) → (eqb e 0 || ltb n e) ≡ false → (e ≡ suc (e - 1)) × (e - 1 < n)
+numbered e n h =
+    let r = or-neither (eqb e 0) (ltb n e) h in
+    (omega (arith, eqb-false e 0 (r .0)), omega (arith, eqb-false e 0 (r .0), ltb-false n e (r .1)))
 
-  module _ (e i : ℕ) (number : e ≡ suc i) (line : i < length p) where
-    pub not-next : (getD next (job (at p i)) 0 ≡ e → ⊥) → isNext p next held e ≡ false
-    unfolding isNext
-    not-next n =
-        rw (number, lt-ltb i (length p) line, ne-eqb (getD next (job (at p i)) 0) (suc i) (λ q. n (q ∙ sym number)))
+-- an entry is the number of a line, which counts as l
+pub record Names (p : List ℕ) (e l : ℕ) : Type 0 where
+  pub number : e ≡ suc (e - 1)
+  pub line : e - 1 < length p
+  pub counts : l ≡ plainAt p (e - 1)
 
-    pub next-line : getD next (job (at p i)) 0 ≡ e
-        → isNext p next held e ≡ not (isTake (at p i) && member held (operand (at p i)))
-    unfolding isNext
-    next-line q =
-        rw (number, lt-ltb i (length p) line, eq-eqb (getD next (job (at p i)) 0) (suc i) (q ∙ number))
+-- the flag of line i tells whether it takes again, or gives such a take back
+flag-tells : (p : List ℕ) (i : ℕ) → i < maxLines → eqb (getD (againFlags p) i 0) 1 ≡ againAt p i
+unfolding againFlags againFlag
+flag-tells p i h =
+    let z : 0 + i ≡ i = omega arith in rw (getD-upFrom (againFlag p) 0 maxLines i h, z) (go (againAt p i))
+  where
+    go : (b : Bool) → eqb (cond b 1 0) 1 ≡ b
+    go true = refl
+    go false = refl
+
+module _ {p : List ℕ} (w : WellFormed devices p) (e l : ℕ) where
+  pub named : {again : List ℕ} → again ≡ againFlags p → (eqb e 0 || ltb (length p) e) ≡ false
+      → l ≡ plain (eqb (getD again (e - 1) 0) 1) (at p (e - 1)) → Names p e l
+  named a h q =
+      let r = numbered e (length p) h in record {
+        number = r .0;
+        line = r .1;
+        counts = q ∙ rw (a, flag-tells p (e - 1) (omega (arith, r .1, w .few)));
+      }
+
+  pub counted-line : Names p e l → isLine devices l ≡ true
+  counted-line n = rw (n .counts) (plain-line (againAt p (e - 1)) (at p (e - 1)) devices (w .lines (e - 1) (n .line)))
+
+module _ (p : List ℕ) (i : ℕ) where
+  -- the test of line i: it is its job's next line, and no outermost take of a device held
+  pub next-counted : (next : List ℕ) (held n : ℕ) → isNext next held (plainAt p i) n
+      ≡ (eqb (getD next (job (at p i)) 0) n && not (takesAt p i && member held (deviceAt p i)))
+  unfolding isNext deviceAt
+  next-counted next held n = rw (plain-job (againAt p i) (at p i), plain-take p i, plain-operand (againAt p i) (at p i))
+
+  -- it changes the same places as the line as it is written
+  pub passed-counted : (next first : List ℕ) (n : ℕ)
+      → passed next first (plainAt p i) n ≡ passed next first (at p i) n
+  unfolding passed startedBy
+  passed-counted next first n =
+      rw (plain-job (againAt p i) (at p i), plain-start p i, plain-operand (againAt p i) (at p i))
 
 -- ---- the places that a line changes
 

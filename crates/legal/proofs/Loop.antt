@@ -1,39 +1,43 @@
--- The loop over the entries: what holds before each, at the start, after a legal step, and where it ends. Once k
--- entries are passed, k lines are done, of which the list of next lines and the set tell; and the whole answer is that
--- of the entries left.
-use Prim.Native.Nat.{ℕ, zero, suc, _+_, _-_, _<_, _≤_}
+-- The loop over the entries (02, requests 1 and 2): what holds before each, at the start, after a legal step, and where
+-- it ends. Once k entries are passed, k lines are done, of which the list of next lines and the set tell; and the whole
+-- answer is that of the entries left.
+use Prim.Native.Nat.{ℕ, suc, _+_, _-_, _<_, _≤_}
 use mathlib.Core.Bool.{Bool, true, false, cond, not, _&&_, _||_}
 use mathlib.Core.List.{List, [], _∷_, _++_}
 use mathlib.Core.Logic.{_⊎_, inl, inr}
 use mathlib.Core.Option.{none, some}
-use mathlib.Core.Path.{_≡_, refl, sym, _∙_, ap, subst}
+use mathlib.Core.Path.{_≡_, refl, sym, _∙_, ap, ap₂, subst}
 use native.Mathlib.Numerals.{add-one}
 use native.Mathlib.Omega.{arith}
 use lib.Dec.{eqb, ltb}
 use lib.ListN.{length, getD, drop, drop-of-length-le}
 use lib.Seq.{drop-cons}
-use borrow.Author.Tests.{eqb-true, eq-eqb, ne-eqb, ltb-true, lt-ltb, not-true}
+use borrow.Author.Tests.{eqb-true, eq-eqb, ne-eqb, ltb-true, not-true}
 use Rattle.model.specs.Lists.{positions, all, has}
 use Rattle.model.specs.Sets.{empty, member}
-use Rattle.model.specs.Line.{job, operand, isTake, isGive, at}
+use Rattle.model.specs.Line.{job, operand, at}
 use Rattle.model.specs.Mate.{takesAt, deviceAt, takes}
 use Rattle.model.specs.WellFormed.{WellFormed}
 use Rattle.model.specs.Legal.{held, MayFollow}
-use Rattle.model.specs.Judged.{mayFollow, strayAfter, stray}
+use Rattle.model.specs.Judged.{strayAfter, stray}
 use Rattle.model.specs.Board.{devices}
-use Rattle.theory.proofs.Tests.{clash, test, tests-agree, and-split, and-both, and-left, and-right, and-second}
+use Rattle.theory.specs.Outer.{freesAt, againAt, plainAt}
+use Rattle.theory.proofs.Tests.{clash, test, tests-agree, or-split, and-split, and-both, and-left, and-right}
+use Rattle.theory.proofs.Tests.{and-second}
 use Rattle.theory.proofs.Lists.{has-position, position-has, all-at, each-all, left, left-none, left-zero}
 use Rattle.theory.proofs.Lists.{left-every, among}
 use Rattle.theory.proofs.Sets.{member-empty}
 use Rattle.theory.proofs.WellFormed.{no-fault-exactly}
+use Rattle.theory.proofs.Claims.{takes-parts}
+use Rattle.theory.proofs.Outer.{plain-operand, plain-take, plain-give}
 use Rattle.theory.proofs.Progress.{device-below}
 use Rattle.theory.proofs.Steps.{HeldOnce, held-once-first, held-once-on, handles, held-step}
 use Rattle.theory.proofs.Judged.{may-follow-exactly, step-passes, entry-refused, one-less}
 use Rattle.sets.specs.Only.{onlyOf}
 use Rattle.sets.proofs.Members.{member-differ, member-only-if}
-use Rattle.plan.specs.Walk.{setAfter}
-use Rattle.plan.specs.Jobs.{FirstsListed}
-use Rattle.legal.specs.Steps.{isNext, passed, StepsAs}
+use Rattle.plan.specs.Jobs.{firstLines, FirstsListed}
+use Rattle.legal.specs.Steps.{isNext, passed, setAfter, StepsAs}
+use Rattle.legal.proofs.Entries.{Names, next-counted, passed-counted}
 use Rattle.legal.proofs.Standing.{atFirst, Standing, stands-first, ready, ready-stands, later-undone, stands-on}
 
 -- with k entries passed, whose lines are done
@@ -70,55 +74,47 @@ module _ {p first es next : List ℕ} {set k : ℕ} (f : Following p first es ne
   abbrev done : List ℕ
   done = f .done
 
-  -- the device of a take is in the set exactly if it is held
+  -- the device of an outermost take is in the set exactly if it is held
   take-held : (i d : ℕ) → takes p i d ≡ true → member set d ≡ held p done d
   take-held i d t = f .holds d (device-below devices p w i d t)
 
   -- the code's test of line i is the rule's
-  may-follow : (i : ℕ) → isNext p next set (suc i) ≡ true → MayFollow p done i
-  unfolding isNext takes takesAt deviceAt
-  may-follow i e =
-      let a = and-split (ltb i (length p)) (eqb (getD next (job (at p i)) 0) (suc i) && not barred) e in
-      let b = and-split (eqb (getD next (job (at p i)) 0) (suc i)) (not barred) (a .1) in
-      let line = ltb-true i (length p) (a .0) in
-      let r = ready w (f .standing) line (eqb-true (getD next (job (at p i)) 0) (suc i) (b .0)) in record {
+  may-follow : (i : ℕ) → i < length p → isNext next set (plainAt p i) (suc i) ≡ true → MayFollow p done i
+  may-follow i line e =
+      let a = and-split (eqb (getD next (job (at p i)) 0) (suc i)) (not barred) (rw next-counted at e) in
+      let r = ready w (f .standing) line (eqb-true (getD next (job (at p i)) 0) (suc i) (a .0)) in record {
         line = line;
         once = r .0;
         after = r .1;
-        free = λ d t. free d t (not-true barred (b .1));
+        free = λ d t. free d t (not-true barred (a .1));
       }
     where
       barred : Bool
-      barred = isTake (at p i) && member set (operand (at p i))
+      barred = takesAt p i && member set (deviceAt p i)
 
       free : (d : ℕ) → takes p i d ≡ true → barred ≡ false → held p done d ≡ false
       free d t n =
-          let s = and-split (isTake (at p i)) (eqb (operand (at p i)) d) t in
-          sym (take-held i d t) ∙ ap (member set) (sym (eqb-true (operand (at p i)) d (s .1)))
-          ∙ and-second (isTake (at p i)) (member set (operand (at p i))) (s .0) n
+          let s = takes-parts p i d t in
+          sym (take-held i d t) ∙ ap (member set) (sym (s .1))
+          ∙ and-second (takesAt p i) (member set (deviceAt p i)) (s .0) n
 
-  follow-next : (i : ℕ) → MayFollow p done i → isNext p next set (suc i) ≡ true
-  unfolding isNext takes takesAt deviceAt
+  follow-next : (i : ℕ) → MayFollow p done i → isNext next set (plainAt p i) (suc i) ≡ true
+  unfolding takes
   follow-next i m =
       rw (
-        lt-ltb i (length p) (m .line),
+        next-counted,
         eq-eqb (getD next (job (at p i)) 0) (suc i) (ready-stands w (f .standing) (m .line) (m .once) (m .after)),
-        free (test (isTake (at p i))),
+        free (test (takesAt p i)),
       )
     where
       own : ℕ
-      own = operand (at p i)
+      own = deviceAt p i
 
-      free : (isTake (at p i) ≡ true) ⊎ (isTake (at p i) ≡ false) → (isTake (at p i) && member set own) ≡ false
-      free (inr n) = and-left (isTake (at p i)) (member set own) n
+      free : (takesAt p i ≡ true) ⊎ (takesAt p i ≡ false) → (takesAt p i && member set own) ≡ false
+      free (inr n) = and-left (takesAt p i) (member set own) n
       free (inl t) =
-          let own-take = and-both (isTake (at p i)) (eqb own own) t (eq-eqb own own refl) in
-          and-right (isTake (at p i)) (member set own) (take-held i own own-take ∙ m .free own own-take)
-
-  next-exactly : (i : ℕ) → isNext p next set (suc i) ≡ mayFollow p done i
-  next-exactly i =
-      tests-agree (isNext p next set (suc i)) (mayFollow p done i)
-      (λ e. may-follow-exactly p done i .1 (may-follow i e)) (λ e. follow-next i (may-follow-exactly p done i .0 e))
+          let own-take = and-both (takesAt p i) (eqb own own) t (eq-eqb own own refl) in
+          and-right (takesAt p i) (member set own) (take-held i own own-take ∙ m .free own own-take)
 
   -- ---- no more entries
 
@@ -162,14 +158,11 @@ module _ {p first es next : List ℕ} {set k : ℕ} (f : Following p first es ne
 
     -- ---- the next entry is no legal step
 
-    strays-here : (e : ℕ) → isNext p next set e ≡ false → strayAfter p done k (e ∷ later) ≡ some (suc k)
-    strays-here e n =
-        entry-refused p done k e later (λ i q t. clash (isNext p next set e) (rw q (next-exactly i ∙ t)) n)
-
-    pub stops-here : isNext p next set entry ≡ false → StepsAs p es k
+    stops-here : ((i : ℕ) → entry ≡ suc i → MayFollow p done i → ⊥) → StepsAs p es k
     stops-here n = record {
       few = omega (arith, f .rest);
-      strays = f .answer ∙ ap (strayAfter p done k) (drop-cons es k 0 more) ∙ strays-here entry n
+      strays = f .answer ∙ ap (strayAfter p done k) (drop-cons es k 0 more)
+          ∙ entry-refused p done k entry later (λ i q t. n i q (may-follow-exactly p done i .0 t))
           ∙ rw (ne-eqb k (length es) (λ q. omega arith)) (go (eqb k (length p)));
     }
       where
@@ -177,49 +170,66 @@ module _ {p first es next : List ℕ} {set k : ℕ} (f : Following p first es ne
         go true = refl
         go false = refl
 
-    -- ---- it is one
+    -- it is no line's number
+    pub no-number : (eqb entry 0 || ltb (length p) entry) ≡ true → StepsAs p es k
+    no-number h = stops-here (λ i q m. go i q m (or-split (eqb entry 0) (ltb (length p) entry) h))
+      where
+        go : (i : ℕ) → entry ≡ suc i → MayFollow p done i
+            → (eqb entry 0 ≡ true) ⊎ (ltb (length p) entry ≡ true) → ⊥
+        go i q m (inl z) = omega (arith, eqb-true entry 0 z)
+        go i q m (inr z) = omega (arith, ltb-true (length p) entry z, m .line)
 
-    module _ (yes : isNext p next set entry ≡ true) where
-      pub its-line : (entry ≡ suc (entry - 1)) × (entry - 1 < length p)
-      unfolding isNext
-      its-line = go entry yes
-        where
-          go : (e : ℕ) → isNext p next set e ≡ true → (e ≡ suc (e - 1)) × (e - 1 < length p)
-          go zero y = clash false y refl
-          go (suc i) y =
-              let m = may-follow i y in (omega arith, omega (arith, m .line))
-
+    module _ {l : ℕ} (n : Names p entry l) where
       abbrev x : ℕ
       x = entry - 1
 
-      may : MayFollow p done x
-      may = may-follow x (rw (its-line .0) at yes)
+      -- the code's test is that of line x
+      tested : isNext next set l entry ≡ isNext next set (plainAt p x) (suc x)
+      tested = ap₂ (isNext next set) (n .counts) (n .number)
 
-      stood : getD next (job (at p x)) 0 ≡ suc x
-      stood = ready-stands w (f .standing) (may .line) (may .once) (may .after)
+      -- its line may not follow
+      pub no-step : isNext next set l entry ≡ false → StepsAs p es k
+      no-step h =
+          stops-here
+          (λ i q m. clash (isNext next set l entry)
+          (tested ∙ follow-next x (subst (λ (j : ℕ). MayFollow p done j) (omega arith) m)) h)
 
-      turned : (d : ℕ) → d < devices → member (setAfter (at p x) set) d ≡ held p (done ++ (x ∷ [])) d
-      unfolding handles
-      turned d h =
-          member-differ set (cond (isTake (at p x) || isGive (at p x)) (onlyOf devices (operand (at p x))) empty) d
-          ∙ rw (member-only-if devices (isTake (at p x) || isGive (at p x)) (operand (at p x)) d h, f .holds d h)
-          (sym (held-step p (w .rules) done x may (f .once) (later-undone w (f .standing) (may .line) stood) d))
+      -- ---- it is one
 
-      pub follows-on : {next′ : List ℕ} {set′ : ℕ} → next′ ≡ passed next first (at p x) entry
-          → set′ ≡ setAfter (at p x) set → Following p first es next′ set′ (k + 1)
-      follows-on a b = rw (a, b) (record {
-        listed = f .listed;
-        done = done ++ (x ∷ []);
-        within = omega arith;
-        standing = subst (λ (l : List ℕ). Standing p (done ++ (x ∷ [])) l)
-            (ap (λ (l : List ℕ). passed next l (at p x) (suc x)) (sym (f .listed .firsts))
-            ∙ ap (passed next first (at p x)) (sym (its-line .0)))
-            (stands-on w (f .standing) (may .line) stood);
-        once = held-once-on p (w .rules) done x may (f .once);
-        holds = turned;
-        rest = omega (arith, f .rest, one-less p done x may);
-        answer = f .answer
-            ∙ ap (strayAfter p done k) (drop-cons es k 0 more ∙ ap {B = List ℕ} (λ n. n ∷ later) (its-line .0))
-            ∙ step-passes p done k x later (may-follow-exactly p done x .1 may)
-            ∙ ap (λ (n : ℕ). strayAfter p (done ++ (x ∷ [])) n (drop n es)) (sym (add-one k));
-      })
+      module _ (yes : isNext next set l entry ≡ true) where
+        may : MayFollow p done x
+        may = may-follow x (n .line) (sym tested ∙ yes)
+
+        stood : getD next (job (at p x)) 0 ≡ suc x
+        stood = ready-stands w (f .standing) (may .line) (may .once) (may .after)
+
+        turned : (d : ℕ) → d < devices → member (setAfter (plainAt p x) set) d ≡ held p (done ++ (x ∷ [])) d
+        unfolding handles
+        turned d h =
+            rw (plain-take p x, plain-give p x, plain-operand (againAt p x) (at p x))
+            (member-differ set (cond (takesAt p x || freesAt p x) (onlyOf devices (operand (at p x))) empty) d
+            ∙ rw (member-only-if devices (takesAt p x || freesAt p x) (operand (at p x)) d h, f .holds d h)
+            (sym (held-step p (w .rules) done x may (f .once) (later-undone w (f .standing) (may .line) stood) d)))
+
+        -- the list of next lines, as the code has it
+        listed-on : passed next (firstLines p) (at p x) (suc x) ≡ passed next first l entry
+        listed-on =
+            rw (n .counts, f .listed .firsts, passed-counted p x next (firstLines p) entry)
+            (ap (passed next (firstLines p) (at p x)) (sym (n .number)))
+
+        pub follows-on : {next′ : List ℕ} {set′ : ℕ} → next′ ≡ passed next first l entry → set′ ≡ setAfter l set
+            → Following p first es next′ set′ (k + 1)
+        follows-on a b = rw (a, b) (record {
+          listed = f .listed;
+          done = done ++ (x ∷ []);
+          within = omega arith;
+          standing = subst (λ (s : List ℕ). Standing p (done ++ (x ∷ [])) s) listed-on
+              (stands-on w (f .standing) (may .line) stood);
+          once = held-once-on p (w .rules) done x may (f .once);
+          holds = λ d h. ap (λ (s : ℕ). member (setAfter s set) d) (n .counts) ∙ turned d h;
+          rest = omega (arith, f .rest, one-less p done x may);
+          answer = f .answer
+              ∙ ap (strayAfter p done k) (drop-cons es k 0 more ∙ ap {B = List ℕ} (λ e. e ∷ later) (n .number))
+              ∙ step-passes p done k x later (may-follow-exactly p done x .1 may)
+              ∙ ap (λ (j : ℕ). strayAfter p (done ++ (x ∷ [])) j (drop j es)) (sym (add-one k));
+        })

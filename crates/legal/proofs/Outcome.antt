@@ -1,4 +1,4 @@
--- The outcomes of the judge, by what was found (02, request 1): 2 to 8 of the plan; then 15 where an entry is no legal
+-- The outcomes of the judge, by what was found (02, request 1): 2 to 7 of the plan; then 15 where an entry is no legal
 -- step, and otherwise a legal order.
 use Prim.Native.Nat.{ℕ, _+_}
 use mathlib.Core.Bool.{true, false, _&&_}
@@ -15,6 +15,7 @@ use Rattle.model.specs.Board.{devices}
 use Rattle.model.specs.declared.Refusal.{Refusal}
 use Rattle.model.specs.declared.Refusal.the-variants.{IllegalStep}
 use Rattle.model.specs.declared.JudgeAnswer.{JudgeAnswer}
+use Rattle.plan.specs.Again.{againFlags}
 use Rattle.plan.specs.Jobs.{firstLines, FirstsListed}
 use Rattle.plan.specs.Ends.{leftBy, ScansAs}
 use Rattle.plan.specs.declared.Checked.{Checked}
@@ -22,10 +23,13 @@ use Rattle.promises.specs.Judge.{JudgesAs}
 use Rattle.legal.specs.Steps.{StepsAs}
 
 -- what the scan lists of a plan without a fault
-pub scanned : {p first starter first′ starter′ : List ℕ} {answer : Checked}
-    → ScansAs p first starter answer first′ starter′ → fault devices p ≡ none → FirstsListed p first′
-scanned {p} {first} s e =
-    record { sound = e; firsts = s .firsts ∙ ap (λ (o : Option Refusal). leftBy o (firstLines p) first) e }
+pub scanned : {p first starter again first′ starter′ again′ : List ℕ} {answer : Checked}
+    → ScansAs p first starter again answer first′ starter′ again′ → fault devices p ≡ none
+    → FirstsListed p first′ × (again′ ≡ againFlags p)
+scanned {p} {first} {starter} {again} s e = (
+  record { sound = e; firsts = s .firsts ∙ ap (λ (o : Option Refusal). leftBy o (firstLines p) first) e },
+  s .agains ∙ ap (λ (o : Option Refusal). leftBy o (againFlags p) again) e,
+)
 
 module _ (p es : List ℕ) where
   pub faulty : (r : Refusal) → fault devices p ≡ some r → JudgesAs p es (JudgeAnswer.Refused r)

@@ -1,5 +1,5 @@
--- What the list of next lines says: a job stands at a line exactly if the line is undone and all that has to come
--- before it is done. This holds before the first step, and after a line is done.
+-- What the list of next lines says (02, request 1): a job stands at a line exactly if the line is undone and all that
+-- has to come before it is done. This holds before the first step, and after a line is done.
 use Prim.Native.Nat.{ℕ, zero, suc, _-_, _<_, _≤_}
 use mathlib.Core.Bool.{true, false}
 use mathlib.Core.List.{List, [], _∷_, _++_}

@@ -1,40 +1,31 @@
 // An order from elsewhere, judged entry by entry (02, request 1): is each the number of a line that may follow those
-// before it? One pass, and as much work for one entry as for another, whatever the entries are.
+// before it? One pass, and as much work for one entry as for another, whatever the entries are. Lines are looked at as
+// they count (02, request 2): one that takes again what its job holds, or gives such a take back, as a do.
 use board::EACH_JOB;
+use board::MOST_LINES;
 use board::Set;
 use model::JudgeAnswer;
 use model::Refusal;
 use plan::Checked;
 ghost use mathlib.Core.Bool.{true};
-ghost use mathlib.Core.Option.{none};
 ghost use mathlib.Core.Path.{_≡_};
 ghost use Prim.Native.Nat.{_≤_};
 ghost use Rattle.model.specs.Line.{isLine, maxLines};
-ghost use Rattle.model.specs.WellFormed.{fault};
 ghost use Rattle.model.specs.Board.{devices};
+ghost use Rattle.plan.specs.Again.{againFlags};
 ghost use Rattle.plan.specs.Jobs.{FirstsListed};
-ghost use Rattle.plan.specs.Walk.{setAfter};
 ghost use Rattle.promises.specs.Judge.{JudgesAs};
-ghost use Rattle.legal.specs.Steps.{isNext, passed, StepsAs};
+ghost use Rattle.legal.specs.Steps.{isNext, passed, setAfter, StepsAs};
 
-// Is the entry a legal next step? `next` has the number of each job's next line, which is 0 until the job is started,
-// and `held` the devices held.
-fn is_next(plan: &[u32], next: &[u32; EACH_JOB], held: Set, entry: u16) -> bool
-    requires { ⌜ fault devices (now plan) ≡ none ⌝ }
-    ensures { λ r. ⌜ r ≡ isNext (now (plan .entry)) (now (next .entry)) held entry ⌝ }
+// Is the line of number `n`, which counts as `l`, a legal next step? `next` has the number of each job's next line,
+// which is 0 until the job is started, and `held` the devices held. No branch stands between the two tests: every entry
+// of a legal order passes both.
+fn is_next(next: &[u32; EACH_JOB], held: Set, l: u32, n: u32) -> bool
+    requires { ⌜ isLine devices l ≡ true ⌝ }
+    ensures { λ r. ⌜ r ≡ isNext (now (next .entry)) held l n ⌝ }
 {
-    let e = entry as usize;
-    if e == 0 {
-        return false;
-    }
-    if plan.len() < e {
-        return false;
-    }
-    let l = plan[e - 1];
-    if next[line::job(l) as usize] != entry as u32 {
-        return false;
-    }
-    !sets::member_if(line::is_take(l), held, line::operand(l))
+    let stands = next[line::job(l) as usize] == n;
+    stands & !sets::member_if(line::is_take(l), held, line::operand(l))
 }
 
 // The line of number `n` is done: the next line of its job is the one after it, and that of a job that it starts is the
@@ -48,7 +39,7 @@ fn pass(next: &mut [u32; EACH_JOB], first: &[u32; EACH_JOB], l: u32, n: u32)
     next[j] = first[j];
 }
 
-// The devices held after a line: what it takes is held from now on, and what it gives is held no more.
+// The devices held after a line, as it counts: what it takes is held from now on, and what it gives is held no more.
 fn held_after(held: Set, l: u32) -> Set
     ensures { λ r. ⌜ r ≡ setAfter l held ⌝ }
 {
@@ -56,9 +47,15 @@ fn held_after(held: Set, l: u32) -> Set
     sets::differ(held, sets::only_if(handles, line::operand(l)))
 }
 
-// How many entries from the front are legal next steps.
-fn legal_steps(plan: &[u32], first: &[u32; EACH_JOB], order: &[u16]) -> usize
-    requires { ⌜ FirstsListed (now plan) (now first) ⌝ }
+// How many entries from the front are legal next steps. What a line counts as is worked out once an entry, and all that
+// follows goes by it: a take of what its job holds needs no free device, and the give of such a take frees none.
+fn legal_steps(
+    plan: &[u32],
+    first: &[u32; EACH_JOB],
+    again: &[u8; MOST_LINES],
+    order: &[u16],
+) -> usize
+    requires { ⌜ FirstsListed (now plan) (now first) × (now again ≡ againFlags (now plan)) ⌝ }
     ensures { λ r. ⌜ StepsAs (now (plan .entry)) (now (order .entry)) r ⌝ }
 {
     let mut next = [0u32; EACH_JOB];
@@ -66,12 +63,17 @@ fn legal_steps(plan: &[u32], first: &[u32; EACH_JOB], order: &[u16]) -> usize
     let mut held = sets::NONE;
     let mut k = 0;
     while k < order.len() {
-        let entry = order[k];
-        if !is_next(plan, &next, held, entry) {
+        let e = order[k] as usize;
+        if (e == 0) | (plan.len() < e) {
             return k;
         }
-        let l = plan[entry as usize - 1];
-        pass(&mut next, first, l, entry as u32);
+        let written = plan[e - 1];
+        let l = line::plain(written, again[e - 1] == 1);
+        let n = e as u32;
+        if !is_next(&next, held, l, n) {
+            return k;
+        }
+        pass(&mut next, first, l, n);
         held = held_after(held, l);
         k += 1;
     }
@@ -85,10 +87,11 @@ pub fn judge(plan: &[u32], order: &[u16]) -> JudgeAnswer
 {
     let mut first = [0u32; EACH_JOB];
     let mut starter = [0u32; EACH_JOB];
-    if let Checked::Refused(r) = plan::scan(plan, &mut first, &mut starter) {
+    let mut again = [0u8; MOST_LINES];
+    if let Checked::Refused(r) = plan::scan(plan, &mut first, &mut starter, &mut again) {
         return JudgeAnswer::Refused(r);
     }
-    let steps = legal_steps(plan, &first, order);
+    let steps = legal_steps(plan, &first, &again, order);
     if (steps == plan.len()) & (steps == order.len()) {
         return JudgeAnswer::Legal;
     }

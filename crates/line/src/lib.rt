@@ -7,6 +7,7 @@ ghost use mathlib.Core.Bool.{cond};
 ghost use Prim.Native.Nat.{_%_, _^_};
 ghost use Rattle.model.specs.Line.{pack, job, kind, operand, isTake, isGive, isStart, isLine};
 ghost use Rattle.model.specs.Board.{devices};
+ghost use Rattle.theory.specs.Outer.{plain};
 
 // So many numbers has an operand room for, from 0 on.
 pub const OPERANDS: u32 = 256;
@@ -108,6 +109,13 @@ pub fn with_operand(l: u32, o: u32) -> u32
     ensures { λ r. ⌜ r ≡ pack (job l) (kind l) (o % 256) ⌝ }
 {
     pack(job(l), kind(l), o)
+}
+
+// What a line counts as (02, request 2): one that takes again what its job holds, or gives such a take back, as a do.
+pub fn plain(l: u32, again: bool) -> u32
+    ensures { λ r. ⌜ r ≡ plain again l ⌝ }
+{
+    choose(again, pack(job(l), 0, operand(l)), l)
 }
 
 // The first number, or the other. Where it stands for a branch, the processor has nothing to foretell.

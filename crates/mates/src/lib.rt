@@ -1,8 +1,9 @@
-// The give that matches a take (01, "Rules of a well-formed plan"), found by depth in the take's job.
+// The give that matches a take (01, "Rules of a well-formed plan"), found by depth in the take's job; and where the
+// job's lines end, if there is none.
 ghost use mathlib.Core.Path.{_≡_};
 ghost use Prim.Native.Nat.{_-_, _^_, _<_};
-ghost use Rattle.model.specs.Mate.{mate};
-ghost use Rattle.mates.specs.Found.{found, passedBy};
+ghost use Rattle.mates.specs.Found.{passedBy};
+ghost use Rattle.mates.specs.Span.{spanOf};
 
 // A position that may be found.
 pub enum Found {
@@ -33,12 +34,19 @@ fn passed(n: u32, depth: usize) -> Search
     Search::Goes(depth)
 }
 
-// The position of the give that matches the take at position i, if it has one.
-pub fn mate(plan: &[u32], i: usize) -> Found
-    ensures { λ r. ⌜ r ≡ found (mate (now (plan .entry)) i) ⌝ }
+// How far what was taken is held: to the give at this position, or, where none matches, to the end of the job's lines,
+// which is the position after them.
+pub enum Span {
+    Given(usize),
+    Kept(usize),
+}
+
+// How far what the take at position i takes is held.
+pub fn span_of(plan: &[u32], i: usize) -> Span
+    ensures { λ r. ⌜ r ≡ spanOf (now (plan .entry)) i ⌝ }
 {
     if plan.len() <= i {
-        return Found::Nothing;
+        return Span::Kept(plan.len());
     }
     let j = line::job(plan[i]);
     let mut depth: usize = 0;
@@ -46,11 +54,11 @@ pub fn mate(plan: &[u32], i: usize) -> Found
     while k < plan.len() {
         let n = plan[k];
         if line::job(n) != j {
-            return Found::Nothing;
+            return Span::Kept(k);
         }
         match passed(n, depth) {
             Search::Ends => {
-                return Found::At(k);
+                return Span::Given(k);
             }
             Search::Goes(d) => {
                 depth = d;
@@ -58,5 +66,5 @@ pub fn mate(plan: &[u32], i: usize) -> Found
             }
         }
     }
-    Found::Nothing
+    Span::Kept(k)
 }

@@ -1,8 +1,8 @@
 -- Worked cases beside the starred ones of 01, as one table, for what those do not reach: each row has what the
--- definitions make of a case, computed from them, and what 01 says it is, or 02 of an order from elsewhere (request 1),
--- where each group says what wrong judge it excludes. Texts are written as they stand in a file.
--- Lent lists are filled with 99, which no case has; the values of an answer are 0 and the value, or a refusal's number
--- and place. The record is the one statement.
+-- definitions make of a case, computed from them, and what 01 says it is, or 02 of devices taken again (request 2) and
+-- of an order from elsewhere (request 1), where each group says what wrong judge it excludes. Texts are written as they
+-- stand in a file. Lent lists are filled with 99, which no case has; the values of an answer are 0 and the value, or a
+-- refusal's number and place. The record is the one statement.
 use Prim.Native.Nat.{ℕ}
 use Prim.Native.Char.{code}
 use Prim.Native.String.{String, [] as nothing, _∷_ as _then_}
@@ -27,7 +27,8 @@ use Rattle.model.specs.declared.ReadAnswer.{ReadAnswer}
 use Rattle.model.specs.declared.WriteAnswer.{WriteAnswer}
 use Rattle.model.specs.declared.TableAnswer.{TableAnswer}
 use Rattle.model.specs.declared.VerdictAnswer.{VerdictAnswer}
-use Rattle.model.proofs.Starred.{_does_, _takes_, _gives_, _starts_, planA, planD, planF, moved}
+use Rattle.model.proofs.Starred.{_does_, _takes_, _gives_, _starts_, planA, planD, planF, planJ, planK, planM}
+use Rattle.model.proofs.Starred.{moved}
 
 -- the bytes of a text, which has none but those of ASCII
 pub bytes : String → List ℕ
@@ -166,6 +167,11 @@ pub planTwice : List ℕ
 unfolding _takes_ _starts_
 planTwice = 1 starts 2 ∷ 1 takes 5 ∷ 1 takes 3 ∷ 2 takes 3 ∷ 2 takes 5 ∷ []
 
+-- lines under a take of 0, and two after them
+pub planUnder : List ℕ
+unfolding _does_ _takes_ _gives_
+planUnder = 1 does 0 ∷ 1 takes 0 ∷ 1 does 0 ∷ 1 does 0 ∷ 1 gives 0 ∷ 1 does 0 ∷ []
+
 -- The table.
 pub record Worked : Type 0 where
   -- texts read and written, in lists that are just long enough, one too long or one too short
@@ -182,14 +188,14 @@ pub record Worked : Type 0 where
   -- what is printed, and shown on the screens
   pub A-printed : printed devices textA ≡ printA
   pub nothing-printed : printed devices [] ≡ bytes "order\t0\t0\n"
-  pub refusal-printed : printed devices (bytes "1\ttake\t3\n1\ttake\t3\n") ≡ bytes "refused\t8\t2\n"
+  pub refusal-printed : printed devices (bytes "1\ttake\t3\n1\tgive\t2\n") ≡ bytes "refused\t7\t2\n"
   pub no-order-printed : printed devices (bytes "1\ttake\t0\n1\tstart\t2\n2\ttake\t0\n2\tgive\t0\n")
       ≡ bytes "refused\t10\t0\n"
   pub full-printed : printed devices (replicate 12288 10) ≡ bytes "refused\t2\t1\n"
   pub length-printed : printed devices (replicate 12289 10) ≡ bytes "refused\t1\t0\n"
   pub A-shown : shownIn 4027 textA ≡ (22 ∷ []) ∷ (printA ++ replicate 4005 99) ∷ []
-  pub refusal-shown : shownIn 4027 (bytes "1\ttake\t3\n1\ttake\t3\n")
-      ≡ (12 ∷ []) ∷ (bytes "refused\t8\t2\n" ++ replicate 4015 99) ∷ []
+  pub refusal-shown : shownIn 4027 (bytes "1\ttake\t3\n1\tgive\t2\n")
+      ≡ (12 ∷ []) ∷ (bytes "refused\t7\t2\n" ++ replicate 4015 99) ∷ []
   pub A-not-shown : shownIn 4026 textA ≡ (0 ∷ []) ∷ replicate 4026 99 ∷ []
   -- the ranges at their ends
   pub jobs : map (λ j. isStep devices j 0 0) (0 ∷ 1 ∷ 64 ∷ 65 ∷ []) ≡ false ∷ true ∷ true ∷ false ∷ []
@@ -206,7 +212,7 @@ pub record Worked : Type 0 where
   pub next-last : nextAt textA 10 1023 ≡ 0 ∷ 1 takes 1 ∷ 19 ∷ 1024 ∷ []
   pub next-end : nextAt textA 53 1024 ≡ 0 ∷ []
   pub next-by-offset : lineValues (lineFrom devices textA 19) ≡ 0 ∷ 1 does 7 ∷ 26 ∷ 3 ∷ []
-  -- 2 to 8, with their places, and which comes first
+  -- 2 to 7, with their places, and which comes first
   pub two : map faultOf ((1 does 0 ∷ 0 ∷ []) ∷ (65 does 0 ∷ []) ∷ []) ≡ (2 ∷ 2 ∷ []) ∷ (2 ∷ 1 ∷ []) ∷ []
   pub three : map (λ lines. faultAfter lines (1 does 0)) (1023 ∷ 1024 ∷ []) ≡ [] ∷ (3 ∷ 1025 ∷ []) ∷ []
   pub three-first : faultAfter 1024 0 ≡ 3 ∷ 1025 ∷ []
@@ -223,8 +229,11 @@ pub record Worked : Type 0 where
   pub seven : faultOf (1 takes 0 ∷ 1 takes 1 ∷ 1 gives 0 ∷ []) ≡ 7 ∷ 3 ∷ []
   pub seven-first-line : faultOf (1 gives 0 ∷ 1 gives 0 ∷ []) ≡ 7 ∷ 1 ∷ []
   pub seven-before-five : faultOf (1 starts 2 ∷ 1 gives 0 ∷ []) ≡ 7 ∷ 2 ∷ []
-  pub eight : faultOf (1 takes 3 ∷ 1 takes 3 ∷ []) ≡ 8 ∷ 2 ∷ []
-  pub taken-again : faultOf (1 takes 0 ∷ 1 gives 0 ∷ 1 takes 0 ∷ []) ≡ []
+  -- 8 is given no more; gives match the take made last, also of a device taken again
+  pub taken-again : map faultOf ((1 takes 3 ∷ 1 takes 3 ∷ []) ∷ (1 takes 0 ∷ 1 gives 0 ∷ 1 takes 0 ∷ []) ∷ [])
+      ≡ [] ∷ [] ∷ []
+  pub given-once-more : faultOf (1 takes 0 ∷ 1 takes 0 ∷ 1 gives 0 ∷ 1 gives 0 ∷ 1 gives 0 ∷ []) ≡ 7 ∷ 5 ∷ []
+  pub seven-around : faultOf (1 takes 0 ∷ 1 takes 1 ∷ 1 takes 0 ∷ 1 gives 1 ∷ []) ≡ 7 ∷ 4 ∷ []
   -- A's device 1 is held where job 1 took it, or job 2, and not once job 2 gave it
   pub A-held : map (λ done. held planA done 1) ((0 ∷ 1 ∷ []) ∷ (3 ∷ 4 ∷ []) ∷ (3 ∷ 4 ∷ 5 ∷ []) ∷ [])
       ≡ true ∷ true ∷ false ∷ []
@@ -245,20 +254,45 @@ pub record Worked : Type 0 where
   pub tabled-short : tabledInto 5 planA ≡ (11 ∷ 6 ∷ []) ∷ replicate 5 99 ∷ []
   pub ordered-short : orderedInto 7 planRing ≡ (11 ∷ 8 ∷ []) ∷ replicate 7 99 ∷ []
   pub moved-short : movedWith planA (3 ∷ 2 ∷ 0 ∷ 3 ∷ 2 ∷ []) 0 32 ≡ 11 ∷ 6 ∷ []
-  -- moves of A's claims: 12, then 13, then 14 at the nearest stale line on the way, then 8 where the edited plan has
-  -- it; a stale set off the way bars nothing, and the present device changes nothing
+  -- moves of A's claims: 12, then 13, then 14 at the nearest stale line; a stale set that the move may not change bars
+  -- nothing, and the present device changes nothing
   pub twelve : map (λ line. movedWith planA tableA line 32) (0 ∷ 1 ∷ 6 ∷ 7 ∷ [])
       ≡ (12 ∷ 0 ∷ []) ∷ (12 ∷ 1 ∷ []) ∷ (12 ∷ 6 ∷ []) ∷ (12 ∷ 7 ∷ []) ∷ []
   pub twelve-nought : movedWith (1 takes 0 ∷ []) (1 ∷ []) 0 1 ≡ 12 ∷ 0 ∷ []
   pub thirteen : movedWith planA (3 ∷ 2 ∷ 0 ∷ 7 ∷ 2 ∷ 0 ∷ []) 5 32 ≡ 13 ∷ 32 ∷ []
   pub fourteen : movedWith planA (3 ∷ 2 ∷ 0 ∷ 7 ∷ 2 ∷ 0 ∷ []) 5 0 ≡ 14 ∷ 4 ∷ []
   pub fourteen-not : movedWith planA (3 ∷ 2 ∷ 1 ∷ 3 ∷ 2 ∷ 0 ∷ []) 5 31 ≡ 0 ∷ 3 ∷ []
-  pub eight-moved : movedWith planA tableA 5 0 ≡ 8 ∷ 5 ∷ []
-  pub eight-below : movedWith planA tableA 4 1 ≡ 8 ∷ 5 ∷ []
   pub not-moved : movedWith planA tableA 5 1 ≡ 0 ∷ 0 ∷ []
+  -- onto a device that the job holds: line 5 claims nothing any more, so that line 4 claims 0 alone (3 and 2 become 1
+  -- and 0); onto one that it takes later: line 4 takes 1, line 5 takes it again (lines 1, 4, 5: 3, 3, 2 become 2, 2, 0)
+  pub onto-held : moved planA 5 0
+      ≡ (0 ∷ 2 ∷ []) ∷ (1 starts 2 ∷ 1 takes 1 ∷ 1 does 7 ∷ 2 takes 0 ∷ 2 takes 0 ∷ 2 gives 0 ∷ [])
+      ∷ (3 ∷ 2 ∷ 0 ∷ 1 ∷ 0 ∷ 0 ∷ 99 ∷ []) ∷ []
+  pub onto-later : moved planA 4 1
+      ≡ (0 ∷ 3 ∷ []) ∷ (1 starts 2 ∷ 1 takes 1 ∷ 1 does 7 ∷ 2 takes 1 ∷ 2 takes 1 ∷ 2 gives 1 ∷ [])
+      ∷ (2 ∷ 2 ∷ 0 ∷ 2 ∷ 0 ∷ 0 ∷ 99 ∷ []) ∷ []
+  -- of a take that is taken again: M's line 2 claims 1 now, and so does line 1 beside 0; J's line 2, which is not given
+  -- back, claims 0; the present device changes nothing
+  pub inner-moved : moved planM 2 1
+      ≡ (0 ∷ 2 ∷ []) ∷ (1 takes 0 ∷ 1 takes 1 ∷ 1 gives 1 ∷ 1 gives 0 ∷ []) ∷ (3 ∷ 2 ∷ 0 ∷ 0 ∷ 99 ∷ []) ∷ []
+  pub inner-kept : moved planJ 2 0 ≡ (0 ∷ 2 ∷ []) ∷ (1 takes 3 ∷ 1 takes 0 ∷ []) ∷ (9 ∷ 1 ∷ 99 ∷ []) ∷ []
+  pub inner-present : movedWith planM (1 ∷ 0 ∷ 0 ∷ 0 ∷ []) 2 0 ≡ 0 ∷ 0 ∷ []
+  -- away from the device that a line further down takes: line 3 claims 0 now, and the line between them with it
+  pub under-joined : moved (1 takes 0 ∷ 1 does 7 ∷ 1 takes 0 ∷ 1 gives 0 ∷ 1 gives 0 ∷ []) 1 1
+      ≡ (0 ∷ 3 ∷ []) ∷ (1 takes 1 ∷ 1 does 7 ∷ 1 takes 0 ∷ 1 gives 0 ∷ 1 gives 1 ∷ [])
+      ∷ (3 ∷ 1 ∷ 1 ∷ 0 ∷ 0 ∷ 99 ∷ []) ∷ []
+  -- 14 at a line under the take: of several the nearest, and one on the way before all of them; to the job's end where
+  -- the take lasts. The give, what comes after it and another job's lines bar nothing
+  pub fourteen-under : map (λ sets. movedWith planUnder sets 2 1)
+      ((5 ∷ 5 ∷ 4 ∷ 4 ∷ 0 ∷ 0 ∷ []) ∷ (5 ∷ 5 ∷ 4 ∷ 6 ∷ 0 ∷ 0 ∷ []) ∷ (7 ∷ 5 ∷ 4 ∷ 4 ∷ 0 ∷ 0 ∷ []) ∷ [])
+      ≡ (14 ∷ 4 ∷ []) ∷ (14 ∷ 3 ∷ []) ∷ (14 ∷ 1 ∷ []) ∷ []
+  pub fourteen-to-end : movedWith planA (11 ∷ 2 ∷ 0 ∷ 11 ∷ 10 ∷ 8 ∷ []) 4 2 ≡ 14 ∷ 6 ∷ []
+  pub fourteen-past : map (λ sets. movedWith planUnder sets 2 1)
+      ((9 ∷ 9 ∷ 8 ∷ 8 ∷ 8 ∷ 0 ∷ []) ∷ (9 ∷ 9 ∷ 8 ∷ 8 ∷ 8 ∷ 8 ∷ []) ∷ []) ≡ (0 ∷ 2 ∷ []) ∷ (0 ∷ 2 ∷ []) ∷ []
+  pub fourteen-other-job : movedWith planA (11 ∷ 2 ∷ 0 ∷ 11 ∷ 10 ∷ 8 ∷ []) 2 3 ≡ 0 ∷ 1 ∷ []
   -- a refused move leaves plan and sets; a lasting take moves alone; F, which has no order, can be moved, and the way
   -- goes on past the start to line 1
-  pub eight-leaves : moved planA 5 0 ≡ (8 ∷ 5 ∷ []) ∷ planA ∷ (tableA ++ (99 ∷ [])) ∷ []
+  pub thirteen-leaves : moved planA 5 32 ≡ (13 ∷ 32 ∷ []) ∷ planA ∷ (tableA ++ (99 ∷ [])) ∷ []
   pub lasting-moved : movedWith planA tableA 4 2 ≡ 0 ∷ 2 ∷ []
   pub F-moved : movedWith planF (1 ∷ 1 ∷ 1 ∷ 0 ∷ []) 3 1 ≡ 0 ∷ 3 ∷ []
   -- Legal entries are those of any legal order: the one handed out, one with the other job first, and one that goes
@@ -295,8 +329,13 @@ pub record Worked : Type 0 where
   pub first-judged : judgedOf planA (1 ∷ 4 ∷ 9 ∷ 0 ∷ []) ≡ 15 ∷ 3 ∷ []
   -- what is broken in the plan comes before 15; where it has no legal order, the place in the list is named all the
   -- same. This excludes a judge that asks for the verdict first.
-  pub broken-judged : judgedOf (1 takes 3 ∷ 1 takes 3 ∷ []) (9 ∷ []) ≡ 8 ∷ 2 ∷ []
+  pub broken-judged : judgedOf (1 takes 3 ∷ 1 gives 2 ∷ []) (9 ∷ []) ≡ 7 ∷ 2 ∷ []
   pub no-order-judged : map (judgedOf planF) ((1 ∷ 2 ∷ 3 ∷ 4 ∷ []) ∷ (1 ∷ 2 ∷ []) ∷ []) ≡ replicate 2 (15 ∷ 3 ∷ [])
+  -- a device taken again needs no free device, and is free when the outermost give is done. This excludes a judge that
+  -- frees it at the inner give, or refuses the take again.
+  pub again-judged : map (judgedOf planK)
+      ((1 ∷ 2 ∷ 3 ∷ 4 ∷ 5 ∷ 6 ∷ 7 ∷ 8 ∷ 9 ∷ []) ∷ (1 ∷ 2 ∷ 3 ∷ 4 ∷ 5 ∷ 8 ∷ 6 ∷ 7 ∷ 9 ∷ []) ∷ [])
+      ≡ (0 ∷ []) ∷ (15 ∷ 6 ∷ []) ∷ []
   -- The judge's texts: with the line that parts, its order and another; without it, where the list is empty; and where
   -- that line is the first or there is nothing, and the plan is. This excludes a program that wants the line.
   pub legal-texts : map judgedText
@@ -327,16 +366,16 @@ pub record Worked : Type 0 where
       ≡ replicate 4 (bytes "refused\t15\t1\n")
   pub entry-past : map judgedAfter ("1\n\n" ∷ "1\n1" ∷ [])
       ≡ replicate 2 (bytes "refused\t15\t2\n")
-  -- 1 counts the plan's bytes alone, and comes first; then 2 to 8, before 15. This excludes a program that measures
+  -- 1 counts the plan's bytes alone, and comes first; then 2 to 7, before 15. This excludes a program that measures
   -- the whole text.
   pub full-plan : judgePrinted devices (replicate 12288 10 ++ bytes "--\n") ≡ bytes "refused\t2\t1\n"
   pub long-plan : judgePrinted devices (replicate 12289 10 ++ bytes "--\n") ≡ bytes "refused\t1\t0\n"
-  pub broken-plan : judgedText "1\ttake\t3\n1\ttake\t3\n--\n0\n" ≡ bytes "refused\t8\t2\n"
+  pub broken-plan : judgedText "1\ttake\t3\n1\tgive\t2\n--\n0\n" ≡ bytes "refused\t7\t2\n"
 
 pub worked : Worked
 unfolding bytes valuesOf faultOf faultAfter readInto writtenInto tabledInto orderedInto orderOf shownIn nextAt movedWith
     judgedOf judgedText judgedAfter judgePrinted lineFrom textA printA tableA wide wideText notLines planRing planFour
-    planWaits planTwice planA planD planF moved held
+    planWaits planTwice planUnder planA planD planF planJ planK planM moved held
 worked =
     record {
       A-read = refl;
@@ -387,7 +426,8 @@ worked =
       seven = refl;
       seven-first-line = refl;
       seven-before-five = refl;
-      eight = refl;
+      given-once-more = refl;
+      seven-around = refl;
       taken-again = refl;
       A-held = refl;
       waits = refl;
@@ -409,10 +449,18 @@ worked =
       thirteen = refl;
       fourteen = refl;
       fourteen-not = refl;
-      eight-moved = refl;
-      eight-below = refl;
+      onto-held = refl;
+      onto-later = refl;
+      inner-moved = refl;
+      inner-kept = refl;
+      inner-present = refl;
+      under-joined = refl;
+      fourteen-under = refl;
+      fourteen-to-end = refl;
+      fourteen-past = refl;
+      fourteen-other-job = refl;
       not-moved = refl;
-      eight-leaves = refl;
+      thirteen-leaves = refl;
       lasting-moved = refl;
       F-moved = refl;
       A-judged = refl;
@@ -430,6 +478,7 @@ worked =
       first-judged = refl;
       broken-judged = refl;
       no-order-judged = refl;
+      again-judged = refl;
       legal-texts = refl;
       no-parting = refl;
       empty-texts = refl;

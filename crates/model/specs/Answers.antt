@@ -1,6 +1,7 @@
 -- 01, "Refusal numbers", and 02's so far: the number and the place of each refusal, and for each answer its values: 0
 -- where the entry succeeded, else the refusal's number; then what the case carries. The end of the lines and a legal
--- order are 0 alone. And how the tests of an entry decide: by the first that refuses.
+-- order are 0 alone. And how the tests of an entry decide: by the first that refuses. (8 is given no more: 02,
+-- request 2.)
 use Prim.Native.Nat.{ℕ}
 use mathlib.Core.Bool.{Bool, true, false}
 use mathlib.Core.List.{List, [], _∷_}
@@ -8,7 +9,7 @@ use mathlib.Core.Option.{Option, none, some}
 use lib.Dec.{ltb}
 use Rattle.model.specs.declared.Refusal.{Refusal}
 use Rattle.model.specs.declared.Refusal.the-variants.{TextTooLong, Malformed, TooManyLines, JobOutOfSequence}
-use Rattle.model.specs.declared.Refusal.the-variants.{BadStart, NeverStarted, GiveWithoutTake, TakeOfHeld}
+use Rattle.model.specs.declared.Refusal.the-variants.{BadStart, NeverStarted, GiveWithoutTake}
 use Rattle.model.specs.declared.Refusal.the-variants.{TwoLasting, LeadsBack, ListTooShort, NotATake}
 use Rattle.model.specs.declared.Refusal.the-variants.{NoSuchDevice, StaleTable, IllegalStep}
 use Rattle.model.specs.declared.LineAnswer.{LineAnswer}
@@ -27,7 +28,6 @@ numberOf (JobOutOfSequence line) = 4
 numberOf (BadStart line) = 5
 numberOf (NeverStarted line) = 6
 numberOf (GiveWithoutTake line) = 7
-numberOf (TakeOfHeld line) = 8
 numberOf (TwoLasting device) = 9
 numberOf (LeadsBack device) = 10
 numberOf (ListTooShort needed) = 11
@@ -44,7 +44,6 @@ placeOf (JobOutOfSequence line) = line
 placeOf (BadStart line) = line
 placeOf (NeverStarted line) = line
 placeOf (GiveWithoutTake line) = line
-placeOf (TakeOfHeld line) = line
 placeOf (TwoLasting device) = device
 placeOf (LeadsBack device) = device
 placeOf (ListTooShort needed) = needed

@@ -15,7 +15,7 @@ use Rattle.model.specs.WellFormed.{fault}
 use Rattle.model.specs.Claims.{table}
 use Rattle.model.specs.Handed.{handed}
 use Rattle.model.specs.Verdict.{noOrder, heldAtEnd}
-use Rattle.model.specs.Move.{edited, way, rewritten, changed, askedAt, moveRefusal}
+use Rattle.model.specs.Move.{edited, fromLast, rewritten, changed, askedAt, moveRefusal}
 use Rattle.model.specs.declared.Refusal.{Refusal}
 use Rattle.model.specs.declared.Refusal.the-variants.{TextTooLong}
 use Rattle.model.specs.declared.ReadAnswer.{ReadAnswer}
@@ -62,7 +62,7 @@ tabling D p lent =
     outcome TableAnswer.Refused (firstRefusal (fault D p ∷ tooShort (length lent) (length p) ∷ []))
     (TableAnswer.Lines (length p)) (over (table p) lent) lent
 
--- The verdict, with the order's line numbers in a lent list. Its tests: 2 to 8, 11, then 9 and 10.
+-- The verdict, with the order's line numbers in a lent list. Its tests: 2 to 7, 11, then 9 and 10.
 abbrev pub verdictRefusal : ℕ → List ℕ → List ℕ → Option Refusal
 verdictRefusal D p lent = firstRefusal (fault D p ∷ tooShort (length lent) (length p) ∷ noOrder D p ∷ [])
 
@@ -78,10 +78,10 @@ pub record Lent : Type 0 where
   pub sets : List ℕ
 
 unfoldable pub moving : ℕ → List ℕ → List ℕ → ℕ → ℕ → Outcome MoveAnswer Lent
-unfolding outcome moveRefusal askedAt edited rewritten way changed
+unfolding outcome moveRefusal askedAt edited rewritten fromLast changed
 moving D p t line device =
     let i : ℕ = askedAt line in
     let plan : List ℕ = edited p i device in
-    let sets : List ℕ = rewritten plan t (way p i) in
+    let sets : List ℕ = rewritten plan t (fromLast p i) in
     outcome MoveAnswer.Refused (moveRefusal D p t line device)
     (MoveAnswer.Changed (changed p t sets)) (record { plan = plan; sets = sets }) (record { plan = p; sets = t })

@@ -1,5 +1,5 @@
--- 01, "The order handed out". The state is the list of the lines done; each turn hands out a run of lines by (a) or
--- (b).
+-- 01, "The order handed out", with takes as 02, request 2, has them: a take of a device that its job holds is an
+-- ordinary line. The state is the list of the lines done; each turn hands out a run of lines by (a) or (b).
 use Prim.Native.Nat.{ℕ, zero, suc, _-_}
 use mathlib.Core.Bool.{Bool, cond, not, _&&_}
 use mathlib.Core.List.{List, [], _++_}
@@ -26,7 +26,7 @@ unfoldable pub goingOn : List ℕ → List ℕ → Option ℕ
 unfolding firstOf lastingAt standing
 goingOn p u = firstOf (λ i. not (lastingAt p i)) (standing p u)
 
--- nobody else still wants the device of line i
+-- nobody else still wants the device of line i: no other undone line is an outermost take of it
 unfoldable pub alone : List ℕ → List ℕ → ℕ → Bool
 unfolding any takes deviceAt
 alone p u i = not (any (λ k. not (eqb k i) && takes p k (deviceAt p i)) u)
@@ -36,7 +36,7 @@ unfoldable pub lastingNext : List ℕ → List ℕ → Option ℕ
 unfolding leastBy those lastingAt alone standing deviceAt
 lastingNext p u = leastBy (deviceAt p) (those (λ i. lastingAt p i && alone p u i) (standing p u))
 
--- a turn's lines from line i on: a pair is done whole, anything else is one line
+-- a turn's lines from line i on: an outermost take that is given back is done up to its give, anything else is one line
 unfoldable pub lastOf : List ℕ → ℕ → ℕ
 unfolding takesAt mate
 lastOf p i = cond (takesAt p i) (Option·getD (mate p i) i) i

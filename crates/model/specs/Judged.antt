@@ -41,7 +41,7 @@ unfoldable pub stray : List ℕ → List ℕ → Option ℕ
 unfolding strayAfter
 stray p es = strayAfter p [] 0 es
 
--- The judge's tests: those of the plan, 2 to 8; then 15. It is lent nothing to write to, so its outcome is its answer.
+-- The judge's tests: those of the plan, 2 to 7; then 15. It is lent nothing to write to, so its outcome is its answer.
 unfoldable pub judgeRefusal : ℕ → List ℕ → List ℕ → Option Refusal
 unfolding firstRefusal fault refuseAt stray
 judgeRefusal D p es = firstRefusal (fault D p ∷ refuseAt IllegalStep (stray p es) ∷ [])
@@ -80,7 +80,7 @@ unfoldable pub entriesOf : List (List ℕ) → List ℕ
 unfolding entryOf entryPart
 entriesOf ls = map entryOf (entryPart ls)
 
--- 1 to 8 of the plan's text; then 15
+-- 1 to 7 of the plan's text; then 15
 unfoldable pub judgeTextRefusal : ℕ → List ℕ → Option Refusal
 unfolding firstRefusal textFault refuseAt stray spelt planPart entriesOf linesOf
 judgeTextRefusal D text =

@@ -1,4 +1,5 @@
--- 01, "Legal orders", by positions. An order is built step by step: `done` are the lines that went before a step.
+-- 01, "Legal orders", by positions. An order is built step by step: `done` are the lines that went before a step. A
+-- take of a device that its own job holds needs no free device, and frees none when it is given back (02, request 2).
 use Prim.Native.Nat.{ℕ, _<_}
 use mathlib.Core.Bool.{Bool, true, false, not, _&&_, _||_}
 use mathlib.Core.List.{List, [], _∷_, _++_}
@@ -26,7 +27,7 @@ unfoldable pub givenBack : List ℕ → List ℕ → ℕ → Bool
 unfolding doneAt mate
 givenBack p done k = doneAt done (mate p k)
 
--- device d is held: a line done took it and it was not given back
+-- device d is held: an outermost take of it is done and was not given back
 unfoldable pub held : List ℕ → List ℕ → ℕ → Bool
 unfolding any takes givenBack
 held p done d = any (λ k. takes p k d && not (givenBack p done k)) done

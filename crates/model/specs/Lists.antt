@@ -41,6 +41,11 @@ unfoldable pub firstOf : (ℕ → Bool) → List ℕ → Option ℕ
 firstOf f [] = none
 firstOf f (x ∷ xs) = elim (f x) [ true ↦ some x | false ↦ firstOf f xs ]
 
+-- the last of a list; of an empty one, the number given
+unfoldable pub lastOr : ℕ → List ℕ → ℕ
+lastOr x [] = x
+lastOr x (y ∷ ys) = lastOr y ys
+
 -- of x and the one found so far, the one with the lower key; x where the keys are equal
 unfoldable pub lower : (ℕ → ℕ) → ℕ → Option ℕ → Option ℕ
 lower key x none = some x

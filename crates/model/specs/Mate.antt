@@ -1,22 +1,30 @@
--- 01, "Rules of a well-formed plan": takes, the give that matches a take, and the lasting takes. Gives match the take
--- made last, so the mate is found by depth: a take goes one deeper, a give comes one back, and the give at depth 0 is
--- the mate.
+-- 01, "Rules of a well-formed plan", and 02, request 2: takes, the give that matches a take, and the lasting takes. A
+-- job may take again what it holds; what is said of takes (claims, rows, who may follow, who waits) is said of the
+-- outermost ones. Gives match the take made last, so the mate of any take is found by depth: a take goes one deeper, a
+-- give comes one back, and the give at depth 0 is the mate.
 use Prim.Native.Nat.{ℕ, zero, suc}
-use mathlib.Core.Bool.{Bool, true, false, _&&_}
+use mathlib.Core.Bool.{Bool, true, false, not, _&&_}
 use mathlib.Core.List.{List, [], _∷_}
 use mathlib.Core.Option.{Option, none, some}
 use lib.Dec.{eqb}
 use lib.ListN.{drop}
+use Rattle.model.specs.Lists.{has}
 use Rattle.model.specs.Line.{job, operand, isTake, isGive, at}
+use Rattle.model.specs.WellFormed.{before, heldBy, heldThere}
 
--- Takes are asked of a plan and a position: the line there is a take; its device; it is a take of device d.
-unfoldable pub takesAt : List ℕ → ℕ → Bool
-unfolding isTake
-takesAt p i = isTake (at p i)
-
+-- Takes are asked of a plan and a position. The device of the line there; its job holds that device already; the line
+-- is an outermost take, of a device that its job does not hold there; it is one of device d.
 unfoldable pub deviceAt : List ℕ → ℕ → ℕ
 unfolding operand
 deviceAt p i = operand (at p i)
+
+unfoldable pub holdsAlready : List ℕ → ℕ → Bool
+unfolding has deviceAt job before heldBy
+holdsAlready p i = has (deviceAt p i) (heldThere p i)
+
+unfoldable pub takesAt : List ℕ → ℕ → Bool
+unfolding isTake holdsAlready
+takesAt p i = isTake (at p i) && not (holdsAlready p i)
 
 unfoldable pub takes : List ℕ → ℕ → ℕ → Bool
 unfolding takesAt deviceAt

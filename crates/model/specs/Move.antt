@@ -1,13 +1,13 @@
--- 01, "Moving a claim".
-use Prim.Native.Nat.{ℕ, zero, suc}
+-- 01, "Moving a claim", with the lines that 02, request 2, adds to those that a move may change.
+use Prim.Native.Nat.{ℕ, zero, suc, _-_}
 use mathlib.Core.Bool.{Bool, true, false, not, _||_}
-use mathlib.Core.List.{List, [], _∷_}
-use mathlib.Core.Option.{Option, none, some}
+use mathlib.Core.List.{List, [], _∷_, _++_}
+use mathlib.Core.Option.{Option, none, some, Option·getD}
 use lib.Dec.{eqb, leb}
 use lib.ListN.{length, getD, set}
-use Rattle.model.specs.Lists.{positions, firstOf, those}
+use Rattle.model.specs.Lists.{upFrom, positions, firstOf, those, lastOr}
 use Rattle.model.specs.Sets.{union}
-use Rattle.model.specs.Answers.{numberOf, refuseIf, refuseAt, firstRefusal, tooShort}
+use Rattle.model.specs.Answers.{refuseIf, refuseAt, firstRefusal, tooShort}
 use Rattle.model.specs.Line.{pack, job, kind, isTake, starts, at, lineNumber}
 use Rattle.model.specs.Mate.{mate}
 use Rattle.model.specs.WellFormed.{fault}
@@ -42,6 +42,28 @@ unfoldable pub way : List ℕ → ℕ → List ℕ
 unfolding wayIn job
 way p i = wayIn p (job (at p i)) (suc i)
 
+-- the position of the take's mate or, where it has none, the plan's end
+unfoldable pub until : List ℕ → ℕ → ℕ
+unfolding mate
+until p i = Option·getD (mate p i) (length p)
+
+-- the lines after the take at i and before its give, or to its job's end, in line order: another device at the take
+-- makes takes among them outermost, or no longer so
+unfoldable pub under : List ℕ → ℕ → List ℕ
+unfolding those job upFrom until
+under p i = those (λ k. eqb (job (at p k)) (job (at p i))) (upFrom (suc i) (until p i - suc i))
+
+-- the lines whose sets a move may change, in the order in which they are tested: the way, then the lines under the take
+unfoldable pub mayChange : List ℕ → ℕ → List ℕ
+unfolding way under
+mayChange p i = way p i ++ under p i
+
+-- The same lines in the order in which they are joined. A set is joined from those of later lines, so this goes from
+-- the last of them back to line 1: it is the way of the last line under the take.
+unfoldable pub fromLast : List ℕ → ℕ → List ℕ
+unfolding way lastOr under
+fromLast p i = way p (lastOr i (under p i))
+
 -- the set that line i should have, going by what the table stores for its successors
 unfoldable pub rejoined : List ℕ → List ℕ → ℕ → ℕ
 unfolding union own beyond
@@ -73,22 +95,14 @@ unfolding isTake
 isTakeOf p zero = false
 isTakeOf p (suc i) = isTake (at p i)
 
--- a refusal, if its number is the one asked for
-unfoldable pub ofNumber : ℕ → Option Refusal → Option Refusal
-unfolding refuseIf
-ofNumber n none = none
-ofNumber n (some r) = refuseIf (eqb (numberOf r) n) r
-
--- The tests, in their order. Of a plan without a fault the edited one has none but 8 (shown in `theory`, Edited).
+-- The tests, in their order. Of a plan without a fault the edited one has none (shown in `theory`, Edited).
 unfoldable pub moveRefusal : ℕ → List ℕ → List ℕ → ℕ → ℕ → Option Refusal
-unfolding firstRefusal fault tooShort refuseIf isTakeOf refuseAt firstOf stale way ofNumber edited askedAt lineNumber
+unfolding firstRefusal fault tooShort refuseIf isTakeOf refuseAt firstOf stale mayChange askedAt lineNumber
 moveRefusal D p t line device =
-    let i : ℕ = askedAt line in
     firstRefusal
     (fault D p
     ∷ tooShort (length t) (length p)
     ∷ refuseIf (not (isTakeOf p line)) (NotATake line)
     ∷ refuseIf (leb D device) (NoSuchDevice device)
-    ∷ refuseAt (λ k. StaleTable (lineNumber k)) (firstOf (stale p t) (way p i))
-    ∷ ofNumber 8 (fault D (edited p i device))
+    ∷ refuseAt (λ k. StaleTable (lineNumber k)) (firstOf (stale p t) (mayChange p (askedAt line)))
     ∷ [])

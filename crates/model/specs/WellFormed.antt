@@ -1,5 +1,6 @@
--- 01, "Rules of a well-formed plan", as its five sentences, and "Refusal numbers", 2 to 8: each fault of a plan with
--- its place, in the order of the tests. (That a plan has no fault exactly if it is WellFormed is shown in `theory`.)
+-- 01, "Rules of a well-formed plan", as the first four of its five rules (02, request 2, takes the last, that of takes,
+-- away), and "Refusal numbers", 2 to 7: each fault of a plan with its place, in the order of the tests. (That a plan
+-- has no fault exactly if it is WellFormed is shown in `theory`.)
 use Prim.Native.Nat.{ℕ, zero, suc, _<_, _≤_}
 use mathlib.Core.Bool.{Bool, true, false, not, _&&_, _||_}
 use mathlib.Core.List.{List, [], _∷_, tail, headD}
@@ -8,21 +9,22 @@ use mathlib.Core.Option.{Option, none, some}
 use mathlib.Core.Path.{_≡_}
 use lib.Dec.{eqb, leb}
 use lib.ListN.{length}
-use Rattle.model.specs.Lists.{upFrom, positions, any, has, firstOf}
+use Rattle.model.specs.Lists.{upFrom, positions, any, firstOf}
 use Rattle.model.specs.Answers.{refuseIf, refuseAt, firstRefusal}
 use Rattle.model.specs.Line.{job, operand, isTake, isGive, isStart, starts, isLine, at, lineNumber, hasLines}
 use Rattle.model.specs.Line.{firstLine}
 use Rattle.model.specs.Line.{maxLines, maxJob}
 use Rattle.model.specs.declared.Refusal.{Refusal}
 use Rattle.model.specs.declared.Refusal.the-variants.{Malformed, TooManyLines, JobOutOfSequence, BadStart}
-use Rattle.model.specs.declared.Refusal.the-variants.{NeverStarted, GiveWithoutTake, TakeOfHeld}
+use Rattle.model.specs.declared.Refusal.the-variants.{NeverStarted, GiveWithoutTake}
 
 -- the lines before position i, the nearest first
 unfoldable pub before : List ℕ → ℕ → List ℕ
 before p zero = []
 before p (suc i) = at p i ∷ before p i
 
--- the devices that job j holds after some lines, of which the nearest stands first: the device taken last first
+-- the devices that job j holds after some lines, of which the nearest stands first: the device taken last first, and a
+-- device as often as it is held
 unfoldable pub heldBy : ℕ → List ℕ → List ℕ
 unfolding job isTake isGive operand
 heldBy j [] = []
@@ -35,13 +37,17 @@ heldBy j (l ∷ b) =
       ]
     ]
 
+-- the devices that the job of the line at i holds before it
+abbrev pub heldThere : List ℕ → ℕ → List ℕ
+heldThere p i = heldBy (job (at p i)) (before p i)
+
 -- device d is the latest of those still held
 unfoldable pub isLast : ℕ → List ℕ → Bool
 isLast d [] = false
 isLast d (x ∷ xs) = eqb d x
 
--- The five rules: first and next; the three about starts; started; give; take. Past the end stands 0, a do of no job,
--- so that starts, gives and takes need no bound on i.
+-- The rules: first and next; the three about starts; started; give. Past the end stands 0, a do of no job, so that
+-- starts and gives need no bound on i.
 pub record Rules (p : List ℕ) : Type 0 where
   pub first : 0 < length p → job (at p 0) ≡ 1
   pub next : (i : ℕ) → suc i < length p
@@ -50,8 +56,7 @@ pub record Rules (p : List ℕ) : Type 0 where
   pub startOnce : (i k j : ℕ) → k < i → starts (at p i) j ≡ true → starts (at p k) j ≡ false
   pub startHasLines : (i j : ℕ) → starts (at p i) j ≡ true → hasLines p j ≡ true
   pub started : (i : ℕ) → i < length p → job (at p i) ≢ 1 → any (λ l. starts l (job (at p i))) p ≡ true
-  pub give : (i : ℕ) → isGive (at p i) ≡ true → isLast (operand (at p i)) (heldBy (job (at p i)) (before p i)) ≡ true
-  pub take : (i : ℕ) → isTake (at p i) ≡ true → has (operand (at p i)) (heldBy (job (at p i)) (before p i)) ≡ false
+  pub give : (i : ℕ) → isGive (at p i) ≡ true → isLast (operand (at p i)) (heldThere p i) ≡ true
 
 -- A well-formed plan with D devices: at most 1,024 numbers, each a line's, that obey the rules.
 pub record WellFormed (D : ℕ) (p : List ℕ) : Type 0 where
@@ -66,16 +71,14 @@ unfolding job
 inSequence [] l = eqb (job l) 1
 inSequence (q ∷ b) l = eqb (job l) (job q) || eqb (job l) (suc (job q))
 
--- the verb's own rule: 5, as far as the lines before tell; 7; 8
+-- the verb's own rule: 5, as far as the lines before tell; 7
 unfoldable pub verbFault : List ℕ → ℕ → Option Refusal
-unfolding firstRefusal refuseIf lineNumber isStart isGive isTake operand job any starts has heldBy isLast
+unfolding firstRefusal refuseIf lineNumber isStart isGive operand job any starts heldBy isLast
 verbFault b l =
     let n : ℕ = lineNumber (length b) in
-    let holds : List ℕ = heldBy (job l) b in
     firstRefusal
     (refuseIf (isStart l && (leb (operand l) (job l) || any (λ q. starts q (operand l)) b)) (BadStart n)
-    ∷ refuseIf (isGive l && not (isLast (operand l) holds)) (GiveWithoutTake n)
-    ∷ refuseIf (isTake l && has (operand l) holds) (TakeOfHeld n)
+    ∷ refuseIf (isGive l && not (isLast (operand l) (heldBy (job l) b))) (GiveWithoutTake n)
     ∷ [])
 
 -- 3, 2, 4, then the verb's own

@@ -1,8 +1,8 @@
 // The answers that the entries give, as Rattle enums. No code stands here: what each entry answers, for every input, is
 // defined in specs/, and specs/Answers.antt lists the number and the values of each case.
 
-// A refusal, one case for each number of 01, and of 02 as far as it is built, in their order. A case holds the place,
-// unless that is fixed: 0 for 1, and 1,025 for 3.
+// A refusal, one case for each number of 01, and of 02 as far as it is built, in their order; 8 is given no more (02,
+// request 2). A case holds the place, unless that is fixed: 0 for 1, and 1,025 for 3.
 pub enum Refusal {
     // 1: the text has over 12,288 bytes
     TextTooLong,
@@ -18,8 +18,6 @@ pub enum Refusal {
     NeverStarted(u32),
     // 7: the line gives a device that is not the latest its job still holds
     GiveWithoutTake(u32),
-    // 8: the line takes a device that its job holds
-    TakeOfHeld(u32),
     // 9: two lasting takes of this device
     TwoLasting(u32),
     // 10: this device leads back to itself

@@ -1,7 +1,7 @@
 -- The laws that the proofs of the code cite.
 pub mod Answers
 pub mod Holding
-pub mod HeldAgain
 pub mod Refusing
 pub mod SameScan
+pub mod Marking
 pub mod Outcome

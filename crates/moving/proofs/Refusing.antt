@@ -2,79 +2,63 @@
 use Prim.Native.Nat.{ℕ, zero, suc, _+_, _-_, _<_, _≤_}
 use mathlib.Core.Bool.{Bool, true, false}
 use mathlib.Core.List.{List, [], _∷_}
-use mathlib.Core.Option.{Option, none, some, Option·some-injective, Option·none-ne-some}
+use mathlib.Core.Option.{Option, none, some, Option·none-ne-some}
 use mathlib.Core.Path.{_≡_, refl, sym, _∙_}
 use native.Mathlib.Numerals.{add-one}
 use native.Mathlib.Omega.{arith}
 use lib.Dec.{leb, ltb}
 use lib.ListN.{length, getD}
 use borrow.Author.Tests.{lt-ltb, le-ltb, le-leb, lt-leb, ltb-false, leb-false}
-use Rattle.model.specs.Lists.{firstOf}
+use Rattle.model.specs.Lists.{firstOf, orElse}
 use Rattle.model.specs.Answers.{refuseIf, refuseAt, firstRefusal, tooShort}
 use Rattle.model.specs.Line.{isTake, at, lineNumber}
 use Rattle.model.specs.WellFormed.{WellFormed, fault}
-use Rattle.model.specs.Move.{edited, way, stale, askedAt, isTakeOf, ofNumber, moveRefusal}
+use Rattle.model.specs.Move.{edited, way, under, mayChange, stale, askedAt, isTakeOf, moveRefusal}
 use Rattle.model.specs.Board.{devices}
 use Rattle.model.specs.declared.Refusal.{Refusal}
-use Rattle.plan.specs.Checked.{checked}
-use Rattle.plan.specs.declared.Checked.{Checked}
-use Rattle.model.specs.declared.Refusal.the-variants.{ListTooShort, NotATake, NoSuchDevice, StaleTable, TakeOfHeld}
-use Rattle.theory.proofs.Tests.{clash, no-some}
-use Rattle.theory.proofs.Lists.{Answer, first-answer}
+use Rattle.model.specs.declared.Refusal.the-variants.{ListTooShort, NotATake, NoSuchDevice, StaleTable}
+use Rattle.mates.specs.declared.Span.{Span}
+use Rattle.theory.proofs.Tests.{clash}
+use Rattle.theory.proofs.Lists.{first-append}
 use Rattle.theory.proofs.Answers.{none-refuses, not-refused}
 use Rattle.theory.proofs.WellFormed.{take-line, no-fault-exactly}
-use Rattle.theory.proofs.Edited.{eight-is-all}
-use Rattle.theory.proofs.Move.{asked-take}
-use Rattle.theory.proofs.Way.{falls-below, way-falls}
-use Rattle.moving.specs.HeldAgain.{heldAgain}
-use Rattle.moving.specs.Tested.{Take, lastTests, askedTests}
-use Rattle.moving.proofs.HeldAgain.{held-found}
-
--- ---- 8
-
-module _ {p : List ℕ} {i device : ℕ} (k : Take p i device) where
-  held-is : ofNumber 8 (fault devices (edited p i device))
-      ≡ refuseAt (λ k. TakeOfHeld (lineNumber k)) (heldAgain p i device)
-  held-is = held-found devices p i device (k .line .wellFormed) (k .takes) (k .onBoard) (omega arith)
-
-  pub held-refuses : (n : ℕ) → heldAgain p i device ≡ some n
-      → Checked.Refused (TakeOfHeld (n + 1)) ≡ checked (ofNumber 8 (fault devices (edited p i device)))
-  unfolding refuseAt lineNumber
-  held-refuses n e = rw (held-is, e, add-one n)
-
-  pub none-held : heldAgain p i device ≡ none
-      → Checked.Fine ≡ checked (ofNumber 8 (fault devices (edited p i device)))
-  unfolding refuseAt
-  none-held e = rw (held-is, e)
+use Rattle.theory.proofs.Edited.{edited-well-formed}
+use Rattle.theory.proofs.Move.{asked-take, stale-exactly, nearest-may-change}
+use Rattle.theory.proofs.Way.{may-change-line}
+use Rattle.moving.specs.Tested.{Take, testedBy, lastTests, askedTests}
+use Rattle.moving.specs.declared.TestAnswer.{TestAnswer}
 
 -- ---- 14
 
--- a stale line is on the way
-pub stale-inside : (p t : List ℕ) (i k : ℕ) → firstOf (stale p t) (way p i) ≡ some k → k ≤ i
-stale-inside p t i k e = go (firstOf (stale p t) (way p i)) e (first-answer (stale p t) (way p i))
-  where
-    go : (o : Option ℕ) → o ≡ some k → Answer (stale p t) (way p i) o → k ≤ i
-    go none e a = no-some e
-    go (some x) e a =
-        let z : x ≡ k = Option·some-injective x k e in
-        omega (arith, falls-below (suc i) x (way p i) (way-falls p i) (a .0))
+-- a stale line stands in the plan
+pub stale-inside : (p t : List ℕ) (i k : ℕ) → i < length p → firstOf (stale p t) (mayChange p i) ≡ some k → k < length p
+stale-inside p t i k h e = may-change-line p i h k (nearest-may-change p t i k (stale-exactly p t i k .0 e))
 
-module _ (D : ℕ) (p t : List ℕ) (i device : ℕ) where
-  pub stale-refuses : (k : ℕ) → firstOf (stale p t) (way p i) ≡ some k
-      → Checked.Refused (StaleTable (k + 1)) ≡ checked (firstRefusal (lastTests D p t i device))
+module _ (p t : List ℕ) (i : ℕ) where
+  -- the search along the way, and then under the take
+  both-searched : firstOf (stale p t) (mayChange p i)
+      ≡ orElse (firstOf (stale p t) (way p i)) (firstOf (stale p t) (under p i))
+  unfolding mayChange
+  both-searched = first-append (stale p t) (way p i) (under p i)
+
+  pub found-on-way : (k : ℕ) → firstOf (stale p t) (way p i) ≡ some k → firstOf (stale p t) (mayChange p i) ≡ some k
+  unfolding orElse
+  found-on-way k e = both-searched ∙ rw e
+
+  pub then-under : (o : Option ℕ) → firstOf (stale p t) (way p i) ≡ none → firstOf (stale p t) (under p i) ≡ o
+      → firstOf (stale p t) (mayChange p i) ≡ o
+  unfolding orElse
+  then-under o e f = both-searched ∙ rw (e, f)
+
+  pub stale-refuses : (span : Span) (k : ℕ) → firstOf (stale p t) (mayChange p i) ≡ some k
+      → TestAnswer.Refused (StaleTable (k + 1)) ≡ testedBy (firstRefusal (lastTests p t i)) span
   unfolding firstRefusal refuseAt lineNumber
-  stale-refuses k e = rw (e, add-one k)
+  stale-refuses span k e = rw (e, add-one k)
 
-  -- where no line on the way is stale, 8 decides
-  pub none-stale : firstOf (stale p t) (way p i) ≡ none → (answer : Checked)
-      → answer ≡ checked (ofNumber 8 (fault D (edited p i device)))
-      → answer ≡ checked (firstRefusal (lastTests D p t i device))
+  pub none-stale : (span s : Span) → s ≡ span → firstOf (stale p t) (mayChange p i) ≡ none
+      → TestAnswer.Passes s ≡ testedBy (firstRefusal (lastTests p t i)) span
   unfolding firstRefusal refuseAt
-  none-stale e answer a = rw e (go (ofNumber 8 (fault D (edited p i device))) a)
-    where
-      go : (o : Option Refusal) → answer ≡ checked o → answer ≡ checked (firstRefusal (o ∷ []))
-      go none a = a
-      go (some r) a = a
+  none-stale span s q e = rw (e, q)
 
 -- ---- 11, 12 and 13
 
@@ -89,28 +73,27 @@ take-asked p line device w k b =
     let taken = rw (asked-position p line k .1) at (asked-take p line k) in
     record { line = record { wellFormed = w; inPlan = take-line p (line - 1) taken }; takes = taken; onBoard = b }
 
-module _ (D : ℕ) (p t : List ℕ) (line device : ℕ) where
-  pub too-short : length t < length p
-      → Checked.Refused (ListTooShort (length p)) ≡ checked (firstRefusal (askedTests D p t line device))
+module _ (D : ℕ) (p t : List ℕ) (line device : ℕ) (span : Span) where
+  abbrev Answers : TestAnswer → Type 0
+  Answers x = x ≡ testedBy (firstRefusal (askedTests D p t line device)) span
+
+  pub too-short : length t < length p → Answers (TestAnswer.Refused (ListTooShort (length p)))
   unfolding firstRefusal tooShort refuseIf
   too-short h = rw (lt-ltb (length t) (length p) h)
 
   -- where the table has room, by whether the line is a take of the plan
   module _ (room : length p ≤ length t) (taken : Bool) (e : taken ≡ isTakeOf p line) where
-    pub not-a-take : taken ≡ false
-        → Checked.Refused (NotATake line) ≡ checked (firstRefusal (askedTests D p t line device))
+    pub not-a-take : taken ≡ false → Answers (TestAnswer.Refused (NotATake line))
     unfolding firstRefusal tooShort refuseIf
     not-a-take k = rw (le-ltb (length t) (length p) room, sym e ∙ k)
 
-    pub no-device : taken ≡ true → D ≤ device
-        → Checked.Refused (NoSuchDevice device) ≡ checked (firstRefusal (askedTests D p t line device))
+    pub no-device : taken ≡ true → D ≤ device → Answers (TestAnswer.Refused (NoSuchDevice device))
     unfolding firstRefusal tooShort refuseIf
     no-device k d = rw (le-ltb (length t) (length p) room, sym e ∙ k, le-leb D device d)
 
-    -- 14 and 8 decide
-    pub last-left : taken ≡ true → device < D → (answer : Checked)
-        → answer ≡ checked (firstRefusal (lastTests D p t (line - 1) device))
-        → answer ≡ checked (firstRefusal (askedTests D p t line device))
+    -- 14 decides
+    pub last-left : taken ≡ true → device < D → (answer : TestAnswer)
+        → answer ≡ testedBy (firstRefusal (lastTests p t (line - 1))) span → Answers answer
     unfolding firstRefusal tooShort refuseIf
     last-left k d answer a =
         rw (
@@ -127,10 +110,11 @@ module _ (D : ℕ) (p t : List ℕ) (line device : ℕ) where
   unfolding moveRefusal firstRefusal
   by-fault r e = rw e
 
-  pub by-asked : fault D p ≡ none → (answer : Checked) → answer ≡ checked (firstRefusal (askedTests D p t line device))
-      → answer ≡ checked (moveRefusal D p t line device)
+  pub by-asked : (span : Span) → fault D p ≡ none → (answer : TestAnswer)
+      → answer ≡ testedBy (firstRefusal (askedTests D p t line device)) span
+      → answer ≡ testedBy (moveRefusal D p t line device) span
   unfolding moveRefusal firstRefusal
-  by-asked e answer a = rw e a
+  by-asked span e answer a = rw e a
 
 passed : (b : Bool) (r : Refusal) → refuseIf b r ≡ none → b ≡ false
 unfolding refuseIf
@@ -152,9 +136,7 @@ passes p t line device e = record {
   position = z .1;
   asked = k;
   room = ltb-false (length t) (length p) (passed (ltb (length t) (length p)) (ListTooShort (length p)) (test 1));
-  fine = no-fault-exactly devices (edited p (line - 1) device) .0
-      (sym (eight-is-all devices p (line - 1) device (k .line .wellFormed) (k .takes) (k .onBoard) (omega arith))
-      ∙ rw (z .1) at (test 5));
+  fine = edited-well-formed devices p (line - 1) device (k .line .wellFormed) (k .takes) (k .onBoard) (omega arith);
 }
   where
     test : (k : ℕ) → getD (fault devices p ∷ askedTests devices p t line device) k none ≡ none

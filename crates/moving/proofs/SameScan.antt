@@ -14,17 +14,20 @@ use Rattle.model.specs.Move.{wayIn, way, changed}
 use Rattle.model.specs.declared.Refusal.{Refusal}
 use Rattle.plan.specs.Ends.{leftBy, ScansAs}
 use Rattle.plan.specs.Jobs.{numberOfFirst, numberOfFound, firstLines, starters}
+use Rattle.plan.specs.Again.{againFlags}
 use Rattle.plan.specs.declared.Checked.{Checked}
 use Rattle.theory.proofs.Edited.{Alike, same-first, same-starts}
 use Rattle.theory.proofs.WellFormed.{no-fault-exactly}
 use Rattle.way.specs.Known.{Scanned}
 
-pub is-scanned : (p first starter : List ℕ) (answer : Checked) (first′ starter′ : List ℕ)
-    → ScansAs p first starter answer first′ starter′ → fault devices p ≡ none → Scanned p first′ starter′
-is-scanned p first starter answer first′ starter′ s e = record {
+pub is-scanned : (p first starter again : List ℕ) (answer : Checked) (first′ starter′ again′ : List ℕ)
+    → ScansAs p first starter again answer first′ starter′ again′ → fault devices p ≡ none
+    → Scanned p first′ starter′ again′
+is-scanned p first starter again answer first′ starter′ again′ s e = record {
   wellFormed = no-fault-exactly devices p .0 e;
   firsts = s .firsts ∙ ap (λ (o : Option Refusal). leftBy o (firstLines p) first) e;
   starts = s .starts ∙ ap (λ (o : Option Refusal). leftBy o (starters p) starter) e;
+  agains = s .agains ∙ ap (λ (o : Option Refusal). leftBy o (againFlags p) again) e;
 }
 
 module _ (p q : List ℕ) (a : Alike p q) where

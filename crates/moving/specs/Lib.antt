@@ -1,3 +1,3 @@
 -- What the contracts of this room cite beside the definitions of `model`.
-pub mod HeldAgain
 pub mod Tested
+pub mod Marked

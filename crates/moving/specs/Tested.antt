@@ -1,55 +1,63 @@
 -- 01, "Moving a claim": the tests after those of the plan, in the two parts in which the code makes them; what is known
 -- between them; and what the tests and the rewriting leave.
-use Prim.Native.Nat.{ℕ, _%_, _<_}
+use Prim.Native.Nat.{ℕ, _-_, _<_}
 use mathlib.Core.Bool.{true, not}
 use mathlib.Core.List.{List, [], _∷_}
-use mathlib.Core.Option.{Option, none}
+use mathlib.Core.Option.{Option, none, some}
 use mathlib.Core.Path.{_≡_}
 use lib.Dec.{leb}
 use lib.ListN.{length}
 use Rattle.model.specs.Lists.{firstOf}
 use Rattle.model.specs.Answers.{refuseIf, refuseAt, tooShort}
 use Rattle.model.specs.Line.{isTake, at, lineNumber}
-use Rattle.model.specs.WellFormed.{fault}
-use Rattle.model.specs.Move.{edited, way, stale, changed, askedAt, isTakeOf, ofNumber, moveRefusal}
+use Rattle.model.specs.WellFormed.{WellFormed}
+use Rattle.model.specs.Move.{edited, mayChange, stale, changed, askedAt, isTakeOf, moveRefusal}
 use Rattle.model.specs.Board.{devices}
 use Rattle.model.specs.declared.Refusal.{Refusal}
 use Rattle.model.specs.declared.Refusal.the-variants.{NotATake, NoSuchDevice, StaleTable}
-use Rattle.plan.specs.Checked.{checked}
-use Rattle.plan.specs.declared.Checked.{Checked}
-use Rattle.moving.specs.HeldAgain.{At}
+use Rattle.mates.specs.Span.{spanOf, stopOf}
+use Rattle.mates.specs.declared.Span.{Span}
+use Rattle.plan.specs.Again.{againFlags}
 use Rattle.way.specs.Back.{wayBy}
 use Rattle.way.specs.Join.{mendedBy}
 use Rattle.way.specs.Known.{Scanned}
+use Rattle.moving.specs.declared.TestAnswer.{TestAnswer}
 
--- a take of a well-formed plan, and a device of the board
+-- a line of a well-formed plan
+pub record At (p : List ℕ) (i : ℕ) : Type 0 where
+  pub wellFormed : WellFormed devices p
+  pub inPlan : i < length p
+
+-- a take of one, and a device of the board
 pub record Take (p : List ℕ) (i device : ℕ) : Type 0 where
   pub line : At p i
   pub takes : isTake (at p i) ≡ true
   pub onBoard : device < devices
 
--- 14 and 8: the sets on the way of the line at i, and the edited plan
-abbrev pub lastTests : ℕ → List ℕ → List ℕ → ℕ → ℕ → List (Option Refusal)
-lastTests D p t i device =
-    refuseAt (λ k. StaleTable (lineNumber k)) (firstOf (stale p t) (way p i))
-    ∷ ofNumber 8 (fault D (edited p i device))
-    ∷ []
+-- what tests find, by the first that refuses: a refusal, or the take's span
+abbrev pub testedBy : Option Refusal → Span → TestAnswer
+testedBy none span = TestAnswer.Passes span
+testedBy (some r) span = TestAnswer.Refused r
 
--- 11, 12 and 13 before them: room for the table, the line and the device asked for
+-- 14: the sets that a move of the take at i may change
+abbrev pub lastTests : List ℕ → List ℕ → ℕ → List (Option Refusal)
+lastTests p t i = refuseAt (λ k. StaleTable (lineNumber k)) (firstOf (stale p t) (mayChange p i)) ∷ []
+
+-- 11, 12 and 13 before it: room for the table, the line and the device asked for
 abbrev pub askedTests : ℕ → List ℕ → List ℕ → ℕ → ℕ → List (Option Refusal)
 askedTests D p t line device =
     tooShort (length t) (length p)
     ∷ refuseIf (not (isTakeOf p line)) (NotATake line)
     ∷ refuseIf (leb D device) (NoSuchDevice device)
-    ∷ lastTests D p t (askedAt line) device
+    ∷ lastTests p t (askedAt line)
 
 -- what all tests answer, and leave in the arrays
-pub record TestsAs (p t : List ℕ) (line device : ℕ) (answer : Checked) (first starter : List ℕ) : Type 0 where
-  pub answers : answer ≡ checked (moveRefusal devices p t line device)
-  pub scans : moveRefusal devices p t line device ≡ none → Scanned p first starter
+pub record TestsAs (p t : List ℕ) (line device : ℕ) (answer : TestAnswer) (first starter again : List ℕ) : Type 0 where
+  pub answers : answer ≡ testedBy (moveRefusal devices p t line device) (spanOf p (askedAt line))
+  pub scans : moveRefusal devices p t line device ≡ none → Scanned p first starter again
 
 -- what the rewriting answers and leaves: the plan as p′, the table as t′
 pub record RewritesAs (p t first starter : List ℕ) (i device count : ℕ) (p′ t′ : List ℕ) : Type 0 where
   pub counts : count ≡ changed p′ t t′
-  pub plan : p′ ≡ edited p i (device % 256)
-  pub sets : t′ ≡ mendedBy p′ first t (wayBy p′ t starter i)
+  pub plan : p′ ≡ edited p i device
+  pub sets : t′ ≡ mendedBy p′ (againFlags p′) first t (wayBy p′ t starter (stopOf (spanOf p i) - 1))

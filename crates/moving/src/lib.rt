@@ -1,32 +1,35 @@
 // Moving a claim (01, "Moving a claim") to another device, with the give that belongs to the take, and joining anew the
-// sets on the way. After the tests of the plan all the work is along the way, or in the moved take's job.
+// sets on the way and under the take. A take may be moved onto a device that its job holds, and away from one (02,
+// request 2). After the tests of the plan all the work is along the way, or in the moved take's job.
 use board::DEVICES;
 use board::EACH_JOB;
+use board::MOST_LINES;
 use board::Set;
 use mates::Found;
+use mates::Span;
 use model::MoveAnswer;
 use model::Refusal;
 use plan::Checked;
 ghost use mathlib.Core.Path.{_≡_};
-ghost use mathlib.Core.Bool.{_&&_};
-ghost use Prim.Native.Nat.{suc, _-_, _%_, _≤_};
+ghost use mathlib.Core.Bool.{true, false, _&&_};
+ghost use Prim.Native.Nat.{ℕ, _%_, _^_, _-_, _≤_, _<_};
 ghost use lib.Dec.{eqb};
 ghost use lib.ListN.{length};
-ghost use Rattle.model.specs.Lists.{upFrom, has, firstOf};
+ghost use Rattle.model.specs.Lists.{has};
 ghost use Rattle.model.specs.Answers.{firstRefusal};
-ghost use Rattle.model.specs.Line.{job, operand, isTake, isGive, at, maxLines};
-ghost use Rattle.model.specs.Mate.{mate};
-ghost use Rattle.model.specs.WellFormed.{before, heldBy, fault};
-ghost use Rattle.model.specs.Move.{withDevice, edited, isTakeOf, ofNumber};
+ghost use Rattle.model.specs.Line.{operand, isTake, isGive, maxLines};
+ghost use Rattle.model.specs.WellFormed.{heldThere};
+ghost use Rattle.model.specs.Move.{withDevice, edited, askedAt, isTakeOf};
 ghost use Rattle.model.specs.Board.{devices};
-ghost use Rattle.mates.specs.Found.{found};
-ghost use Rattle.plan.specs.Checked.{checked};
+ghost use Rattle.theory.specs.Remarked.{names, againAfter, openAfter};
+ghost use Rattle.mates.specs.Span.{spanOf, stopOf};
+ghost use Rattle.plan.specs.Again.{againFlags};
 ghost use Rattle.promises.specs.Move.{MovesAs};
 ghost use Rattle.way.specs.Known.{Scanned, Known};
-ghost use Rattle.moving.specs.HeldAgain.{At, heldUntil, takesIn, heldAgain, FoundBelow};
-ghost use Rattle.moving.specs.Tested.{Take, askedTests, lastTests, TestsAs, RewritesAs};
+ghost use Rattle.moving.specs.Tested.{At, Take, testedBy, lastTests, askedTests, TestsAs, RewritesAs};
+ghost use Rattle.moving.specs.Marked.{Marked};
 
-// ---- a device that the job holds, looked for in the moved take's job
+// ---- the lines that take again, once the take has another device
 
 // Does a line take the device?
 fn takes(l: u32, device: u32) -> bool
@@ -43,15 +46,15 @@ fn gives(l: u32, device: u32) -> bool
 }
 
 // Does the job of the line at i hold the device there? Going back in the job, the nearest line that takes or gives the
-// device decides.
-fn job_holds(plan: &[u32], i: usize, device: u32) -> bool
-    requires { ⌜ At (now plan) i ⌝ }
-    ensures { λ r. ⌜ r ≡ has device (heldBy (job (at (now (plan .entry)) i)) (before (now (plan .entry)) i)) ⌝ }
+// device decides, of those that count.
+fn job_holds(plan: &[u32], again: &[u8; MOST_LINES], i: usize, device: u32) -> bool
+    requires { ⌜ At (now plan) i × (now again ≡ againFlags (now plan)) ⌝ }
+    ensures { λ r. ⌜ r ≡ has device (heldThere (now (plan .entry)) i) ⌝ }
 {
     let j = line::job(plan[i]);
     let mut n = i;
     while 0 < n {
-        let l = plan[n - 1];
+        let l = line::plain(plan[n - 1], again[n - 1] == 1);
         if line::job(l) != j {
             return false;
         }
@@ -66,51 +69,95 @@ fn job_holds(plan: &[u32], i: usize, device: u32) -> bool
     false
 }
 
-// The first take of the device after the line at i in its job, before position `stop`.
-fn taken_again(plan: &[u32], i: usize, stop: usize, device: u32) -> Found
-    requires { ⌜ At (now plan) i × (stop ≤ length (now plan)) ⌝ }
-    ensures { λ r. ⌜ (r ≡ found (firstOf (takesIn (now (plan .entry)) (job (at (now (plan .entry)) i)) device)
-        (upFrom (suc i) (stop - suc i)))) × FoundBelow (length (now (plan .entry))) r ⌝ }
+// Does it take or give the device?
+fn named(l: u32, device: u32) -> bool
+    ensures { λ r. ⌜ r ≡ names l device ⌝ }
 {
-    let j = line::job(plan[i]);
+    (line::is_take(l) | line::is_give(l)) & (line::operand(l) == device)
+}
+
+// Does a line under the take take again, or give such a take back, once the take has the new device? Lines of that
+// device do. Where the take was the outermost of its old device, which `fresh` tells, lines of the old one go by how
+// many of its takes are open under the take.
+fn again_after(l: u32, was: bool, old: u32, device: u32, fresh: bool, deep: usize) -> bool
+    ensures { λ r. ⌜ r ≡ againAfter l was old device fresh deep ⌝ }
+{
+    if named(l, device) {
+        return true;
+    }
+    if fresh & named(l, old) {
+        if line::is_take(l) {
+            return 1 <= deep;
+        }
+        return 2 <= deep;
+    }
+    was
+}
+
+// How many takes of the old device are open under the take after a line.
+fn open_after(l: u32, old: u32, fresh: bool, deep: usize) -> usize
+    requires { ⌜ (deep < 2 ^ 64 - 1) × ((fresh && names l old) ≡ true → isTake l ≡ false → 1 ≤ deep) ⌝ }
+    ensures { λ r. ⌜ r ≡ openAfter l old fresh deep ⌝ }
+{
+    if fresh & named(l, old) {
+        if line::is_take(l) {
+            return deep + 1;
+        }
+        return deep - 1;
+    }
+    deep
+}
+
+// The flags of the lines under the take at i, which end before position `stop`, once the take has the new device.
+fn mark_under(plan: &[u32], again: &mut [u8; MOST_LINES], i: usize, device: u32, stop: usize)
+    requires { ⌜ Take (now plan) i device × (now again ≡ againFlags (now plan))
+        × (stop ≡ stopOf (spanOf (now plan) i)) ⌝ }
+    ensures { λ r. ⌜ Marked (now (plan .entry)) i device stop (now (again .exit)) ⌝ }
+{
+    let old = line::operand(plan[i]);
+    let fresh = (again[i] != 1) & (old != device);
+    let mut deep: usize = 0;
     let mut k = i + 1;
     while k < stop {
         let l = plan[k];
-        if line::job(l) != j {
-            return Found::Nothing;
-        }
-        if takes(l, device) {
-            return Found::At(k);
-        }
+        let marked = again_after(l, again[k] == 1, old, device, fresh, deep);
+        again[k] = marked as u8;
+        deep = open_after(l, old, fresh, deep);
         k += 1;
     }
-    Found::Nothing
 }
 
-// Where the take's device is given back, or the plan's end.
-fn held_until(plan: &[u32], i: usize) -> usize
-    ensures { λ r. ⌜ r ≡ heldUntil (now (plan .entry)) (mate (now (plan .entry)) i) ⌝ }
+// Where a span ends.
+fn stop_of(span: Span) -> usize
+    ensures { λ r. ⌜ r ≡ stopOf span ⌝ }
 {
-    if let Found::At(m) = mates::mate(plan, i) {
-        return m;
+    match span {
+        Span::Given(m) => m,
+        Span::Kept(e) => e,
     }
-    plan.len()
 }
 
-// 8: where the edited plan takes a device that its job holds.
-fn held_again(plan: &[u32], i: usize, device: u32) -> Found
-    requires { ⌜ At (now plan) i ⌝ }
-    ensures { λ r. ⌜ (r ≡ found (heldAgain (now (plan .entry)) i device))
-        × FoundBelow (length (now (plan .entry))) r ⌝ }
+// The flags of the plan once the take at i has the new device: the take and its give take again where the job holds
+// that device already; then the lines under the take.
+fn mark(plan: &[u32], again: &mut [u8; MOST_LINES], i: usize, device: u32, span: Span)
+    requires { ⌜ Take (now plan) i device × (now again ≡ againFlags (now plan)) × (span ≡ spanOf (now plan) i) ⌝ }
+    ensures { λ r. ⌜ now (again .exit) ≡ againFlags (edited (now (plan .entry)) i device) ⌝ }
 {
-    if job_holds(plan, i, device) {
-        return Found::At(i);
+    let held = job_holds(plan, again, i, device);
+    mark_under(plan, again, i, device, stop_of(span));
+    again[i] = held as u8;
+    if let Span::Given(m) = span {
+        again[m] = held as u8;
     }
-    let stop = held_until(plan, i);
-    taken_again(plan, i, stop, device)
 }
 
 // ---- the tests
+
+// What the tests of a move find: a refusal, or how far what the take takes is held.
+pub enum TestAnswer {
+    Refused(Refusal),
+    Passes(Span),
+}
 
 // Is the line with a number a take of the plan?
 fn is_take_of(plan: &[u32], line: u32) -> bool
@@ -126,65 +173,61 @@ fn is_take_of(plan: &[u32], line: u32) -> bool
     line::is_take(plan[i])
 }
 
-// 8: a take of a held device in the edited plan.
-fn unheld(plan: &[u32], i: usize, device: u32) -> Checked
-    requires { ⌜ Take (now plan) i device ⌝ }
-    ensures { λ r. ⌜ r ≡ checked (ofNumber 8 (fault devices (edited (now (plan .entry)) i device))) ⌝ }
-{
-    if let Found::At(k) = held_again(plan, i, device) {
-        return Checked::Refused(Refusal::TakeOfHeld((k + 1) as u32));
-    }
-    Checked::Fine
-}
-
-// 14, a stale set on the way; then 8.
+// 14: a stale set on the way, or under the take.
 fn fresh(
     plan: &[u32],
     sets: &[Set],
     i: usize,
-    device: u32,
-    first: &[u32],
-    starter: &[u32],
-) -> Checked
-    requires { ⌜ Take (now plan) i device × Known (now plan) (now sets) (now first) (now starter) ⌝ }
-    ensures { λ r. ⌜ r ≡ checked (firstRefusal (lastTests devices (now (plan .entry)) (now (sets .entry)) i device)) ⌝ }
+    first: &[u32; EACH_JOB],
+    starter: &[u32; EACH_JOB],
+    again: &[u8; MOST_LINES],
+) -> TestAnswer
+    requires { ⌜ At (now plan) i × Known (now plan) (now sets) (now first) (now starter) (now again) ⌝ }
+    ensures { λ r. ⌜ r ≡ testedBy (firstRefusal (lastTests (now (plan .entry)) (now (sets .entry)) i))
+        (spanOf (now (plan .entry)) i) ⌝ }
 {
-    if let Found::At(k) = way::stale_line(plan, sets, i, first, starter) {
-        return Checked::Refused(Refusal::StaleTable((k + 1) as u32));
+    if let Found::At(k) = way::stale_line(plan, again, sets, i, first, starter) {
+        return TestAnswer::Refused(Refusal::StaleTable((k + 1) as u32));
     }
-    unheld(plan, i, device)
+    let span = mates::span_of(plan, i);
+    if let Found::At(k) = way::stale_under(plan, again, sets, i, stop_of(span), first) {
+        return TestAnswer::Refused(Refusal::StaleTable((k + 1) as u32));
+    }
+    TestAnswer::Passes(span)
 }
 
 // The tests after those of the plan: 11, the table has a set for each line; 12, the line asked for is a take of the
-// plan; 13, the device is on the board; then 14 and 8.
+// plan; 13, the device is on the board; then 14.
 fn asked(
     plan: &[u32],
     sets: &[Set],
     line: u32,
     device: u32,
-    first: &[u32],
-    starter: &[u32],
-) -> Checked
-    requires { ⌜ Scanned (now plan) (now first) (now starter) ⌝ }
-    ensures { λ r. ⌜ r ≡ checked (firstRefusal (askedTests devices (now (plan .entry)) (now (sets .entry)) line
-        device)) ⌝ }
+    first: &[u32; EACH_JOB],
+    starter: &[u32; EACH_JOB],
+    again: &[u8; MOST_LINES],
+) -> TestAnswer
+    requires { ⌜ Scanned (now plan) (now first) (now starter) (now again) ⌝ }
+    ensures { λ r. ⌜ r
+        ≡ testedBy (firstRefusal (askedTests devices (now (plan .entry)) (now (sets .entry)) line device))
+        (spanOf (now (plan .entry)) (askedAt line)) ⌝ }
 {
     let n = plan.len();
     if sets.len() < n {
-        return Checked::Refused(Refusal::ListTooShort(n as u32));
+        return TestAnswer::Refused(Refusal::ListTooShort(n as u32));
     }
     if is_take_of(plan, line) {
         if DEVICES <= device {
-            return Checked::Refused(Refusal::NoSuchDevice(device));
+            return TestAnswer::Refused(Refusal::NoSuchDevice(device));
         }
         let i = (line - 1) as usize;
-        return fresh(plan, sets, i, device, first, starter);
+        return fresh(plan, sets, i, first, starter, again);
     }
-    Checked::Refused(Refusal::NotATake(line))
+    TestAnswer::Refused(Refusal::NotATake(line))
 }
 
-// All tests of a move, in their order: 2 to 8, 11, 12, 13, 14, and 8 of the edited plan. Where none refuses, the arrays
-// have each job's first line and the line that starts it.
+// All tests of a move, in their order: 2 to 7, 11, 12, 13, 14. Where none refuses, the arrays have each job's first
+// line, the line that starts it, and the flags of the lines that take again.
 fn tested(
     plan: &[u32],
     sets: &[Set],
@@ -192,14 +235,15 @@ fn tested(
     device: u32,
     first: &mut [u32; EACH_JOB],
     starter: &mut [u32; EACH_JOB],
-) -> Checked
+    again: &mut [u8; MOST_LINES],
+) -> TestAnswer
     ensures { λ r. ⌜ TestsAs (now (plan .entry)) (now (sets .entry)) line device r (now (first .exit))
-        (now (starter .exit)) ⌝ }
+        (now (starter .exit)) (now (again .exit)) ⌝ }
 {
-    if let Checked::Refused(r) = plan::scan(plan, first, starter) {
-        return Checked::Refused(r);
+    if let Checked::Refused(r) = plan::scan(plan, first, starter, again) {
+        return TestAnswer::Refused(r);
     }
-    asked(plan, sets, line, device, first, starter)
+    asked(plan, sets, line, device, first, starter, again)
 }
 
 // ---- the move
@@ -215,44 +259,59 @@ fn give_device(plan: &mut [u32], i: usize, device: u32)
 }
 
 // Puts the device into the take at i and into the give that is its mate.
-fn edit(plan: &mut [u32], i: usize, device: u32)
+fn edit(plan: &mut [u32], i: usize, device: u32, span: Span)
+    requires { ⌜ span ≡ spanOf (now plan) i ⌝ }
     ensures { λ r. ⌜ now (plan .exit) ≡ edited (now (plan .entry)) i (device % 256) ⌝ }
 {
-    let pair = mates::mate(plan, i);
     give_device(plan, i, device);
-    if let Found::At(m) = pair {
+    if let Span::Given(m) = span {
         give_device(plan, m, device);
     }
 }
 
-// The edit, and the sets on the way rewritten; how many are another than before.
+// The edit, and the sets rewritten from the last line under the take back along the way; how many are another than
+// before.
 fn rewrite(
     plan: &mut [u32],
     sets: &mut [Set],
     i: usize,
     device: u32,
+    span: Span,
     first: &[u32; EACH_JOB],
     starter: &[u32; EACH_JOB],
+    again: &mut [u8; MOST_LINES],
 ) -> u32
-    requires { ⌜ length (now plan) ≤ maxLines ⌝ }
+    requires { ⌜ Take (now plan) i device × (span ≡ spanOf (now plan) i) × (now again ≡ againFlags (now plan)) ⌝ }
     ensures { λ r. ⌜ RewritesAs (now (plan .entry)) (now (sets .entry)) (now (first .entry)) (now (starter .entry)) i
         device r (now (plan .exit)) (now (sets .exit)) ⌝ }
 {
-    edit(plan, i, device);
-    way::mend_way(plan, sets, i, first, starter) as u32
+    mark(plan, again, i, device, span);
+    edit(plan, i, device, span);
+    way::mend_way(plan, again, sets, stop_of(span) - 1, first, starter) as u32
 }
 
 // Moves the claim of a line, by its number from 1, to a device: the take and its give get the device, and the sets on
-// the way are joined anew. A refusal (2 to 8, 11 to 14) leaves plan and table as they were.
+// the way and under the take are joined anew. A refusal (2 to 7, 11 to 14) leaves plan and table as they were.
 pub fn move_claim(plan: &mut [u32], sets: &mut [Set], line: u32, device: u32) -> MoveAnswer
     ensures { λ r. ⌜ MovesAs (now (plan .entry)) (now (sets .entry)) line device r (now (plan .exit))
         (now (sets .exit)) ⌝ }
 {
     let mut first = [0u32; EACH_JOB];
     let mut starter = [0u32; EACH_JOB];
-    if let Checked::Refused(r) = tested(plan, sets, line, device, &mut first, &mut starter) {
-        return MoveAnswer::Refused(r);
+    let mut again = [0u8; MOST_LINES];
+    match tested(
+        plan,
+        sets,
+        line,
+        device,
+        &mut first,
+        &mut starter,
+        &mut again,
+    ) {
+        TestAnswer::Refused(r) => MoveAnswer::Refused(r),
+        TestAnswer::Passes(span) => {
+            let i = (line - 1) as usize;
+            MoveAnswer::Changed(rewrite(plan, sets, i, device, span, &first, &starter, &mut again))
+        }
     }
-    let i = (line - 1) as usize;
-    MoveAnswer::Changed(rewrite(plan, sets, i, device, &first, &starter))
 }

@@ -5,8 +5,12 @@ pub mod Stacks
 pub mod Steps
 pub mod Tables
 pub mod Firsts
+pub mod Again
 pub mod Stands
 pub mod Walks
+pub mod Flags
+pub mod Noting
+pub mod Notes
 pub mod LastTests
 pub mod LastFaults
 pub mod Scans

@@ -11,13 +11,13 @@ use lib.Dec.{eqb, leb, ltb}
 use lib.ListN.{length, getD, set, length-set, getD-replicate}
 use borrow.Author.Tests.{eqb-true, eqb-false, eq-eqb, ne-eqb, le-leb, lt-leb, ltb-true, ltb-false}
 use Rattle.model.specs.Answers.{refuseIf, firstRefusal}
-use Rattle.model.specs.Lists.{has, any}
+use Rattle.model.specs.Lists.{any}
 use Rattle.model.specs.Line.{job, kind, operand, isTake, isGive, isStart, starts, isLine, at, lineNumber, maxLines}
 use Rattle.model.specs.Line.{maxJob}
 use Rattle.model.specs.WellFormed.{before, heldBy, isLast, inSequence, verbFault, lineFault}
 use Rattle.model.specs.declared.Refusal.{Refusal}
 use Rattle.model.specs.declared.Refusal.the-variants.{Malformed, TooManyLines, JobOutOfSequence, BadStart}
-use Rattle.model.specs.declared.Refusal.the-variants.{TakeOfHeld, GiveWithoutTake}
+use Rattle.model.specs.declared.Refusal.the-variants.{GiveWithoutTake}
 use Rattle.theory.proofs.Held.{held-take, held-give, held-other, none-held}
 use Rattle.theory.proofs.Line.{line-parts, start-operand, start-parts, start-of, take-no-give, take-no-start}
 use Rattle.theory.proofs.Line.{give-no-start}
@@ -59,7 +59,7 @@ begins D p = record {
 
 -- what a step says of line i
 pub data Stepped (D : ℕ) (p : List ℕ) (i : ℕ) : Next → Type 0 where
-  goes : (held first starter : List ℕ) → lineFault D (before p i) (at p i) ≡ none
+  goes : (held first starter : List ℕ) → lineFault D (before p i) (at p i) ≡ none → i < maxLines
       → Stands D p (suc i) (job (at p i)) held first starter → Stepped D p i (on held first starter)
   stops : (r : Refusal) → lineFault D (before p i) (at p i) ≡ some r → Stepped D p i (bad r)
 
@@ -86,12 +86,10 @@ decided : (x y : Option Refusal) (r : Refusal) → x ≡ some r → firstRefusal
 unfolding firstRefusal
 decided x y r e = rw e
 
--- the verb's own rule, by its tests: of a start, a give and a take
-abbrev verbBy : ℕ → Bool → Bool → Bool → Option Refusal
-verbBy i start give take =
-    firstRefusal
-    (refuseIf start (BadStart (lineNumber i)) ∷ refuseIf give (GiveWithoutTake (lineNumber i))
-    ∷ refuseIf take (TakeOfHeld (lineNumber i)) ∷ [])
+-- the verb's own rule, by its tests: of a start and a give
+abbrev verbBy : ℕ → Bool → Bool → Option Refusal
+verbBy i start give =
+    firstRefusal (refuseIf start (BadStart (lineNumber i)) ∷ refuseIf give (GiveWithoutTake (lineNumber i)) ∷ [])
 
 module _ (D : ℕ) (p : List ℕ) (i prev : ℕ) (held first starter : List ℕ)
     (s : Stands D p i prev held first starter) where
@@ -218,7 +216,7 @@ module _ (D : ℕ) (p : List ℕ) (i prev : ℕ) (held first starter : List ℕ)
     abbrev tested : Option Refusal
     tested =
         verbBy i (isStart l && (leb (operand l) (job l) || any (λ q. starts q (operand l)) (before p i)))
-        (isGive l && not (isLast (operand l) there)) (isTake l && has (operand l) there)
+        (isGive l && not (isLast (operand l) there))
 
     verb-tests : verbFault (before p i) l ≡ tested
     unfolding verbFault
@@ -227,18 +225,15 @@ module _ (D : ℕ) (p : List ℕ) (i prev : ℕ) (held first starter : List ℕ)
     by-verb : placeFault D l i prev ≡ none → lineFault D (before p i) l ≡ tested
     by-verb e = same-place ∙ second (placeFault D l i prev) (verbFault (before p i) l) e ∙ verb-tests
 
-    module _ (f : lineFault D (before p i) l ≡ tested) where
+    module _ (f : lineFault D (before p i) l ≡ tested) (few : i < maxLines) where
       abbrev Led : Type 0
       Led = Stepped D p i (ruleOf i l there (set first (job l) entry) starter)
 
-      takes : isTake l ≡ true → (b : Bool) → has (operand l) there ≡ b → Led
+      takes : isTake l ≡ true → Led
       unfolding ruleOf firstRefusal refuseIf
-      takes t true m =
-          rw (t, m) (stops (TakeOfHeld (lineNumber i)) (f ∙ rw (take-no-start l t, take-no-give l t, t, m)))
-      takes t false m =
-          rw (t, m)
-          (goes (operand l ∷ there) (set first (job l) entry) starter
-          (f ∙ rw (take-no-start l t, take-no-give l t, t, m))
+      takes t =
+          rw t
+          (goes (operand l ∷ there) (set first (job l) entry) starter (f ∙ rw (take-no-start l t, take-no-give l t)) few
           (onward (operand l ∷ there) starter (held-take (job l) l (before p i) refl t) (s .tables .starter-long)
           (same-starters (take-no-start l t))))
 
@@ -247,7 +242,7 @@ module _ (D : ℕ) (p : List ℕ) (i prev : ℕ) (held first starter : List ℕ)
         unfolding ruleOf firstRefusal refuseIf
         gives g true m =
             rw (t, g, m)
-            (goes (tail there) (set first (job l) entry) starter (f ∙ rw (give-no-start l g, g, m, t))
+            (goes (tail there) (set first (job l) entry) starter (f ∙ rw (give-no-start l g, g, m)) few
             (onward (tail there) starter (held-give (job l) l (before p i) refl t g) (s .tables .starter-long)
             (same-starters (give-no-start l g))))
         gives g false m =
@@ -258,7 +253,7 @@ module _ (D : ℕ) (p : List ℕ) (i prev : ℕ) (held first starter : List ℕ)
           unfolding ruleOf firstRefusal refuseIf
           does n =
               rw (t, g, n)
-              (goes there (set first (job l) entry) starter (f ∙ rw (n, g, t))
+              (goes there (set first (job l) entry) starter (f ∙ rw (n, g)) few
               (onward there starter (held-other (job l) l (before p i) t g) (s .tables .starter-long)
               (same-starters n)))
 
@@ -287,7 +282,7 @@ module _ (D : ℕ) (p : List ℕ) (i prev : ℕ) (held first starter : List ℕ)
             started true true x y =
                 rw (t, g, n, x, y)
                 (goes there (set first (job l) entry) (set starter (operand l) (lineNumber i))
-                (f ∙ rw (n, lt-leb (operand l) (job l) (ltb-true (job l) (operand l) x), known, y, g, t))
+                (f ∙ rw (n, lt-leb (operand l) (job l) (ltb-true (job l) (operand l) x), known, y, g)) few
                 (onward there (set starter (operand l) (lineNumber i)) (held-other (job l) l (before p i) t g)
                 (length-set starter (operand l) (lineNumber i) ∙ s .tables .starter-long)
                 (begun (eqb-true (getD starter (operand l) 0) 0 y))))
@@ -305,11 +300,15 @@ module _ (D : ℕ) (p : List ℕ) (i prev : ℕ) (held first starter : List ℕ)
         where
           go : (isTake l ≡ true) ⊎ (isTake l ≡ false) → (isGive l ≡ true) ⊎ (isGive l ≡ false)
               → (isStart l ≡ true) ⊎ (isStart l ≡ false) → Led
-          go (inl t) g n = takes t (has (operand l) there) refl
+          go (inl t) g n = takes t
           go (inr t) (inl g) n = gives t g (isLast (operand l) there) refl
           go (inr t) (inr g) (inr n) = does t g n
           go (inr t) (inr g) (inl n) =
               started t g n (ltb (job l) (operand l)) (eqb (getD starter (operand l) 0) 0) refl refl
+
+  -- what the line's job holds there
+  pub there-is : placeFault D l i prev ≡ none → heldBy (job l) (before p i) ≡ cond (eqb (job l) prev) held []
+  there-is e = let q = in-place D l i prev e in held-there (q .1) (q .2)
 
   -- The theorem: a step is at a line without a fault, and leads to the state after it, or it tells the line's fault.
   pub stepped : Stepped D p i (stepOf D l i prev held first starter)
@@ -324,4 +323,4 @@ module _ (D : ℕ) (p : List ℕ) (i prev : ℕ) (held first starter : List ℕ)
       go (some r) e = stops r (same-place ∙ decided (placeFault D l i prev) (verbFault (before p i) l) r e)
       go none e =
           let q = in-place D l i prev e in
-          rw (← held-there (q .1) (q .2)) (ruled (q .1) (q .2) (by-verb (q .1) (q .2) e))
+          rw (← held-there (q .1) (q .2)) (ruled (q .1) (q .2) (by-verb (q .1) (q .2) e) (q .0))

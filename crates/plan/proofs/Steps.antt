@@ -13,7 +13,7 @@ use Rattle.model.specs.Answers.{refuseIf, firstRefusal}
 use Rattle.model.specs.Line.{job, isLine, lineNumber, maxLines, maxJob}
 use Rattle.model.specs.declared.Refusal.{Refusal}
 use Rattle.model.specs.declared.Refusal.the-variants.{Malformed, TooManyLines, JobOutOfSequence}
-use Rattle.plan.specs.Walk.{placedBy, placeFault, Next, bad, ruleOf, stepOf, heldIn, Walking, HoldingBy}
+use Rattle.plan.specs.Walk.{placedBy, placeFault, Next, bad, ruleOf, stepOf, heldIn, Walking, StackBy}
 use Rattle.plan.specs.Walk.{WalkingBy}
 use Rattle.plan.specs.declared.After.{After}
 
@@ -53,8 +53,8 @@ module _ (D n i prev : ℕ) (first starter : List ℕ) where
       go true = refl
       go false = refl
 
-pub walking : (r : After) (stack first starter : List ℕ) (o v : ℕ) → HoldingBy r stack
-    → length first ≡ suc maxJob → length starter ≡ suc maxJob → WalkingBy r stack (set first o v) starter
-walking (After.On depth held) stack first starter o v h f s =
-    record { holding = h; first-long = length-set first o v ∙ f; starter-long = s }
-walking (After.Bad r) stack first starter o v h f s = tt
+pub walking : (i : ℕ) (r : After) (stack first starter : List ℕ) (o v : ℕ) → StackBy i r stack
+    → length first ≡ suc maxJob → length starter ≡ suc maxJob → WalkingBy i r stack (set first o v) starter
+walking i (After.On depth) stack first starter o v h f s =
+    (h .0, record { stacked = h .1; first-long = length-set first o v ∙ f; starter-long = s })
+walking i (After.Bad r) stack first starter o v h f s = tt

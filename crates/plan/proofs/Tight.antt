@@ -6,11 +6,13 @@ use mathlib.Core.Path.{_≡_, sym, _∙_}
 use Rattle.plan.specs.declared.Checked.{Checked}
 use Rattle.plan.specs.Ends.{ScansAs}
 
-pub scan-one : (p first starter : List ℕ) (a b : Checked) (first₁ first₂ starter₁ starter₂ : List ℕ)
-    → ScansAs p first starter a first₁ starter₁ → ScansAs p first starter b first₂ starter₂
-    → (a ≡ b) × (first₁ ≡ first₂) × (starter₁ ≡ starter₂)
-scan-one p first starter a b first₁ first₂ starter₁ starter₂ x y = (
+pub scan-one : (p first starter again : List ℕ) (a b : Checked)
+    (first₁ first₂ starter₁ starter₂ again₁ again₂ : List ℕ)
+    → ScansAs p first starter again a first₁ starter₁ again₁ → ScansAs p first starter again b first₂ starter₂ again₂
+    → (a ≡ b) × (first₁ ≡ first₂) × (starter₁ ≡ starter₂) × (again₁ ≡ again₂)
+scan-one p first starter again a b first₁ first₂ starter₁ starter₂ again₁ again₂ x y = (
   x .answers ∙ sym (y .answers),
   x .firsts ∙ sym (y .firsts),
   x .starts ∙ sym (y .starts),
+  x .agains ∙ sym (y .agains),
 )

@@ -5,79 +5,87 @@ use mathlib.Core.Option.{Option, none, some}
 use Prim.Native.Nat.{ℕ, suc, _+_, _≤_, _<_}
 use native.Mathlib.Numerals.{add-one}
 use native.Mathlib.Omega.{arith}
-use lib.ListN.{length, getD, drop, drop-of-length-le}
+use lib.ListN.{length, drop, drop-of-length-le}
 use lib.Seq.{drop-cons}
 use Rattle.model.specs.Board.{devices}
-use Rattle.model.specs.Line.{job, at}
-use Rattle.model.specs.Sets.{empty}
+use Rattle.model.specs.Line.{job, at, maxLines}
 use Rattle.model.specs.WellFormed.{before, lineFault, firstFault}
 use Rattle.model.specs.declared.Refusal.{Refusal}
 use Rattle.plan.specs.Checked.{checked}
 use Rattle.plan.specs.Tables.{none-yet, Tables}
-use Rattle.plan.specs.Walk.{Next, on, bad, stepOf, heldIn, Holding, nextBy, WalkingBy, Walked}
+use Rattle.plan.specs.Walk.{Next, on, bad, stepOf, heldIn, Stack, nextBy, WalkingBy, Walked}
 use Rattle.plan.specs.declared.After.{After}
 use Rattle.plan.specs.declared.Checked.{Checked}
-use Rattle.plan.proofs.Stacks.{none-held}
 use Rattle.plan.proofs.Stands.{Stands, begins, Stepped, goes, stops, stepped}
 
-pub record At (p : List ℕ) (i prev depth held : ℕ) (stack first starter : List ℕ) : Type 0 where
+pub record At (p : List ℕ) (i prev depth : ℕ) (stack first starter : List ℕ) : Type 0 where
   pub at-most : i ≤ length p
-  pub holding : Holding depth held stack
+  pub deep : depth ≤ i
+  pub stacked : Stack stack
   pub stands : Stands devices p i prev (heldIn depth stack) first starter
   pub ahead : firstFault devices [] p ≡ firstFault devices (before p i) (drop i p)
 
-pub at-start : (p stack first starter : List ℕ) → length stack ≡ devices + 2 → getD stack 0 0 ≡ devices
-    → first ≡ none-yet → starter ≡ none-yet → At p 0 0 0 empty stack first starter
+pub at-start : (p stack first starter : List ℕ) → Stack stack → first ≡ none-yet → starter ≡ none-yet
+    → At p 0 0 0 stack first starter
 unfolding heldIn before
-at-start p stack first starter l f a b = record {
+at-start p stack first starter h a b = record {
   at-most = omega arith;
-  holding = none-held stack l f;
+  deep = omega arith;
+  stacked = h;
   stands = rw (a, b) (begins devices p);
   ahead = refl;
 }
 
-module _ (p : List ℕ) (i prev depth held : ℕ) (stack first starter : List ℕ)
-    (s : At p i prev depth held stack first starter) where
-  pub at-end : length p ≤ i → Walked p Checked.Fine first starter
-  unfolding firstFault
-  at-end h =
-      let e : i ≡ length p = omega (arith, s .at-most) in
-      let z : firstFault devices (before p i) (drop i p) ≡ none = rw (drop-of-length-le p {i = i} h) in record {
-        answers = sym (ap checked (s .ahead ∙ z));
-        tables = λ z. rw e at (s .stands .tables);
-      }
+module _ (p : List ℕ) (i prev depth : ℕ) (stack first starter : List ℕ) (s : At p i prev depth stack first starter)
+  where
+    pub at-end : length p ≤ i → Walked p Checked.Fine first starter
+    unfolding firstFault
+    at-end h =
+        let e : i ≡ length p = omega (arith, s .at-most) in
+        let z : firstFault devices (before p i) (drop i p) ≡ none = rw (drop-of-length-le p {i = i} h) in record {
+          answers = sym (ap checked (s .ahead ∙ z));
+          tables = λ z. rw e at (s .stands .tables);
+        }
 
-  module _ (h : i < length p) where
-    ahead-on : (x : Option Refusal) → lineFault devices (before p i) (at p i) ≡ x
-        → firstFault devices (before p i) (drop i p)
-        ≡ elim x [ some r ↦ some r | none ↦ firstFault devices (before p (suc i)) (drop (suc i) p) ]
-    unfolding firstFault before
-    ahead-on x e = rw (drop-cons p i 0 h) (rw (e, firstFault))
+    module _ (h : i < length p) where
+      ahead-on : (x : Option Refusal) → lineFault devices (before p i) (at p i) ≡ x
+          → firstFault devices (before p i) (drop i p)
+          ≡ elim x [ some r ↦ some r | none ↦ firstFault devices (before p (suc i)) (drop (suc i) p) ]
+      unfolding firstFault before
+      ahead-on x e = rw (drop-cons p i 0 h) (rw (e, firstFault))
 
-    module _ (x : After) (stack′ first′ starter′ : List ℕ)
-        (led : nextBy x stack′ first′ starter′ ≡ stepOf devices (at p i) i prev (heldIn depth stack) first starter)
-      where
-        step : Stepped devices p i (nextBy x stack′ first′ starter′)
-        step = rw led (stepped devices p i prev (heldIn depth stack) first starter (s .stands))
+      module _ (x : After) (stack′ first′ starter′ : List ℕ)
+          (led : nextBy x stack′ first′ starter′ ≡ stepOf devices (at p i) i prev (heldIn depth stack) first starter)
+        where
+          step : Stepped devices p i (nextBy x stack′ first′ starter′)
+          step = rw led (stepped devices p i prev (heldIn depth stack) first starter (s .stands))
 
-        pub at-refusal : (r : Refusal) → x ≡ After.Bad r → (f t : List ℕ) → Walked p (Checked.Refused r) f t
-        at-refusal r e f t = go (rw e at step)
-          where
-            go : Stepped devices p i (bad r) → Walked p (Checked.Refused r) f t
-            go (stops q z) = record {
-              answers = sym (ap checked (s .ahead ∙ ahead-on (some q) z));
-              tables = λ z. let w : _≡_ {A = ℕ} 0 1 = cc in absurd (omega arith);
-            }
+          pub at-refusal : (r : Refusal) → x ≡ After.Bad r → (f t : List ℕ) → Walked p (Checked.Refused r) f t
+          at-refusal r e f t = go (rw e at step)
+            where
+              go : Stepped devices p i (bad r) → Walked p (Checked.Refused r) f t
+              go (stops q z) = record {
+                answers = sym (ap checked (s .ahead ∙ ahead-on (some q) z));
+                tables = λ z. let w : _≡_ {A = ℕ} 0 1 = cc in absurd (omega arith);
+              }
 
-        pub at-next : (d w : ℕ) → x ≡ After.On d w → WalkingBy x stack′ first′ starter′
-            → At p (i + 1) (job (at p i)) d w stack′ first′ starter′
-        at-next d w e k = rw add-one (go (rw e at step))
-          where
-            go : Stepped devices p i (on (heldIn d stack′) first′ starter′)
-                → At p (suc i) (job (at p i)) d w stack′ first′ starter′
-            go (goes held f t z stands) = record {
-              at-most = omega arith;
-              holding = (rw e at k) .holding;
-              stands = stands;
-              ahead = s .ahead ∙ ahead-on none z;
-            }
+          -- a line that is passed is within the limit
+          pub at-line : (d : ℕ) → x ≡ After.On d → i < maxLines
+          at-line d e = go (rw e at step)
+            where
+              go : Stepped devices p i (on (heldIn d stack′) first′ starter′) → i < maxLines
+              go (goes held f t z few stands) = few
+
+          pub at-next : (d : ℕ) → x ≡ After.On d → WalkingBy i x stack′ first′ starter′
+              → At p (i + 1) (job (at p i)) d stack′ first′ starter′
+          at-next d e k = rw add-one (go (rw e at step))
+            where
+              go : Stepped devices p i (on (heldIn d stack′) first′ starter′)
+                  → At p (suc i) (job (at p i)) d stack′ first′ starter′
+              go (goes held f t z few stands) = record {
+                at-most = omega arith;
+                deep = (rw e at k) .0;
+                stacked = (rw e at k) .1 .stacked;
+                stands = stands;
+                ahead = s .ahead ∙ ahead-on none z;
+              }

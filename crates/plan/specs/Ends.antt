@@ -14,6 +14,7 @@ use Rattle.model.specs.declared.Refusal.{Refusal}
 use Rattle.model.specs.declared.Refusal.the-variants.{BadStart, NeverStarted}
 use Rattle.plan.specs.Checked.{checked}
 use Rattle.plan.specs.Jobs.{firstLines, starters}
+use Rattle.plan.specs.Again.{againFlags}
 use Rattle.plan.specs.declared.Checked.{Checked}
 
 -- job j starts somewhere and has no lines; has lines and starts nowhere. Job 1 is the one that nothing starts.
@@ -48,18 +49,20 @@ pub data EndsAs (first starter : List ℕ) : Checked → Type 0 where
   neither : ((k : ℕ) → Empty first starter k → ⊥) → ((k : ℕ) → Unstarted first starter k → ⊥)
       → EndsAs first starter Checked.Fine
 
--- what the walk and these tests find together: the fault, and the tables where there is none
-pub record WholeAs (p : List ℕ) (answer : Checked) (first starter : List ℕ) : Type 0 where
+-- what the walk and these tests find together: the fault, and the tables and flags where there is none
+pub record WholeAs (p : List ℕ) (answer : Checked) (first starter again : List ℕ) : Type 0 where
   pub answers : answer ≡ checked (fault devices p)
-  pub tables : answer ≡ Checked.Fine → (first ≡ firstLines p) × (starter ≡ starters p)
+  pub tables : answer ≡ Checked.Fine → (first ≡ firstLines p) × (starter ≡ starters p) × (again ≡ againFlags p)
 
--- what a scan leaves in a lent table: the plan's, or, where it is refused, what stood there
+-- what a scan leaves in a lent list: the plan's, or, where it is refused, what stood there
 abbrev pub leftBy : Option Refusal → List ℕ → List ℕ → List ℕ
 leftBy none table lent = table
 leftBy (some r) table lent = lent
 
--- the outcome of a scan: the fault, and the two tables where there is none
-pub record ScansAs (plan first starter : List ℕ) (answer : Checked) (first′ starter′ : List ℕ) : Type 0 where
-  pub answers : answer ≡ checked (fault devices plan)
-  pub firsts : first′ ≡ leftBy (fault devices plan) (firstLines plan) first
-  pub starts : starter′ ≡ leftBy (fault devices plan) (starters plan) starter
+-- the outcome of a scan: the fault, and the two tables and the flags where there is none
+pub record ScansAs (plan first starter again : List ℕ) (answer : Checked) (first′ starter′ again′ : List ℕ) : Type 0
+  where
+    pub answers : answer ≡ checked (fault devices plan)
+    pub firsts : first′ ≡ leftBy (fault devices plan) (firstLines plan) first
+    pub starts : starter′ ≡ leftBy (fault devices plan) (starters plan) starter
+    pub agains : again′ ≡ leftBy (fault devices plan) (againFlags plan) again

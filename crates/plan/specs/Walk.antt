@@ -1,23 +1,21 @@
 -- The walk along the lines as the code makes it: its state is the job of the line before (0 before the first), the
 -- devices that this job holds (the latest first), and for each job the number of its first line and of the line that
 -- starts it. That it finds the fault of `model` is shown in proofs/.
-use Prim.Native.Nat.{ℕ, zero, suc, _+_, _-_, _<_}
-use mathlib.Core.Bool.{Bool, true, false, cond, not, _&&_, _||_}
+use Prim.Native.Nat.{ℕ, zero, suc, _+_, _-_, _≤_}
+use mathlib.Core.Bool.{Bool, cond, not, _&&_, _||_}
 use mathlib.Core.List.{List, [], _∷_, tail}
 use mathlib.Core.Option.{Option, none, some}
 use mathlib.Core.Path.{_≡_}
 use lib.Dec.{eqb, leb, ltb}
 use lib.ListN.{length, getD, set}
-use Rattle.model.specs.Lists.{has}
 use Rattle.model.specs.Answers.{refuseIf, firstRefusal}
 use Rattle.model.specs.Board.{devices}
 use Rattle.model.specs.Line.{job, operand, isTake, isGive, isStart, isLine, lineNumber, maxLines, maxJob}
-use Rattle.model.specs.Sets.{empty, member}
+use Rattle.model.specs.Sets.{empty}
 use Rattle.model.specs.WellFormed.{isLast, firstFault}
 use Rattle.model.specs.declared.Refusal.{Refusal}
 use Rattle.model.specs.declared.Refusal.the-variants.{Malformed, TooManyLines, JobOutOfSequence, BadStart}
-use Rattle.model.specs.declared.Refusal.the-variants.{GiveWithoutTake, TakeOfHeld}
-use Rattle.sets.specs.Both.{differ}
+use Rattle.model.specs.declared.Refusal.the-variants.{GiveWithoutTake}
 use Rattle.sets.specs.Only.{onlyOf}
 use Rattle.plan.specs.Checked.{checked}
 use Rattle.plan.specs.Tables.{Tables}
@@ -36,7 +34,7 @@ placedBy i many line follows =
 unfoldable pub placeFault : ℕ → ℕ → ℕ → ℕ → Option Refusal
 placeFault D n i prev = placedBy i (leb maxLines i) (isLine D n) (eqb (job n) prev || eqb (job n) (suc prev))
 
--- what a line leads to: the devices held, the first lines and the starters, or a refusal
+-- what a line leads to: the devices held, the first lines and the starters; or a refusal
 pub data Next : Type 0 where
   on : List ℕ → List ℕ → List ℕ → Next
   bad : Refusal → Next
@@ -44,8 +42,7 @@ pub data Next : Type 0 where
 -- the verb's own rule
 unfoldable pub ruleOf : ℕ → ℕ → List ℕ → List ℕ → List ℕ → Next
 ruleOf i n held first starter =
-    cond (isTake n)
-    (cond (has (operand n) held) (bad (TakeOfHeld (lineNumber i))) (on (operand n ∷ held) first starter))
+    cond (isTake n) (on (operand n ∷ held) first starter)
     (cond (isGive n)
     (cond (isLast (operand n) held) (on (tail held) first starter) (bad (GiveWithoutTake (lineNumber i))))
     (cond (isStart n)
@@ -67,52 +64,42 @@ stepOf D n i prev held first starter =
 
 -- ---- the devices held as the code has them
 
--- on a stack whose place 0 is no device's: the `depth` places above it, the latest first
+-- the devices of the `depth` places above place 0, which is no take's, the latest first
 unfoldable pub heldIn : ℕ → List ℕ → List ℕ
 heldIn zero stack = []
 heldIn (suc depth) stack = getD stack (suc depth) 0 ∷ heldIn depth stack
 
--- devices of a board of D, none of them twice
-pub data Once (D : ℕ) : List ℕ → Type 0 where
-  bare : Once D []
-  more : (d : ℕ) (ds : List ℕ) → d < D → has d ds ≡ false → Once D ds → Once D (d ∷ ds)
-
--- the stack and the set `held` have the same devices
-pub record Holding (depth held : ℕ) (stack : List ℕ) : Type 0 where
-  pub long : length stack ≡ devices + 2
+pub record Stack (stack : List ℕ) : Type 0 where
+  pub long : length stack ≡ suc maxLines
   pub floor : getD stack 0 0 ≡ devices
-  pub once : Once devices (heldIn depth stack)
-  pub same : (d : ℕ) → d < devices → member held d ≡ has d (heldIn depth stack)
 
--- the code's one test of takes and gives
-abbrev pub breaks : ℕ → ℕ → ℕ → Bool
-breaks n held latest = (isTake n && member held (operand n)) || (isGive n && not (eqb latest (operand n)))
+-- the set of the device that a line gives
+abbrev pub givenBy : ℕ → ℕ
+givenBy n = cond (isGive n) (onlyOf devices (operand n)) empty
 
--- the depth and the set after a line that breaks nothing
+-- the depth after a line that breaks nothing
 abbrev pub depthAfter : ℕ → ℕ → ℕ
 depthAfter n depth = cond (isTake n) (depth + 1) (cond (isGive n) (depth - 1) depth)
 
-abbrev pub setAfter : ℕ → ℕ → ℕ
-setAfter n held = differ held (cond (isTake n || isGive n) (onlyOf devices (operand n)) empty)
-
--- the whole state: beside the devices held, the two tables
-pub record Walking (depth held : ℕ) (stack first starter : List ℕ) : Type 0 where
-  pub holding : Holding depth held stack
+-- the whole state: beside the stack, the two tables
+pub record Walking (stack first starter : List ℕ) : Type 0 where
+  pub stacked : Stack stack
   pub first-long : length first ≡ suc maxJob
   pub starter-long : length starter ≡ suc maxJob
 
 -- what the code's answers say of its arrays; nothing after a refusal
 abbrev pub nextBy : After → List ℕ → List ℕ → List ℕ → Next
-nextBy (After.On depth held) stack first starter = on (heldIn depth stack) first starter
+nextBy (After.On depth) stack first starter = on (heldIn depth stack) first starter
 nextBy (After.Bad r) stack first starter = bad r
 
-abbrev pub HoldingBy : After → List ℕ → Type 0
-HoldingBy (After.On depth held) stack = Holding depth held stack
-HoldingBy (After.Bad r) stack = Unit
+-- after the line at position i no more takes are open than there were lines
+abbrev pub StackBy : ℕ → After → List ℕ → Type 0
+StackBy i (After.On depth) stack = (depth ≤ suc i) × Stack stack
+StackBy i (After.Bad r) stack = Unit
 
-abbrev pub WalkingBy : After → List ℕ → List ℕ → List ℕ → Type 0
-WalkingBy (After.On depth held) stack first starter = Walking depth held stack first starter
-WalkingBy (After.Bad r) stack first starter = Unit
+abbrev pub WalkingBy : ℕ → After → List ℕ → List ℕ → List ℕ → Type 0
+WalkingBy i (After.On depth) stack first starter = (depth ≤ suc i) × Walking stack first starter
+WalkingBy i (After.Bad r) stack first starter = Unit
 
 -- what the whole walk finds: the fault of the first line that has one, or the tables
 pub record Walked (p : List ℕ) (answer : Checked) (first starter : List ℕ) : Type 0 where

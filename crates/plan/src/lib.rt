@@ -1,8 +1,8 @@
-// The packed plan (01, "Rules of a well-formed plan" and "Refusal numbers", 2 to 8): the walk along its lines, each
-// tested for 3, 2, 4 and its verb's own rule; the tests after the last line; and the line numbers of each job's first
-// line and of the line that starts it.
+// The packed plan (01, "Rules of a well-formed plan" and "Refusal numbers", 2 to 7): the walk along its lines, each
+// tested for 3, 2, 4 and its verb's own rule; the tests after the last line; the line numbers of each job's first line
+// and of the line that starts it; and which lines take again what their job holds, or give such a take back (02,
+// request 2).
 use board::DEVICES;
-use board::EACH_DEVICE;
 use board::EACH_JOB;
 use board::MOST_LINES;
 use board::Set;
@@ -17,13 +17,16 @@ ghost use Rattle.model.specs.Line.{job, operand, isTake, isGive, isStart, isLin
 ghost use Rattle.model.specs.Sets.{empty, member};
 ghost use Rattle.model.specs.WellFormed.{fault, firstFault};
 ghost use Rattle.model.specs.Board.{devices};
-ghost use Rattle.sets.specs.Both.{differ};
+ghost use Rattle.sets.specs.Both.{differ, without};
 ghost use Rattle.sets.specs.Only.{onlyOf};
 ghost use Rattle.plan.specs.Checked.{checked};
 ghost use Rattle.plan.specs.Tables.{none-yet, Tables};
 ghost use Rattle.plan.specs.Ends.{lowerOf, earlierOf, EndsAs, WholeAs, ScansAs};
-ghost use Rattle.plan.specs.Walk.{placeFault, ruleOf, stepOf, heldIn, Holding, Walking, Walked};
-ghost use Rattle.plan.specs.Walk.{breaks, depthAfter, setAfter, nextBy, HoldingBy, WalkingBy};
+ghost use Rattle.plan.specs.Again.{againFlags, none-again};
+ghost use Rattle.plan.specs.Walk.{placeFault, ruleOf, stepOf, heldIn, givenBy, Stack, Walking, Walked};
+ghost use Rattle.plan.specs.Walk.{nextBy, StackBy, WalkingBy};
+ghost use Rattle.plan.specs.Noting.{changeOf, handledBy, NotesAs};
+ghost use Rattle.plan.specs.declared.Checked.{Checked};
 
 // What a check of a plan finds.
 pub enum Checked {
@@ -31,14 +34,17 @@ pub enum Checked {
     Refused(Refusal),
 }
 
-// What a line leads to: how many devices its job holds after it and the set of them, or a refusal.
+// What a line leads to: how many takes of its job are open after it, or a refusal.
 pub enum After {
-    On(u32, Set),
+    On(u32),
     Bad(Refusal),
 }
 
-// Where the devices held stand, the latest last: above place 0, which is no device's, and with room for one more.
-const STACK_PLACES: usize = EACH_DEVICE + 2;
+// The open takes stand on a stack, the latest last, above place 0, which is no take's: there is one a line at most.
+const STACK_PLACES: usize = MOST_LINES + 1;
+
+// What place 0 has: no device's number.
+const FLOOR: u8 = DEVICES as u8;
 
 // The first three tests of the line at position i, after a line of job `prev`, which is 0 before the first. No test
 // asks whether the job is the same, which cannot be foretold.
@@ -61,38 +67,37 @@ fn misplaced(i: usize, n: u32, prev: u32) -> Checked
     Checked::Refused(Refusal::Malformed((i + 1) as u32))
 }
 
-// How many devices are held after a take, a give or neither.
+// How many takes are open after a take, a give or neither.
 fn deeper(depth: u32, takes: bool, gives: bool) -> u32
-    requires { ⌜ (depth ≤ devices) × (gives ≡ true → 1 ≤ depth) × (takes ≡ true → gives ≡ false) ⌝ }
+    requires { ⌜ (depth ≤ maxLines) × (gives ≡ true → 1 ≤ depth) × (takes ≡ true → gives ≡ false) ⌝ }
     ensures { λ r. ⌜ r ≡ cond takes (depth + 1) (cond gives (depth - 1) depth) ⌝ }
 {
     depth + takes as u32 - gives as u32
 }
 
-// The rule of a do, a take or a give, at position i, without a branch on the verb: verbs come in no order, so that the
-// processor would guess such a branch wrong at every other line. The operand is stored above the devices held whatever
-// the verb; it counts where the depth goes up. Place 0 has a number that no give names.
-fn held_after(i: usize, n: u32, depth: u32, held: Set, stack: &mut [u32; STACK_PLACES]) -> After
-    requires { ⌜ (i < maxLines) × (isLine devices n ≡ true) × (isStart n ≡ false) × Holding depth held (now stack) ⌝ }
+// Is a give not of the device taken last? One test of a word, so that there is no branch on whether it is a give: verbs
+// come in no order, and the processor would guess such a branch wrong at every other line.
+fn misgives(n: u32, latest: u8) -> bool
+    ensures { λ r. ⌜ r ≡ not (eqb (without (givenBy n) (onlyOf devices latest)) empty) ⌝ }
+{
+    let given = sets::only_if(line::is_give(n), line::operand(n));
+    sets::without(given, sets::only(latest as u32)) != sets::NONE
+}
+
+// The rule of a do, a take or a give, at position i, without a branch on the verb. The operand is stacked above the
+// open takes whatever the verb; it counts where the depth goes up. Place 0 has a number that no give names.
+fn held_after(i: usize, n: u32, depth: u32, stack: &mut [u8; STACK_PLACES]) -> After
+    requires { ⌜ (i < maxLines) × (depth ≤ i) × (isLine devices n ≡ true) × (isStart n ≡ false) × Stack (now stack) ⌝ }
     ensures led { λ r. ⌜ ((first starter : List ℕ) → nextBy r (now (stack .exit)) first starter
         ≡ ruleOf i n (heldIn depth (now (stack .entry))) first starter) ⌝ }
-    ensures keeps { λ r. ⌜ HoldingBy r (now (stack .exit)) ⌝ }
+    ensures keeps { λ r. ⌜ StackBy i r (now (stack .exit)) ⌝ }
 {
-    let o = line::operand(n);
-    let takes = line::is_take(n);
-    let gives = line::is_give(n);
     let t = depth as usize;
-    if (takes & sets::member(held, o)) | (gives & (stack[t] != o)) {
-        if takes {
-            return After::Bad(Refusal::TakeOfHeld((i + 1) as u32));
-        }
+    if misgives(n, stack[t]) {
         return After::Bad(Refusal::GiveWithoutTake((i + 1) as u32));
     }
-    stack[t + 1] = o;
-    After::On(
-        deeper(depth, takes, gives),
-        sets::differ(held, sets::only_if(takes | gives, o)),
-    )
+    stack[t + 1] = line::operand(n) as u8;
+    After::On(deeper(depth, line::is_take(n), line::is_give(n)))
 }
 
 // The verb's own rule, at position i. A start that keeps it is its job's starter.
@@ -100,15 +105,14 @@ fn rule(
     i: usize,
     n: u32,
     depth: u32,
-    held: Set,
-    stack: &mut [u32; STACK_PLACES],
+    stack: &mut [u8; STACK_PLACES],
     starter: &mut [u32; EACH_JOB],
 ) -> After
-    requires { ⌜ (i < maxLines) × (isLine devices n ≡ true) × Holding depth held (now stack)
+    requires { ⌜ (i < maxLines) × (depth ≤ i) × (isLine devices n ≡ true) × Stack (now stack)
         × (length (now starter) ≡ suc maxJob) ⌝ }
     ensures led { λ r. ⌜ ((first : List ℕ) → nextBy r (now (stack .exit)) first (now (starter .exit))
         ≡ ruleOf i n (heldIn depth (now (stack .entry))) first (now (starter .entry))) ⌝ }
-    ensures keeps { λ r. ⌜ HoldingBy r (now (stack .exit)) ⌝ }
+    ensures keeps { λ r. ⌜ StackBy i r (now (stack .exit)) ⌝ }
     ensures long { λ r. ⌜ length (now (starter .exit)) ≡ suc maxJob ⌝ }
 {
     if line::is_start(n) {
@@ -116,11 +120,11 @@ fn rule(
         let t = o as usize;
         if (line::job(n) < o) & (starter[t] == 0) {
             starter[t] = (i + 1) as u32;
-            return After::On(depth, held);
+            return After::On(depth);
         }
         return After::Bad(Refusal::BadStart((i + 1) as u32));
     }
-    held_after(i, n, depth, held, stack)
+    held_after(i, n, depth, stack)
 }
 
 // What the line at position i leads to, after a line of job `prev`: one of the same job, or the next job's first, which
@@ -130,15 +134,14 @@ fn checked_line(
     n: u32,
     prev: u32,
     depth: u32,
-    held: Set,
-    stack: &mut [u32; STACK_PLACES],
+    stack: &mut [u8; STACK_PLACES],
     first: &mut [u32; EACH_JOB],
     starter: &mut [u32; EACH_JOB],
 ) -> After
-    requires { ⌜ Walking depth held (now stack) (now first) (now starter) ⌝ }
+    requires { ⌜ (depth ≤ i) × Walking (now stack) (now first) (now starter) ⌝ }
     ensures led { λ r. ⌜ nextBy r (now (stack .exit)) (now (first .exit)) (now (starter .exit))
         ≡ stepOf devices n i prev (heldIn depth (now (stack .entry))) (now (first .entry)) (now (starter .entry)) ⌝ }
-    ensures keeps { λ r. ⌜ WalkingBy r (now (stack .exit)) (now (first .exit)) (now (starter .exit)) ⌝ }
+    ensures keeps { λ r. ⌜ WalkingBy i r (now (stack .exit)) (now (first .exit)) (now (starter .exit)) ⌝ }
 {
     if let Checked::Refused(r) = misplaced(i, n, prev) {
         return After::Bad(r);
@@ -148,29 +151,110 @@ fn checked_line(
     let t = j as usize;
     first[t] = line::choose(same, first[t], (i + 1) as u32);
     let d = line::choose(same, depth, 0);
-    let h = sets::choose(same, held, sets::NONE);
-    rule(i, n, d, h, stack, starter)
+    rule(i, n, d, stack, starter)
 }
 
-// The walk along the lines: the first line with a fault decides. Where there is none, the tables are the plan's.
-fn walk(plan: &[u32], first: &mut [u32; EACH_JOB], starter: &mut [u32; EACH_JOB]) -> Checked
-    requires { ⌜ (now first ≡ none-yet) × (now starter ≡ none-yet) ⌝ }
-    ensures { λ r. ⌜ Walked (now (plan .entry)) r (now (first .exit)) (now (starter .exit)) ⌝ }
+// ---- which lines take again what their job holds, or give such a take back
+
+// What a line changes of the devices that its job holds: of a take the device, unless it is held; of a give what its
+// take has added, which is `latest`. Sets stand for tests, so that there is no branch on the verb.
+fn change(n: u32, held: Set, latest: Set) -> Set
+    ensures { λ r. ⌜ r ≡ changeOf n held latest ⌝ }
 {
-    let mut stack = [DEVICES; STACK_PLACES];
+    let o = line::operand(n);
+    let taken = sets::only_if(line::is_take(n), o);
+    let given = sets::only_if(line::is_give(n), o);
+    sets::union(sets::without(taken, held), sets::both(given, latest))
+}
+
+// Is that less than the line's verb says? Then it takes again what is held, or gives such a take back.
+fn is_again(n: u32, changed: Set) -> bool
+    ensures { λ r. ⌜ r ≡ not (eqb (handledBy n) changed) ⌝ }
+{
+    let o = line::operand(n);
+    let taken = sets::only_if(line::is_take(n), o);
+    let given = sets::only_if(line::is_give(n), o);
+    sets::union(taken, given) != changed
+}
+
+// The flag of the line at position i, after a line of job `prev`; and the devices held after it. `added` has for each
+// open take what it has added to the devices held.
+fn note(
+    i: usize,
+    n: u32,
+    prev: u32,
+    depth: u32,
+    held: Set,
+    added: &mut [Set; STACK_PLACES],
+    again: &mut [u8; MOST_LINES],
+) -> Set
+    requires { ⌜ (i < maxLines) × (depth ≤ i) × (length (now added) ≡ suc maxLines)
+        × (length (now again) ≡ maxLines) ⌝ }
+    ensures { λ r. ⌜ NotesAs i n prev depth held (now (added .entry)) (now (again .entry))
+        r (now (added .exit)) (now (again .exit)) ⌝ }
+{
+    let same = line::job(n) == prev;
+    let h = sets::choose(same, held, sets::NONE);
+    let t = line::choose(same, depth, 0) as usize;
+    let c = change(n, h, added[t]);
+    added[t + 1] = c;
+    again[i] = is_again(n, c) as u8;
+    sets::differ(h, c)
+}
+
+// The same where it is asked for; else nothing is noted.
+fn note_if(
+    noting: bool,
+    i: usize,
+    n: u32,
+    prev: u32,
+    depth: u32,
+    held: Set,
+    added: &mut [Set; STACK_PLACES],
+    again: &mut [u8; MOST_LINES],
+) -> Set
+    requires { ⌜ (noting ≡ true → (i < maxLines) × (depth ≤ i) × (length (now added) ≡ suc maxLines)
+        × (length (now again) ≡ maxLines)) ⌝ }
+    ensures { λ r. ⌜ (noting ≡ true → NotesAs i n prev depth held (now (added .entry)) (now (again .entry))
+        r (now (added .exit)) (now (again .exit))) ⌝ }
+{
+    if noting {
+        return note(i, n, prev, depth, held, added, again);
+    }
+    held
+}
+
+// ---- the whole plan
+
+// The walk along the lines: the first line with a fault decides. Where there is none, the tables are the plan's, and
+// so are the flags where they are asked for: to read or write a plan nobody needs them.
+fn walk(
+    plan: &[u32],
+    noting: bool,
+    first: &mut [u32; EACH_JOB],
+    starter: &mut [u32; EACH_JOB],
+    again: &mut [u8; MOST_LINES],
+) -> Checked
+    requires { ⌜ (now first ≡ none-yet) × (now starter ≡ none-yet) × (now again ≡ none-again) ⌝ }
+    ensures walked { λ r. ⌜ Walked (now (plan .entry)) r (now (first .exit)) (now (starter .exit)) ⌝ }
+    ensures flagged { λ r. ⌜ (noting ≡ true → r ≡ Checked.Fine
+        → now (again .exit) ≡ againFlags (now (plan .entry))) ⌝ }
+{
+    let mut stack = [FLOOR; STACK_PLACES];
+    let mut added = [sets::NONE; STACK_PLACES];
     let mut depth: u32 = 0;
     let mut held: Set = sets::NONE;
     let mut prev: u32 = 0;
     let mut i: usize = 0;
     while i < plan.len() {
         let n = plan[i];
-        match checked_line(i, n, prev, depth, held, &mut stack, first, starter) {
+        match checked_line(i, n, prev, depth, &mut stack, first, starter) {
             After::Bad(r) => {
                 return Checked::Refused(r);
             }
-            After::On(d, h) => {
+            After::On(d) => {
+                held = note_if(noting, i, n, prev, depth, held, &mut added, again);
                 depth = d;
-                held = h;
                 prev = line::job(n);
                 i += 1;
             }
@@ -185,7 +269,8 @@ pub fn lines_fault(plan: &[u32]) -> Checked
 {
     let mut first = [0u32; EACH_JOB];
     let mut starter = [0u32; EACH_JOB];
-    walk(plan, &mut first, &mut starter)
+    let mut again = [0u8; MOST_LINES];
+    walk(plan, false, &mut first, &mut starter, &mut again)
 }
 
 // Of a line so far and the line that starts a job without lines, the lower; 0 stands for no line.
@@ -231,29 +316,44 @@ fn ends(first: &[u32; EACH_JOB], starter: &[u32; EACH_JOB]) -> Checked
     Checked::Fine
 }
 
-// The fault of a plan, and its tables where it has none.
-fn whole(plan: &[u32], first: &mut [u32; EACH_JOB], starter: &mut [u32; EACH_JOB]) -> Checked
-    requires { ⌜ (now first ≡ none-yet) × (now starter ≡ none-yet) ⌝ }
-    ensures { λ r. ⌜ WholeAs (now (plan .entry)) r (now (first .exit)) (now (starter .exit)) ⌝ }
+// The fault of a plan; where it has none, its tables and flags.
+fn whole(
+    plan: &[u32],
+    first: &mut [u32; EACH_JOB],
+    starter: &mut [u32; EACH_JOB],
+    again: &mut [u8; MOST_LINES],
+) -> Checked
+    requires { ⌜ (now first ≡ none-yet) × (now starter ≡ none-yet) × (now again ≡ none-again) ⌝ }
+    ensures { λ r. ⌜ WholeAs (now (plan .entry)) r (now (first .exit)) (now (starter .exit)) (now (again .exit)) ⌝ }
 {
-    if let Checked::Refused(r) = walk(plan, first, starter) {
+    if let Checked::Refused(r) = walk(plan, true, first, starter, again) {
         return Checked::Refused(r);
     }
     ends(first, starter)
 }
 
-// The fault of a plan; where it has none, the first line and the starter of each job in the lent tables.
-pub fn scan(plan: &[u32], first: &mut [u32; EACH_JOB], starter: &mut [u32; EACH_JOB]) -> Checked
-    ensures { λ r. ⌜ ScansAs (now (plan .entry)) (now (first .entry)) (now (starter .entry)) r (now (first .exit))
-        (now (starter .exit)) ⌝ }
+// The fault of a plan; where it has none, the first line and the starter of each job, and a flag for each line that
+// takes again or gives such a take back, in the lent lists.
+pub fn scan(
+    plan: &[u32],
+    first: &mut [u32; EACH_JOB],
+    starter: &mut [u32; EACH_JOB],
+    again: &mut [u8; MOST_LINES],
+) -> Checked
+    ensures { λ r. ⌜
+        ScansAs (now (plan .entry)) (now (first .entry)) (now (starter .entry)) (now (again .entry))
+        r (now (first .exit)) (now (starter .exit)) (now (again .exit))
+        ⌝ }
 {
     let mut f = [0u32; EACH_JOB];
     let mut s = [0u32; EACH_JOB];
-    if let Checked::Refused(r) = whole(plan, &mut f, &mut s) {
+    let mut a = [0u8; MOST_LINES];
+    if let Checked::Refused(r) = whole(plan, &mut f, &mut s, &mut a) {
         return Checked::Refused(r);
     }
     *first = f;
     *starter = s;
+    *again = a;
     Checked::Fine
 }
 
@@ -263,5 +363,9 @@ pub fn fault(plan: &[u32]) -> Checked
 {
     let mut first = [0u32; EACH_JOB];
     let mut starter = [0u32; EACH_JOB];
-    whole(plan, &mut first, &mut starter)
+    let mut again = [0u8; MOST_LINES];
+    if let Checked::Refused(r) = walk(plan, false, &mut first, &mut starter, &mut again) {
+        return Checked::Refused(r);
+    }
+    ends(&first, &starter)
 }

@@ -19,7 +19,7 @@ use Rattle.model.specs.Answers.{moveValues, judgeValues}
 use Rattle.model.specs.Line.{job, isLine, lineNumber}
 use Rattle.model.specs.Text.{spelt, cursorAfter, cursorFrom, lineFrom}
 use Rattle.model.specs.WellFormed.{WellFormed}
-use Rattle.model.specs.Move.{edited, way, rewritten, changed, askedAt, moveRefusal}
+use Rattle.model.specs.Move.{edited, fromLast, rewritten, changed, askedAt, moveRefusal}
 use Rattle.model.specs.Entries.{outcome, reading, writing, tabling, ordering, moving}
 use Rattle.model.specs.Judged.{judging}
 use Rattle.model.specs.declared.Refusal.{Refusal}
@@ -39,8 +39,8 @@ use Rattle.theory.proofs.Lists.{those-length}
 use Rattle.theory.proofs.Line.{line-parts}
 use Rattle.theory.proofs.WellFormed.{take-line}
 use Rattle.theory.proofs.Claims.{length-upFrom}
-use Rattle.theory.proofs.Way.{falls-below, way-falls}
-use Rattle.theory.proofs.Move.{asked-take}
+use Rattle.theory.proofs.Way.{may-change-line}
+use Rattle.theory.proofs.Move.{asked-take, nearest-may-change}
 use Rattle.theory.proofs.Text.{text-length}
 use Rattle.theory.proofs.Reader.{RightAnswer, next-right}
 use Rattle.theory.proofs.Offsets.{StandsAt, from-stands, one-past}
@@ -49,7 +49,7 @@ use Rattle.theory.proofs.Printed.{broken-bounds, held-few}
 use Rattle.model.specs.InOne.{half, inOne}
 use Rattle.promises.specs.Outcome.{MeetsInOne, faulty, short, further}
 use Rattle.promises.specs.Text.{ReadsAs, Asked}
-use Rattle.promises.specs.Move.{NotMoved, notATake, noSuchDevice, staleTable, takeOfHeld}
+use Rattle.promises.specs.Move.{NotMoved, notATake, noSuchDevice, staleTable}
 use Rattle.promises.specs.Judge as judge
 use Rattle.promises.specs.Judge.{JudgesAs, NotPassed}
 use Rattle.promises.specs.ForC.{HandsOutForC, ReadsForC, WritesForC, TablesForC, OrdersForC, MovesForC}
@@ -219,7 +219,7 @@ move-number p t line device lineSmall deviceSmall n p′ t′ =
         arith,
         w .few,
         changed-few p t
-            (rewritten (edited p (askedAt line) device) t (way p (askedAt line))),
+            (rewritten (edited p (askedAt line) device) t (fromLast p (askedAt line))),
       );
     })
     n (record { plan = p′; sets = t′ })
@@ -231,13 +231,8 @@ move-number p t line device lineSmall deviceSmall n p′ t′ =
     place-fits w r (notATake x) = lineSmall
     place-fits w r (noSuchDevice x h) = deviceSmall
     place-fits w r (staleTable k x h s) =
-        omega (
-          arith,
-          falls-below (suc i) k (way p i) (way-falls p i) (s .onWay),
-          take-line p i (asked-take p line x),
-          w .few,
-        )
-    place-fits w r (takeOfHeld q x h f e b) = fault-small (edited p i device) q b
+        let inPlan = take-line p i (asked-take p line x) in
+        omega (arith, may-change-line p i inPlan k (nearest-may-change p t i k s), w .few)
 
 -- ---- the line entry
 

@@ -1,26 +1,26 @@
 -- What follows from what `move_claim` promises, `MovesAs` (01, "Moving a claim" and "How tight the statements are"): a
 -- refusal exactly in a listed case, with nothing changed, nor does a move to the present device change anything; 9 and
--- 10 refuse none; a move changes sets on the way alone; from a plan without a fault and its own table, an accepted move
--- leaves what would be worked out afresh, with the count of the sets that differ; and so on over any list of moves
--- (demand 3).
+-- 10 refuse none; a move changes sets on the way and under the take alone; from a plan without a fault and its own
+-- table, an accepted move leaves what would be worked out afresh, with the count of the sets that differ; and so on
+-- over any list of moves (demand 3).
 use Prim.Native.Nat.{ℕ}
 use mathlib.Core.Bool.{Bool, true, false, not}
 use mathlib.Core.List.{List, [], _∷_}
 use mathlib.Core.Logic.{_≢_, _↔_}
-use mathlib.Core.Option.{Option, none, some, Option·none-ne-some, Option·some-injective}
+use mathlib.Core.Option.{Option, none, some, Option·none-ne-some}
 use mathlib.Core.Path.{_≡_, refl, sym, _∙_, ap, subst}
 use native.Mathlib.Omega.{arith}
-use lib.Dec.{lit≤, eqb, leb}
+use lib.Dec.{lit≤, leb}
 use lib.ListN.{length, getD, drop}
 use lib.Seq.{take-at}
-use borrow.Author.Tests.{eqb-true, eq-eqb, leb-true, leb-false, le-leb, lt-leb}
+use borrow.Author.Tests.{leb-true, leb-false, le-leb, lt-leb}
 use Rattle.model.specs.Lists.{has, over, firstOf}
 use Rattle.model.specs.Answers.{numberOf, refuseIf, refuseAt, firstRefusal}
 use Rattle.model.specs.Line.{lineNumber}
 use Rattle.model.specs.Mate.{deviceAt}
 use Rattle.model.specs.WellFormed.{WellFormed, fault}
 use Rattle.model.specs.Claims.{table}
-use Rattle.model.specs.Move.{edited, way, stale, rewritten, changed, askedAt, isTakeOf, ofNumber, moveRefusal}
+use Rattle.model.specs.Move.{edited, mayChange, fromLast, stale, rewritten, changed, askedAt, isTakeOf, moveRefusal}
 use Rattle.model.specs.Entries.{Outcome, Lent, moving}
 use Rattle.model.specs.Board.{devices}
 use Rattle.model.specs.declared.Refusal.{Refusal}
@@ -29,15 +29,15 @@ use Rattle.model.specs.declared.MoveAnswer.{MoveAnswer}
 use Rattle.theory.specs.WellFormed.{Broken}
 use Rattle.theory.specs.Move.{differing, Accepted, Step, refused, accepted, Ask, moved, movedBy, Kept}
 use Rattle.theory.proofs.WellFormed.{fault-exactly, no-fault-exactly}
-use Rattle.theory.proofs.Lists.{none-exactly}
 use Rattle.theory.proofs.Claims.{length-table}
 use Rattle.theory.proofs.Answers.{one-move-answer}
-use Rattle.theory.proofs.Move.{stale-exactly, move-step, rewritten-off, length-rewritten, own-long}
+use Rattle.theory.proofs.Way.{from-last-same}
+use Rattle.theory.proofs.Move.{stale-exactly, tests-passed, move-step, rewritten-off, length-rewritten, own-long}
 use Rattle.theory.proofs.Move.{no-verdict-refuses, same-device-stays, same-device-passes, moves-keep}
 use Rattle.promises.specs.Outcome.{Refuses}
 use Rattle.promises.specs.Table.{OwnTable}
 use Rattle.promises.specs.Verdict.{Decided}
-use Rattle.promises.specs.Move.{MovesAs, NotMoved, notATake, noSuchDevice, staleTable, takeOfHeld, NoMove}
+use Rattle.promises.specs.Move.{MovesAs, NotMoved, notATake, noSuchDevice, staleTable, NoMove}
 use Rattle.promises.specs.Move.{Afresh, Moved, notMoved, isMoved, Moves, none-asked, one-more, StaysRight}
 use Rattle.promises.proofs.Tight.{the-outcome}
 use Rattle.promises.proofs.Outcome as one
@@ -47,74 +47,43 @@ use Rattle.promises.proofs.Verdict.{decided}
 
 -- ---- the listed cases
 
-of-number : (n : ℕ) (x : Option Refusal) (r : Refusal) → (ofNumber n x ≡ some r) ↔ ((x ≡ some r) × (numberOf r ≡ n))
-unfolding ofNumber refuseIf
-of-number n none r = (λ e. absurd (Option·none-ne-some r e), λ h. h .0)
-of-number n (some q) r = (to (eqb (numberOf q) n) refl, from)
-  where
-    to : (b : Bool) → eqb (numberOf q) n ≡ b → refuseIf b q ≡ some r
-        → (_≡_ {A = Option Refusal} (some q) (some r)) × (numberOf r ≡ n)
-    to true g e = (e, rw (Option·some-injective q r e) at (eqb-true (numberOf q) n g))
-    to false g e = absurd (Option·none-ne-some r e)
-
-    from : (_≡_ {A = Option Refusal} (some q) (some r)) × (numberOf r ≡ n) → ofNumber n (some q) ≡ some r
-    from h =
-        rw (eq-eqb (numberOf q) n (ap numberOf (Option·some-injective q r (h .0)) ∙ h .1)) (h .0)
-
 module _ (p t : List ℕ) (line device : ℕ) where
   abbrev pub rest : List (Option Refusal)
   rest =
       refuseIf (not (isTakeOf p line)) (NotATake line) ∷ refuseIf (leb devices device) (NoSuchDevice device)
-      ∷ refuseAt (λ k. StaleTable (lineNumber k)) (firstOf (stale p t) (way p (askedAt line)))
-      ∷ ofNumber 8 (fault devices (edited p (askedAt line) device)) ∷ []
+      ∷ refuseAt (λ k. StaleTable (lineNumber k)) (firstOf (stale p t) (mayChange p (askedAt line))) ∷ []
 
   -- the tests after that of the room, by their outcomes
-  restBy : Bool → Bool → Option ℕ → Option Refusal → Option Refusal
-  restBy taken off old held =
+  restBy : Bool → Bool → Option ℕ → Option Refusal
+  restBy taken off old =
       firstRefusal
       (refuseIf (not taken) (NotATake line) ∷ refuseIf off (NoSuchDevice device)
-      ∷ refuseAt (λ k. StaleTable (lineNumber k)) old ∷ held ∷ [])
+      ∷ refuseAt (λ k. StaleTable (lineNumber k)) old ∷ [])
 
   pub not-moved-exactly : (r : Refusal) → (firstRefusal rest ≡ some r) ↔ NotMoved p t line device r
   unfolding firstRefusal refuseIf refuseAt restBy
   not-moved-exactly r = (
-    to (isTakeOf p line) (leb devices device) (firstOf (stale p t) (way p i)) (ofNumber 8 (fault devices q)) refl refl
-        refl refl,
+    to (isTakeOf p line) (leb devices device) (firstOf (stale p t) (mayChange p i)) refl refl refl,
     from r,
   )
     where
       i : ℕ
       i = askedAt line
 
-      q : List ℕ
-      q = edited p i device
-
-      to : (b c : Bool) (o : Option ℕ) (f : Option Refusal) → isTakeOf p line ≡ b → leb devices device ≡ c
-          → firstOf (stale p t) (way p i) ≡ o → ofNumber 8 (fault devices q) ≡ f → restBy b c o f ≡ some r
-          → NotMoved p t line device r
-      to false c o f x y z w e = let s : r ≡ NotATake line = cc in rw s (notATake x)
-      to true true o f x y z w e =
+      to : (b c : Bool) (o : Option ℕ) → isTakeOf p line ≡ b → leb devices device ≡ c
+          → firstOf (stale p t) (mayChange p i) ≡ o → restBy b c o ≡ some r → NotMoved p t line device r
+      to false c o x y z e = let s : r ≡ NotATake line = cc in rw s (notATake x)
+      to true true o x y z e =
           let s : r ≡ NoSuchDevice device = cc in rw s (noSuchDevice x (leb-true devices device y))
-      to true false (some k) f x y z w e =
+      to true false (some k) x y z e =
           let s : r ≡ StaleTable (lineNumber k) = cc in
           rw s (staleTable k x (leb-false devices device y) (stale-exactly p t i k .0 z))
-      to true false none none x y z w e = absurd (Option·none-ne-some r e)
-      to true false none (some s) x y z w e =
-          let h = of-number 8 (fault devices q) r .0 (w ∙ e) in
-          takeOfHeld r x (leb-false devices device y) (none-exactly (stale p t) (way p i) .0 z) (h .1)
-          (fault-exactly devices q r .0 (h .0))
+      to true false none x y z e = absurd (Option·none-ne-some r e)
 
       from : (r : Refusal) → NotMoved p t line device r → firstRefusal rest ≡ some r
       from r (notATake x) = rw x
       from r (noSuchDevice x h) = rw (x, le-leb devices device h)
       from r (staleTable k x h s) = rw (x, lt-leb devices device h, stale-exactly p t i k .1 s)
-      from r (takeOfHeld s x h f n b) =
-          rw (
-            x,
-            lt-leb devices device h,
-            none-exactly (stale p t) (way p i) .1 f,
-            of-number 8 (fault devices q) s .1 (fault-exactly devices q s .1 b, n),
-          )
 
 -- ---- for every plan, table, line and device
 
@@ -122,7 +91,7 @@ abbrev pub entry : (p t : List ℕ) (line device : ℕ)
     → Entry MoveAnswer Lent (WellFormed devices p) (Broken devices p) (NotMoved p t line device)
 entry p t line device =
     let plan : List ℕ = edited p (askedAt line) device in
-    let sets : List ℕ = rewritten plan t (way p (askedAt line)) in
+    let sets : List ℕ = rewritten plan t (fromLast p (askedAt line)) in
     record {
       answers = moves;
       fault = fault devices p;
@@ -160,17 +129,19 @@ module _ (p t : List ℕ) (line device : ℕ) where
       no-verdict-refuses devices p t line device r
       (one.listed-exactly (entry p t line device) r .1 (refused-leaves r p′ t′ m .listed))
 
-  -- sets off the way stay what they were, and there are as many as before
-  pub off-way-stays : (a : MoveAnswer) (p′ t′ : List ℕ) → MovesAs p t line device a p′ t′ → (k : ℕ)
-      → has k (way p (askedAt line)) ≡ false → getD t′ k 0 ≡ getD t k 0
+  -- at lines that the move may not change sets stay what they were, and there are as many as before
+  pub elsewhere-stays : (a : MoveAnswer) (p′ t′ : List ℕ) → MovesAs p t line device a p′ t′ → (k : ℕ)
+      → has k (mayChange p (askedAt line)) ≡ false → getD t′ k 0 ≡ getD t k 0
   unfolding moving moveRefusal
-  off-way-stays a p′ t′ m k off = go (one.came (entry p t line device) a (left p′ t′) m)
+  elsewhere-stays a p′ t′ m k off = go (one.came (entry p t line device) a (left p′ t′) m)
     where
       go : Came (entry p t line device) a (left p′ t′) → getD t′ k 0 ≡ getD t k 0
       go (kept r h e f) = ap (λ (l : Lent). getD (l .sets) k 0) f
       go (passed h e f) =
+          let rules = no-fault-exactly devices p .0 (tests-passed devices p t line device h .0) .rules in
           ap (λ (l : Lent). getD (l .sets) k 0) f
-          ∙ rewritten-off (edited p (askedAt line) device) t (way p (askedAt line)) k off
+          ∙ rewritten-off (edited p (askedAt line) device) t (fromLast p (askedAt line)) k
+          (from-last-same p rules (askedAt line) k ∙ off)
 
   pub as-many-sets : (a : MoveAnswer) (p′ t′ : List ℕ) → MovesAs p t line device a p′ t′ → length t′ ≡ length t
   unfolding moving moveRefusal
@@ -180,7 +151,7 @@ module _ (p t : List ℕ) (line device : ℕ) where
       go (kept r h e f) = ap (λ (l : Lent). length (l .sets)) f
       go (passed h e f) =
           ap (λ (l : Lent). length (l .sets)) f
-          ∙ length-rewritten (edited p (askedAt line) device) t (way p (askedAt line))
+          ∙ length-rewritten (edited p (askedAt line) device) t (fromLast p (askedAt line))
 
   -- unless a test refuses, a claim moved to where it is counts 0, and all stays
   pub unrefused-stays-put : moveRefusal devices p t line device ≡ none → deviceAt p (askedAt line) ≡ device
@@ -196,7 +167,7 @@ module _ (p t : List ℕ) (line device : ℕ) where
 -- ---- from a plan without a fault and its own table
 
 module _ (p t : List ℕ) (line device : ℕ) (own : OwnTable p t) where
-  -- a move is refused by 12, 13 or 8 and changes nothing, or leaves what would be worked out afresh
+  -- a move is refused by 12 or 13 and changes nothing, or leaves what would be worked out afresh
   pub moves-right : (a : MoveAnswer) (p′ t′ : List ℕ) → MovesAs p t line device a p′ t′ → Moved p t line device a p′ t′
   unfolding over
   moves-right a p′ t′ m = go (move-step devices p t line device (own .sound) (lit≤ tt) (own .own))
@@ -219,7 +190,7 @@ module _ (p t : List ℕ) (line device : ℕ) (own : OwnTable p t) where
         sound = sound;
         tables = tables-as p′ t t′ sound (omega (arith, long, own-long p t (own .own)))
             (sets-are ∙ c .afresh ∙ rw (← plan-is, length-table p′, long));
-        offWay = off-way-stays p t line device a p′ t′ m;
+        elsewhere = elsewhere-stays p t line device a p′ t′ m;
         counts = ap (λ (s : List ℕ). differing s t) (sym sets-are);
         verdict = λ lent h b left j.
             subst (λ (q : List ℕ). Decided q lent b left) (plan-is ∙ c .plan) (decided p′ lent b left j sound h);
@@ -241,7 +212,7 @@ module _ (p t : List ℕ) (line device : ℕ) (own : OwnTable p t) where
       → MovesAs p t line device a p′ t′ → (a ≡ MoveAnswer.Changed 0) × (p′ ≡ p) × (t′ ≡ t)
   stays-put taken present =
       unrefused-stays-put p t line device
-      (same-device-passes devices p t line device present (own .sound) (lit≤ tt) (own .own) taken) present
+      (same-device-passes devices p t line device present (own .sound) (own .own) taken) present
 
 -- ---- demand 3: any list of moves, refused ones among them
 

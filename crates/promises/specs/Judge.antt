@@ -18,7 +18,7 @@ pub record JudgesAs (plan entries : List ℕ) (answer : JudgeAnswer) : Type 0 wh
 
 -- ---- what follows
 
--- why an order is refused: 2 to 8 of the plan; where nothing is broken, 15 at the first entry that cannot come there or
+-- why an order is refused: 2 to 7 of the plan; where nothing is broken, 15 at the first entry that cannot come there or
 -- is missing
 pub data NotPassed (plan entries : List ℕ) : Refusal → Type 0 where
   faulty : (r : Refusal) → Broken devices plan r → NotPassed plan entries r

@@ -6,10 +6,10 @@ use mathlib.Core.List.{List, [], _∷_}
 use mathlib.Core.Path.{_≡_}
 use lib.ListN.{length, getD}
 use Rattle.model.specs.Lists.{has}
-use Rattle.model.specs.Answers.{numberOf, moveValues}
+use Rattle.model.specs.Answers.{moveValues}
 use Rattle.model.specs.Line.{lineNumber}
 use Rattle.model.specs.WellFormed.{WellFormed}
-use Rattle.model.specs.Move.{edited, way, stale, askedAt, isTakeOf}
+use Rattle.model.specs.Move.{edited, mayChange, askedAt, isTakeOf}
 use Rattle.model.specs.Entries.{Lent, moving}
 use Rattle.model.specs.Board.{devices}
 use Rattle.model.specs.declared.Refusal.{Refusal}
@@ -30,17 +30,14 @@ MovesAs p t line device answer p′ t′ =
 -- ---- of any plan and table
 
 -- why a plan's claim is not moved in a table that is long enough, in the order of the tests: 12; 13; 14, at the nearest
--- stale line on the way; 8, if the edited plan has it
+-- stale line of those that the move may change
 pub data NotMoved (p t : List ℕ) (line device : ℕ) : Refusal → Type 0 where
   notATake : isTakeOf p line ≡ false → NotMoved p t line device (NotATake line)
   noSuchDevice : isTakeOf p line ≡ true → devices ≤ device → NotMoved p t line device (NoSuchDevice device)
   staleTable : (k : ℕ) → isTakeOf p line ≡ true → device < devices → NearestStale p t (askedAt line) k
       → NotMoved p t line device (StaleTable (lineNumber k))
-  takeOfHeld : (r : Refusal) → isTakeOf p line ≡ true → device < devices
-      → ((k : ℕ) → has k (way p (askedAt line)) ≡ true → stale p t k ≡ false) → numberOf r ≡ 8
-      → Broken devices (edited p (askedAt line) device) r → NotMoved p t line device r
 
--- why a move is refused: 2 to 8 of the plan as it is; where nothing is broken, 11; and where there is room, the above
+-- why a move is refused: 2 to 7 of the plan as it is; where nothing is broken, 11; and where there is room, the above
 abbrev pub NoMove : List ℕ → List ℕ → ℕ → ℕ → Refusal → Type 0
 NoMove p t line device =
     Listed (WellFormed devices p) (Broken devices p) (length t) (length p) (NotMoved p t line device)
@@ -48,18 +45,18 @@ NoMove p t line device =
 -- ---- from a plan without a fault and its own table
 
 -- what an accepted move leaves: the edited plan, without a fault; the table of it that `table` would leave in the list;
--- off the way the sets that were there. The count is the number of places at which the sets differ from those before;
--- and a verdict on the plan left decides about the edited plan.
+-- at lines that are neither on the way nor under the take the sets that were there. The count is the number of places
+-- at which the sets differ from those before; and a verdict on the plan left decides about the edited plan.
 pub record Afresh (p t : List ℕ) (line device count : ℕ) (p′ t′ : List ℕ) : Type 0 where
   pub plan : p′ ≡ edited p (askedAt line) device
   pub sound : WellFormed devices p′
   pub tables : TablesAs p′ t (TableAnswer.Lines (length p′)) t′
-  pub offWay : (k : ℕ) → has k (way p (askedAt line)) ≡ false → getD t′ k 0 ≡ getD t k 0
+  pub elsewhere : (k : ℕ) → has k (mayChange p (askedAt line)) ≡ false → getD t′ k 0 ≡ getD t k 0
   pub counts : count ≡ differing t′ t
   pub verdict : (lent : List ℕ) → length p′ ≤ length lent → (a : VerdictAnswer) (left : List ℕ)
       → OrdersAs p′ lent a left → Decided (edited p (askedAt line) device) lent a left
 
--- a move there: refused by 12, 13 or 8, with nothing changed, or accepted
+-- a move there: refused by 12 or 13, with nothing changed, or accepted
 pub data Moved (p t : List ℕ) (line device : ℕ) : MoveAnswer → List ℕ → List ℕ → Type 0 where
   notMoved : (r : Refusal) → Refused devices p line device r → Moved p t line device (MoveAnswer.Refused r) p t
   isMoved : (n : ℕ) (p′ t′ : List ℕ) → Afresh p t line device n p′ t′

@@ -16,7 +16,7 @@ use Rattle.promises.specs.Outcome.{Meets, Listed, NoFurther, Fills}
 abbrev pub TablesAs : List ℕ → List ℕ → TableAnswer → List ℕ → Type 0
 TablesAs plan lent answer left = Meets tableValues (tabling devices plan lent) answer left
 
--- why a plan gets no table: 2 to 8; or, where nothing is broken, 11
+-- why a plan gets no table: 2 to 7; or, where nothing is broken, 11
 abbrev pub NoTable : List ℕ → List ℕ → Refusal → Type 0
 NoTable plan lent = Listed (WellFormed devices plan) (Broken devices plan) (length lent) (length plan) NoFurther
 

@@ -37,12 +37,12 @@ WritesAs plan lent answer left = Meets writeValues (writing devices plan lent) a
 abbrev pub SoundText : List ℕ → Type 0
 SoundText text = (length text ≤ maxBytes) × WellFormed devices (spelt devices text)
 
--- why a text is not read: 1 to 8; or, where nothing is broken, 11
+-- why a text is not read: 1 to 7; or, where nothing is broken, 11
 abbrev pub NotRead : List ℕ → List ℕ → Refusal → Type 0
 NotRead text lent =
     Listed (SoundText text) (TextBroken devices text) (length lent) (length (spelt devices text)) NoFurther
 
--- why a plan is not written: 2 to 8; or, where nothing is broken, 11
+-- why a plan is not written: 2 to 7; or, where nothing is broken, 11
 abbrev pub NotWritten : List ℕ → List ℕ → Refusal → Type 0
 NotWritten plan lent =
     Listed (WellFormed devices plan) (Broken devices plan) (length lent) (length (textOf plan)) NoFurther

@@ -22,7 +22,7 @@ OrdersAs plan lent answer left = Meets verdictValues (ordering devices plan lent
 
 -- ---- what follows
 
--- why a plan gets no order: 2 to 8; where nothing is broken, 11; and where there is room, 9 or 10
+-- why a plan gets no order: 2 to 7; where nothing is broken, 11; and where there is room, 9 or 10
 abbrev pub NoVerdict : List ℕ → List ℕ → Refusal → Type 0
 NoVerdict plan lent =
     Listed (WellFormed devices plan) (Broken devices plan) (length lent) (length plan) (NoOrder devices plan)

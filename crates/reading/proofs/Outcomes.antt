@@ -27,7 +27,7 @@ module _ (lines lent : List ℕ) where
   tests : Option Refusal
   tests = firstRefusal (fault devices lines ∷ tooShort (length lent) (length lines) ∷ [])
 
-  -- 2 to 8
+  -- 2 to 7
   pub keeps-fault : (r : Refusal) → fault devices lines ≡ some r → KeepsAs lines lent (ReadAnswer.Refused r) lent
   unfolding tests firstRefusal
   keeps-fault r e =

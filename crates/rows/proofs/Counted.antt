@@ -6,7 +6,7 @@ use mathlib.Core.Option.{none}
 use mathlib.Core.Path.{_≡_, refl, sym, _∙_, ap}
 use native.Mathlib.Omega.{arith}
 use lib.Dec.{eqb, leb}
-use lib.ListN.{length, drop, length-drop, drop-of-length-le}
+use lib.ListN.{length, getD, drop, length-drop, drop-of-length-le}
 use lib.Seq.{drop-cons}
 use borrow.Author.Tests.{le-leb}
 use Rattle.model.specs.Board.{devices}
@@ -16,12 +16,15 @@ use Rattle.model.specs.Mate.{takesAt, deviceAt, takes, mate, isNone, lastingAt,
 use Rattle.model.specs.Sets.{empty, union, member}
 use Rattle.model.specs.Rows.{lastingTakes}
 use Rattle.model.specs.WellFormed.{fault}
+use Rattle.theory.specs.Outer.{plain, plainAt}
 use Rattle.theory.proofs.Tests.{and-right}
 use Rattle.theory.proofs.Sets.{member-empty, member-union, empty-below, union-below}
 use Rattle.theory.proofs.WellFormed.{no-fault-exactly}
 use Rattle.sets.specs.Only.{onlyOf}
 use Rattle.sets.specs.Both.{both}
 use Rattle.sets.proofs.Members.{member-only-of, member-both, only-of-below, both-below}
+use Rattle.plan.specs.Again.{againFlags}
+use Rattle.plan.proofs.Again.{plain-is}
 use Rattle.rows.specs.declared.Passed.{Passed}
 use Rattle.rows.specs.Lasting.{heldToEnd, heldTwice}
 use Rattle.rows.specs.Holds.{HeldAs, PassedOn}
@@ -68,6 +71,15 @@ more-on : (p : List ℕ) (d k : ℕ) (b : Bool) → k < length p → lasting p k
 more-on p d k true h e = ap length (takes-on p d k true h e)
 more-on p d k false h e = ap length (takes-on p d k false h e)
 
+-- ---- the line at hand: it has its flag, and counts by it
+
+module _ (p again : List ℕ) (k : ℕ) (pre : (fault devices p ≡ none) × (again ≡ againFlags p)) (h : k < length p) where
+  pub has-flag : k < maxLines
+  has-flag = omega (arith, no-fault-exactly devices p .0 (pre .0) .few)
+
+  pub counts-as : plain (eqb (getD again k 0) 1) (at p k) ≡ plainAt p k
+  counts-as = plain-is p again k (pre .1) has-flag
+
 -- ---- the walk back
 
 -- what the walk has found where it stands at i
@@ -104,7 +116,8 @@ wanted-in p passed i fine m =
     )
 
 -- one line further back
-module _ (p : List ℕ) (old new : Passed) (k : ℕ) (m : Counted p old (suc k)) (n : PassedOn new old (at p k)) where
+module _ (p : List ℕ) (old new : Passed) (k : ℕ) (m : Counted p old (suc k))
+    (n : PassedOn new old (at p k) (plainAt p k)) where
   pub lasts-made : new .lasts ≡ lastingAt p k
   lasts-made = n .lastsIs ∙ lasts-is (at p k) (drop (suc k) p) (old .job) (old .wanted) (m .wanting) p k refl refl
 

@@ -1,5 +1,5 @@
 -- The rows by going back (01, "Claims and rows"): what a line's job claims after it lies beyond a take, so at a lasting
--- take it is joined to the row of its device.
+-- take it is joined to the row of its device. Lines are joined as they count (02, request 2).
 use Prim.Native.Nat.{ℕ, suc, _<_}
 use mathlib.Core.Bool.{Bool, true, false, cond}
 use mathlib.Core.List.{List, map}
@@ -12,13 +12,16 @@ use lib.Seq.{getD-set-same, getD-set-other, ext-getD}
 use borrow.Author.Tests.{eqb-true, eqb-false}
 use Rattle.model.specs.Board.{devices}
 use Rattle.model.specs.Line.{job, operand, isTake, isLine, at}
-use Rattle.model.specs.Mate.{takesAt, deviceAt, lastingAt, lasting}
+use Rattle.model.specs.Mate.{takesAt, deviceAt, mate, isNone, lastingAt, lasting}
 use Rattle.model.specs.Sets.{empty, union, unionOf}
 use Rattle.model.specs.Claims.{table, beyond}
 use Rattle.model.specs.Rows.{rowOf, rows}
 use Rattle.theory.proofs.Tests.{test, and-split}
 use Rattle.theory.proofs.Line.{take-no-start}
 use Rattle.theory.specs.Claims.{claim}
+use Rattle.theory.specs.Outer.{againAt, plainAt}
+use Rattle.theory.proofs.Claims.{outermost}
+use Rattle.theory.proofs.Outer.{plain-job, plain-operand}
 use Rattle.theory.proofs.OnlyIf.{length-rows, row-is}
 use Rattle.claims.specs.Claim.{operands}
 use Rattle.claims.proofs.Joining.{union-none, beyond-is}
@@ -27,10 +30,10 @@ use Rattle.rows.specs.Lasting.{rowJoined}
 use Rattle.rows.specs.Holds.{JoinedOn}
 use Rattle.rows.proofs.Counted.{lasting-is, takesFrom, takes-past, takes-on, takes-all}
 
--- a lasting take is a take
-pub lasting-takes : (p : List ℕ) (k : ℕ) → lastingAt p k ≡ true → isTake (at p k) ≡ true
-unfolding lastingAt takesAt
-lasting-takes p k e = and-split (isTake (at p k)) _ e .0
+-- a lasting take is an outermost take
+pub lasting-takes : (p : List ℕ) (k : ℕ) → lastingAt p k ≡ true → takesAt p k ≡ true
+unfolding lastingAt
+lasting-takes p k e = and-split (takesAt p k) (isNone (mate p k)) e .0
 
 -- the row of device d as far as the lines from i on make it
 pub rowFrom : List ℕ → ℕ → ℕ → ℕ
@@ -81,7 +84,7 @@ module _ (p rs claimed : List ℕ) (k : ℕ) (m : RowsFrom p rs claimed (suc k))
       go (inl q) =
           ap (λ (x : ℕ). getD (set rs x (union next (getD rs x 0))) d 0) (eqb-true (operand l) d q)
           ∙ getD-set-same rs d (union next (getD rs d 0)) 0 (omega (arith, m .long))
-          ∙ rw (beyond-take (lasting-takes p k e), m .are d b)
+          ∙ rw (beyond-take (outermost p k (lasting-takes p k e) .0), m .are d b)
           (sym (row-on d true (lasting-is p k d ∙ rw (e, q))))
       go (inr q) =
           getD-set-other rs (operand l) d _ 0 (λ y. eqb-false (operand l) d q (sym y)) ∙ m .are d b
@@ -92,15 +95,23 @@ module _ (p rs claimed : List ℕ) (k : ℕ) (m : RowsFrom p rs claimed (suc k))
   rows-long true = length-set rs (operand l) _ ∙ m .long
   rows-long false = m .long
 
-  module _ (rs′ claimed′ : List ℕ) (s : ℕ) (n : JoinedOn (at p k) (lastingAt p k) rs claimed s rs′ claimed′) where
+  module _ (rs′ claimed′ : List ℕ) (s : ℕ) (n : JoinedOn (plainAt p k) (lastingAt p k) rs claimed s rs′ claimed′) where
+    -- a line is of its job, and names its device, also as it counts
+    same-job : job (plainAt p k) ≡ job l
+    same-job = plain-job (againAt p k) l
+
     pub set-made : s ≡ claim p k
-    set-made = n .setIs ∙ claim-made p claimed k (m .claims) h ok
+    set-made = (rw same-job at (n .setIs)) ∙ claim-made p claimed k (m .claims) h ok
+
+    rows-made : rs′ ≡ rowJoined l (lastingAt p k) next rs
+    unfolding rowJoined
+    rows-made = rw (same-job, plain-operand (againAt p k) l) at (n .rowsAre)
 
     pub from-on : RowsFrom p rs′ claimed′ k
     from-on = record {
-      long = ap length (n .rowsAre) ∙ rows-long (lastingAt p k);
-      are = λ d b. ap (λ xs. getD xs d 0) (n .rowsAre) ∙ rows-on (lastingAt p k) refl d b;
-      claims = rw (n .claimedIs, set-made) (claimed-on p claimed k (m .claims) h ok);
+      long = ap length rows-made ∙ rows-long (lastingAt p k);
+      are = λ d b. ap (λ xs. getD xs d 0) rows-made ∙ rows-on (lastingAt p k) refl d b;
+      claims = rw (n .claimedIs, same-job, set-made) (claimed-on p claimed k (m .claims) h ok);
     }
 
 -- at the front the rows are the plan's

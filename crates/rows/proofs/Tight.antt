@@ -6,7 +6,9 @@ use mathlib.Core.Path.{_≡_}
 use Rattle.rows.specs.declared.HoldsAnswer.{HoldsAnswer}
 use Rattle.rows.specs.Holds.{HoldsAs}
 
-pub holds-one : (p first rs flags : List ℕ) (a b : HoldsAnswer) (first₁ first₂ rs₁ rs₂ flags₁ flags₂ : List ℕ)
-    → HoldsAs p first rs flags a first₁ rs₁ flags₁ → HoldsAs p first rs flags b first₂ rs₂ flags₂
-    → (a ≡ b) × (first₁ ≡ first₂) × (rs₁ ≡ rs₂) × (flags₁ ≡ flags₂)
-holds-one p first rs flags a b first₁ first₂ rs₁ rs₂ flags₁ flags₂ x y = (cc, cc, cc, cc)
+module _ (p first again rs flags : List ℕ) where
+  pub holds-one : (a b : HoldsAnswer) (first₁ first₂ again₁ again₂ rs₁ rs₂ flags₁ flags₂ : List ℕ)
+      → HoldsAs p first again rs flags a first₁ again₁ rs₁ flags₁
+      → HoldsAs p first again rs flags b first₂ again₂ rs₂ flags₂
+      → (a ≡ b) × (first₁ ≡ first₂) × (again₁ ≡ again₂) × (rs₁ ≡ rs₂) × (flags₁ ≡ flags₂)
+  holds-one a b first₁ first₂ again₁ again₂ rs₁ rs₂ flags₁ flags₂ x y = (cc, cc, cc, cc, cc)

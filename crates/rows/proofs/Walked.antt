@@ -1,18 +1,21 @@
 -- The walk back over a plan without a fault (01, "Claims and rows"): where it stands the two sets, the rows, the flags
 -- and the table are those of the lines from there on.
-use Prim.Native.Nat.{ℕ, suc, _<_}
+use Prim.Native.Nat.{ℕ, suc, _<_, _≤_}
 use mathlib.Core.Bool.{Bool, true, false, cond}
 use mathlib.Core.List.{List}
 use mathlib.Core.Option.{none}
 use mathlib.Core.Path.{_≡_, refl, sym, _∙_}
 use native.Mathlib.Omega.{arith}
-use lib.ListN.{length, set, replicate, length-set, length-replicate, getD-replicate, List·getD-eq-default}
+use lib.ListN.{length, set, replicate, length-set, length-replicate, getD-replicate}
 use mir.Val.{boolByte}
 use Rattle.model.specs.Board.{devices}
 use Rattle.model.specs.Line.{isTake, isLine, at, maxLines}
-use Rattle.model.specs.Mate.{takesAt, lastingAt}
+use Rattle.model.specs.Mate.{lastingAt}
 use Rattle.model.specs.WellFormed.{fault}
-use Rattle.theory.proofs.WellFormed.{no-fault-exactly}
+use Rattle.theory.specs.Outer.{againAt, plainAt}
+use Rattle.theory.proofs.Claims.{outermost}
+use Rattle.theory.proofs.Outer.{plain-line, plain-take}
+use Rattle.theory.proofs.WellFormed.{no-fault-exactly, take-line}
 use Rattle.claims.specs.Claim.{operands, tableIn}
 use Rattle.claims.proofs.Written.{EndOf, end-on, end-whole, none-written, one-written}
 use Rattle.rows.specs.declared.Passed.{Passed}
@@ -37,14 +40,21 @@ unfolding lastingFlags
 length-flags p = length-entries (lastingFlag p) 0 0 maxLines
 
 none-flagged : (p : List ℕ) → EndOf (lastingFlags p) (replicate maxLines 0) (length p)
-unfolding lastingFlag lastingAt takesAt isTake
+unfolding lastingFlag
 none-flagged p = record {
   long = length-replicate {A = ℕ} maxLines 0 ∙ sym (length-flags p);
   is = λ k h b.
       let on-board : k < maxLines = omega (arith, length-flags p) in
-      let past : at p k ≡ 0 = List·getD-eq-default p 0 h in
-      getD-replicate {A = ℕ} maxLines k 0 0 on-board ∙ sym (flag-at p (lastingFlags p) k refl on-board ∙ rw past);
+      getD-replicate {A = ℕ} maxLines k 0 0 on-board
+      ∙ sym (flag-at p (lastingFlags p) k refl on-board ∙ rw (none-past k h));
 }
+  where
+    none-past : (k : ℕ) → length p ≤ k → lastingAt p k ≡ false
+    none-past k h = go (lastingAt p k) refl
+      where
+        go : (b : Bool) → lastingAt p k ≡ b → b ≡ false
+        go false e = refl
+        go true e = absurd (omega (arith, take-line p k (outermost p k (lasting-takes p k e) .0)))
 
 one-flagged : (p flags : List ℕ) (k : ℕ) (b : Bool) → b ≡ lastingAt p k → EndOf (lastingFlags p) flags (suc k)
     → EndOf (lastingFlags p) (set flags k (boolByte b)) k
@@ -72,17 +82,20 @@ none-walked p lent = record {
 
 -- one line further back
 module _ {p lent rs flags table claimed : List ℕ} {old new : Passed} {k : ℕ} (fine : fault devices p ≡ none)
-    (m : Walked p lent rs flags table claimed old (suc k)) (n : PassedOn new old (at p k)) where
-  pub is-line : isLine devices (at p k) ≡ true
+    (m : Walked p lent rs flags table claimed old (suc k)) (n : PassedOn new old (at p k) (plainAt p k)) where
+  is-line : isLine devices (at p k) ≡ true
   is-line = no-fault-exactly devices p .0 fine .lines k (m .counted .inPlan)
+
+  pub counts-line : isLine devices (plainAt p k) ≡ true
+  counts-line = plain-line (againAt p k) (at p k) devices is-line
 
   lasts-here : new .lasts ≡ lastingAt p k
   lasts-here = lasts-made p old new k (m .counted) n
 
-  pub is-take : new .lasts ≡ true → isTake (at p k) ≡ true
-  is-take e = lasting-takes p k (sym lasts-here ∙ e)
+  pub is-take : new .lasts ≡ true → isTake (plainAt p k) ≡ true
+  is-take e = plain-take p k ∙ lasting-takes p k (sym lasts-here ∙ e)
 
-  pub one-walked : {rs′ claimed′ : List ℕ} {s : ℕ} → JoinedOn (at p k) (new .lasts) rs claimed s rs′ claimed′
+  pub one-walked : {rs′ claimed′ : List ℕ} {s : ℕ} → JoinedOn (plainAt p k) (new .lasts) rs claimed s rs′ claimed′
       → Walked p lent rs′ (set flags k (boolByte (new .lasts))) (set table k s) claimed′ new k
   one-walked {rs′} {claimed′} {s} j =
       let i = rw lasts-here at j in

@@ -1,5 +1,5 @@
 -- Lasting takes by going back (01, "Rules of a well-formed plan"): gives match the take made last, so a take is lasting
--- exactly if no give of its job after it still wants a take. For any plan.
+-- exactly if it is outermost (02, request 2) and no give of its job after it still wants a take. For any plan.
 use Prim.Native.Nat.{ℕ, zero, suc, _-_, _<_, _≤_}
 use mathlib.Core.Bool.{Bool, true, false, cond, _&&_}
 use mathlib.Core.List.{List, [], _∷_}
@@ -12,7 +12,9 @@ use lib.ListN.{length, getD, drop}
 use borrow.Author.Tests.{eqb-true, eq-eqb, eqb-false, ne-eqb, le-leb, lt-leb}
 use Rattle.model.specs.Line.{job, isTake, isGive, at, maxLines}
 use Rattle.model.specs.Mate.{takesAt, mateIn, mate, isNone, lastingAt}
+use Rattle.theory.specs.Outer.{plainAt}
 use Rattle.theory.proofs.Tests.{test, leb-agree}
+use Rattle.theory.proofs.Outer.{plain-take}
 use Rattle.rows.specs.Lasting.{lastingFlag, lastingFlags, wantedBefore, wantedAfter}
 use Rattle.rows.proofs.Filled.{entry-of}
 
@@ -91,17 +93,20 @@ module _ (l : ℕ) (ls : List ℕ) (j w : ℕ) (m : Wanting ls j w) where
     wantedIs = ap (wantedBefore l) (after-is l ls j w m) ∙ sym (rw (eq-eqb (job l) (job l) refl));
   }
 
-  -- a take that serves no give lasts
-  pub lasts-is : (p : List ℕ) (k : ℕ) → at p k ≡ l → drop (suc k) p ≡ ls
-      → (isTake l && eqb (wantedAfter l j w) 0) ≡ lastingAt p k
-  unfolding lastingAt takesAt mate
-  lasts-is p k e f =
-      rw (e, f, after-is l ls j w m, none-mates (job l) 0 (suc k) ls)
-      (ap (λ b. isTake l && b) (zero-test (wanted (job l) ls)))
+  -- what stands at the line has no mate exactly if it serves no give
+  no-mate : (p : List ℕ) (k : ℕ) → at p k ≡ l → drop (suc k) p ≡ ls → eqb (wantedAfter l j w) 0 ≡ isNone (mate p k)
+  unfolding mate
+  no-mate p k e f = rw (e, f, after-is l ls j w m, none-mates (job l) 0 (suc k) ls) (zero-test (wanted (job l) ls))
     where
       zero-test : (n : ℕ) → eqb n 0 ≡ leb n 0
       zero-test zero = refl
       zero-test (suc n) = ne-eqb (suc n) 0 (λ q. omega arith) ∙ sym (lt-leb (suc n) 0 (omega arith))
+
+  -- a line that counts as a take and serves no give lasts
+  pub lasts-is : (p : List ℕ) (k : ℕ) → at p k ≡ l → drop (suc k) p ≡ ls
+      → (isTake (plainAt p k) && eqb (wantedAfter l j w) 0) ≡ lastingAt p k
+  unfolding lastingAt
+  lasts-is p k e f = rw (plain-take p k) (ap (λ b. takesAt p k && b) (no-mate p k e f))
 
 -- the flag of a line that is read off the plan's flags
 pub flag-at : (p flags : List ℕ) (k : ℕ) → flags ≡ lastingFlags p → k < maxLines → getD flags k 0 ≡ lastingFlag p k

@@ -1,4 +1,4 @@
--- What a walk back over a plan finds, and the outcomes of the entries above it (01, "Claims and rows").
+-- What a walk back over a plan finds, and the outcomes of the entries above it (01, "Claims and rows"; 02, request 2).
 use Prim.Native.Nat.{ℕ}
 use mathlib.Core.Bool.{Bool, cond, _&&_}
 use mathlib.Core.List.{List}
@@ -13,6 +13,7 @@ use Rattle.model.specs.Sets.{empty, union}
 use Rattle.model.specs.WellFormed.{fault}
 use Rattle.model.specs.declared.Refusal.{Refusal}
 use Rattle.plan.specs.Jobs.{firstLines}
+use Rattle.plan.specs.Again.{againFlags}
 use Rattle.plan.specs.Ends.{leftBy}
 use Rattle.sets.specs.Only.{onlyOf}
 use Rattle.sets.specs.Both.{both}
@@ -25,12 +26,12 @@ use Rattle.rows.specs.Lasting.{lastingFlags, heldToEnd, heldTwice, wante
 abbrev pub rowsOf : List ℕ → List ℕ
 rowsOf p = rows devices p
 
--- One line further back: what is wanted, whether the line lasts, and the two sets with its device if it does; the rows
--- with what lies beyond it, the line's claim set, and that set as what its job claims.
-pub record PassedOn (r old : Passed) (l : ℕ) : Type 0 where
+-- One line further back, as it stands and as it counts: what is wanted, whether the line lasts, and the two sets with
+-- its device if it does; the rows with what lies beyond it, the line's claim set, and that set as what its job claims.
+pub record PassedOn (r old : Passed) (l plain : ℕ) : Type 0 where
   pub jobIs : r .job ≡ job l
   pub wantedIs : r .wanted ≡ wantedBefore l (wantedAfter l (old .job) (old .wanted))
-  pub lastsIs : r .lasts ≡ (isTake l && eqb (wantedAfter l (old .job) (old .wanted)) 0)
+  pub lastsIs : r .lasts ≡ (isTake plain && eqb (wantedAfter l (old .job) (old .wanted)) 0)
   pub heldIs : r .held ≡ union (cond (r .lasts) (onlyOf devices (operand l)) empty) (old .held)
   pub twiceIs : r .twice
       ≡ union (both (old .held) (cond (r .lasts) (onlyOf devices (operand l)) empty)) (old .twice)
@@ -57,8 +58,10 @@ abbrev pub holdsBy : Option Refusal → List ℕ → HoldsAnswer
 holdsBy none p = HoldsAnswer.Made (heldToEnd devices p) (heldTwice devices p)
 holdsBy (some r) p = HoldsAnswer.Refused r
 
-pub record HoldsAs (p first rs flags : List ℕ) (answer : HoldsAnswer) (first′ rs′ flags′ : List ℕ) : Type 0 where
+pub record HoldsAs (p first again rs flags : List ℕ) (answer : HoldsAnswer) (first′ again′ rs′ flags′ : List ℕ)
+    : Type 0 where
   pub answers : answer ≡ holdsBy (fault devices p) p
   pub firstsAre : first′ ≡ leftBy (fault devices p) (firstLines p) first
+  pub againsAre : again′ ≡ leftBy (fault devices p) (againFlags p) again
   pub rowsAre : rs′ ≡ leftBy (fault devices p) (rowsOf p) rs
   pub flagsAre : flags′ ≡ leftBy (fault devices p) (lastingFlags p) flags

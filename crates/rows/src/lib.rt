@@ -1,5 +1,6 @@
 // The devices that stay held, what they wait for, and circles (01, "Claims and rows"): the lasting takes of a plan, its
-// rows, and the devices that lead back to themselves.
+// rows, and the devices that lead back to themselves. A line that takes again what its job holds counts as a do: it
+// never lasts and makes no row (02, request 2).
 use board::EACH_DEVICE;
 use board::EACH_JOB;
 use board::MOST_LINES;
@@ -15,6 +16,7 @@ ghost use lib.ListN.{length, set};
 ghost use Rattle.model.specs.Board.{devices};
 ghost use Rattle.model.specs.Line.{isTake, isLine, maxLines};
 ghost use Rattle.model.specs.WellFormed.{fault};
+ghost use Rattle.plan.specs.Again.{againFlags};
 ghost use Rattle.rows.specs.Where.{devicesWhere, circlesOf};
 ghost use Rattle.rows.specs.Lasting.{wantedBefore, rowJoined};
 ghost use Rattle.rows.specs.Holds.{PassedOn, JoinedOn, HeldAs, WalkedAs, HoldsAs, holdsBy};
@@ -111,14 +113,15 @@ fn wanted_before(l: u32, after: u32) -> u32
     line::choose(line::is_take(l), served, given)
 }
 
-// One line further back. A take that serves no give lasts; a device that was held already is held twice.
-fn pass_line(passed: Passed, l: u32) -> Passed
+// One line further back, as it stands and as it counts. Gives match every take, so these are counted as they stand; a
+// line that counts as a take and serves no give lasts. A device that was held already is held twice.
+fn pass_line(passed: Passed, l: u32, plain: u32) -> Passed
     requires { ⌜ passed .wanted ≤ maxLines ⌝ }
-    ensures { λ r. ⌜ PassedOn r passed l ⌝ }
+    ensures { λ r. ⌜ PassedOn r passed l plain ⌝ }
 {
     let j = line::job(l);
     let after = line::choose(j == passed.job, passed.wanted, 0);
-    let lasts = line::is_take(l) & (after == 0);
+    let lasts = line::is_take(plain) & (after == 0);
     let one = sets::only_if(lasts, line::operand(l));
     Passed {
         job: j,
@@ -140,7 +143,8 @@ fn join_row(l: u32, lasts: bool, next: Set, rows: &mut [Set; EACH_DEVICE])
     }
 }
 
-// The rows with a line, and what its job claims, which is now the line's claim set. The answer is that set.
+// The rows with a line, as it counts, and what its job claims, which is now the line's claim set. The answer is that
+// set.
 fn join_line(
     l: u32,
     lasts: bool,
@@ -171,16 +175,17 @@ fn store(table: &mut [Set], i: usize, s: Set)
 
 // ---- the walks
 
-// The walk back for the two sets alone.
-fn count_back(plan: &[u32]) -> Passed
-    requires { ⌜ fault devices (now plan) ≡ none ⌝ }
+// The walk back for the two sets alone. `again` has the flags of the lines that take again.
+fn count_back(plan: &[u32], again: &[u8; MOST_LINES]) -> Passed
+    requires { ⌜ (fault devices (now plan) ≡ none) × (now again ≡ againFlags (now plan)) ⌝ }
     ensures { λ r. ⌜ HeldAs r (now (plan .entry)) ⌝ }
 {
     let mut passed = NONE_PASSED;
     let mut i = plan.len();
     while 0 < i {
         i -= 1;
-        passed = pass_line(passed, plan[i]);
+        let l = plan[i];
+        passed = pass_line(passed, l, line::plain(l, again[i] == 1));
     }
     passed
 }
@@ -190,11 +195,12 @@ fn count_back(plan: &[u32]) -> Passed
 // a caller that keeps it beside the rows lends a list for it, another lends one without a place.
 fn walk_back(
     plan: &[u32],
+    again: &[u8; MOST_LINES],
     rows: &mut [Set; EACH_DEVICE],
     lasting: &mut [u8; MOST_LINES],
     table: &mut [Set],
 ) -> Passed
-    requires { ⌜ fault devices (now plan) ≡ none ⌝ }
+    requires { ⌜ (fault devices (now plan) ≡ none) × (now again ≡ againFlags (now plan)) ⌝ }
     ensures { λ r. ⌜
         WalkedAs (now (plan .entry)) (now (table .entry)) r (now (rows .exit)) (now (lasting .exit)) (now (table .exit))
         ⌝ }
@@ -207,9 +213,10 @@ fn walk_back(
     while 0 < i {
         i -= 1;
         let l = plan[i];
-        passed = pass_line(passed, l);
+        let plain = line::plain(l, again[i] == 1);
+        passed = pass_line(passed, l, plain);
         lasting[i] = passed.lasts as u8;
-        let s = join_line(l, passed.lasts, rows, &mut claimed);
+        let s = join_line(plain, passed.lasts, rows, &mut claimed);
         store(table, i, s);
     }
     passed
@@ -221,34 +228,38 @@ pub enum HoldsAnswer {
     Refused(Refusal),
 }
 
-// The two sets of a plan, tested by 2 to 8, and nothing beside them.
+// The two sets of a plan, tested by 2 to 7, and nothing beside them.
 pub fn held_to_end(plan: &[u32]) -> HoldsAnswer
     ensures { λ r. ⌜ r ≡ holdsBy (fault devices (now (plan .entry))) (now (plan .entry)) ⌝ }
 {
-    if let Checked::Refused(r) = plan::fault(plan) {
+    let mut first = [0u32; EACH_JOB];
+    let mut starter = [0u32; EACH_JOB];
+    let mut again = [0u8; MOST_LINES];
+    if let Checked::Refused(r) = plan::scan(plan, &mut first, &mut starter, &mut again) {
         return HoldsAnswer::Refused(r);
     }
-    let made = count_back(plan);
+    let made = count_back(plan, &again);
     HoldsAnswer::Made(made.held, made.twice)
 }
 
-// The holds of a plan, tested by 2 to 8: the two sets, with the first line of each job, the rows, and the flags of the
-// lasting takes in the lent lists.
+// The holds of a plan, tested by 2 to 7: the two sets, with the first line of each job, the flags of the lines that
+// take again, the rows, and the flags of the lasting takes in the lent lists.
 pub fn holds(
     plan: &[u32],
     first: &mut [u32; EACH_JOB],
+    again: &mut [u8; MOST_LINES],
     rows: &mut [Set; EACH_DEVICE],
     lasting: &mut [u8; MOST_LINES],
 ) -> HoldsAnswer
     ensures { λ r. ⌜
-        HoldsAs (now (plan .entry)) (now (first .entry)) (now (rows .entry)) (now (lasting .entry))
-        r (now (first .exit)) (now (rows .exit)) (now (lasting .exit))
+        HoldsAs (now (plan .entry)) (now (first .entry)) (now (again .entry)) (now (rows .entry)) (now (lasting .entry))
+        r (now (first .exit)) (now (again .exit)) (now (rows .exit)) (now (lasting .exit))
         ⌝ }
 {
     let mut starter = [0u32; EACH_JOB];
-    if let Checked::Refused(r) = plan::scan(plan, first, &mut starter) {
+    if let Checked::Refused(r) = plan::scan(plan, first, &mut starter, again) {
         return HoldsAnswer::Refused(r);
     }
-    let made = walk_back(plan, rows, lasting, &mut []);
+    let made = walk_back(plan, again, rows, lasting, &mut []);
     HoldsAnswer::Made(made.held, made.twice)
 }

@@ -8,11 +8,11 @@ use mathlib.Core.Option.{Option, none, some, Option·getD}
 use mathlib.Core.Path.{_≡_, refl, sym, _∙_, ap}
 use native.Mathlib.Nat.{lt-of-le-of-lt}
 use native.Mathlib.Omega.{arith}
-use lib.Bits.{bitAnd, bitXor, and-shr, and-step, and-le-l, xor-shr, xor-step, xor-lt, xor-zero-r}
+use lib.Bits.{bitAnd, bitXor, and-shr, and-step, and-le-l, and-zero-r, or-zero-r, xor-shr, xor-step, xor-lt, xor-zero-r}
 use lib.Dec.{eqb, ltb}
 use borrow.Author.Tests.{eqb-true, eq-eqb, ne-eqb, lt-ltb, le-ltb}
 use Rattle.model.specs.Lists.{upFrom, firstOf}
-use Rattle.model.specs.Sets.{empty, only, member, lowestOf}
+use Rattle.model.specs.Sets.{empty, only, union, member, lowestOf}
 use Rattle.theory.proofs.Tests.{clash, test, and-split, le-or-lt}
 use Rattle.theory.proofs.Lists.{has-upFrom, upFrom-has, Answer, first-answer, first-lowest}
 use Rattle.theory.proofs.Sets.{member-empty, member-only, member-past, empty-below, only-below, same-members}
@@ -131,15 +131,11 @@ lowest-at-most D s = go (lowestOf D s) (lowest D s)
     go m (found k h e low) = omega arith
     go m (nothing f) = omega arith
 
--- ---- one device put in or taken out
+-- ---- no device put in or taken out
 
-pub member-turned : (D s o d : ℕ) → d < D
-    → member (differ s (onlyOf D o)) d ≡ cond (eqb o d) (not (member s d)) (member s d)
-member-turned D s o d h = member-differ s (onlyOf D o) d ∙ rw (member-only-of D o d h)
-
-pub differ-empty : (s : ℕ) → differ s empty ≡ s
-unfolding differ empty
-differ-empty s = xor-zero-r s
+pub nothing-turned : (s : ℕ) → without (union s empty) empty ≡ s
+unfolding without both differ union empty
+nothing-turned s = rw (or-zero-r s, and-zero-r s) (xor-zero-r s)
 
 -- ---- one device asked for
 

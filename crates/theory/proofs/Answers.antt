@@ -12,7 +12,7 @@ use Rattle.model.specs.Answers.{numberOf, placeOf, refusalValues, lineValues, r
 use Rattle.model.specs.Answers.{verdictValues, moveValues, judgeValues, refuseIf, refuseAt, firstRefusal}
 use Rattle.model.specs.declared.Refusal.{Refusal}
 use Rattle.model.specs.declared.Refusal.the-variants.{TextTooLong, Malformed, TooManyLines, JobOutOfSequence}
-use Rattle.model.specs.declared.Refusal.the-variants.{BadStart, NeverStarted, GiveWithoutTake, TakeOfHeld}
+use Rattle.model.specs.declared.Refusal.the-variants.{BadStart, NeverStarted, GiveWithoutTake}
 use Rattle.model.specs.declared.Refusal.the-variants.{TwoLasting, LeadsBack, ListTooShort, NotATake}
 use Rattle.model.specs.declared.Refusal.the-variants.{NoSuchDevice, StaleTable, IllegalStep}
 use Rattle.model.specs.declared.LineAnswer.{LineAnswer}
@@ -35,7 +35,7 @@ refusalOf number place =
     ∷ some (BadStart place)
     ∷ some (NeverStarted place)
     ∷ some (GiveWithoutTake place)
-    ∷ some (TakeOfHeld place)
+    ∷ none
     ∷ some (TwoLasting place)
     ∷ some (LeadsBack place)
     ∷ some (ListTooShort place)
@@ -55,7 +55,6 @@ refusal-back (JobOutOfSequence line) = refl
 refusal-back (BadStart line) = refl
 refusal-back (NeverStarted line) = refl
 refusal-back (GiveWithoutTake line) = refl
-refusal-back (TakeOfHeld line) = refl
 refusal-back (TwoLasting device) = refl
 refusal-back (LeadsBack device) = refl
 refusal-back (ListTooShort needed) = refl
@@ -73,7 +72,6 @@ number-range (JobOutOfSequence line) = (omega arith, omega arith)
 number-range (BadStart line) = (omega arith, omega arith)
 number-range (NeverStarted line) = (omega arith, omega arith)
 number-range (GiveWithoutTake line) = (omega arith, omega arith)
-number-range (TakeOfHeld line) = (omega arith, omega arith)
 number-range (TwoLasting device) = (omega arith, omega arith)
 number-range (LeadsBack device) = (omega arith, omega arith)
 number-range (ListTooShort needed) = (omega arith, omega arith)

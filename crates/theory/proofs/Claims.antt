@@ -1,7 +1,7 @@
 -- A device is in the claim set of a line exactly if a take of it is reached from the line by successors, in none or
 -- more steps. Both halves of the existence theorem read claim sets and rows through this.
 use Prim.Native.Nat.{ℕ, zero, suc, _+_, _<_, _≤_}
-use mathlib.Core.Bool.{Bool, true, false, cond, _&&_}
+use mathlib.Core.Bool.{Bool, true, false, cond, not, _&&_}
 use mathlib.Core.List.{List, [], _∷_, map}
 use mathlib.Core.Logic.{_⊎_, inl, inr, _↔_}
 use mathlib.Core.Path.{_≡_, refl, sym, _∙_, ap}
@@ -10,14 +10,15 @@ use native.Mathlib.Omega.{arith}
 use lib.Dec.{eqb}
 use lib.ListN.{length, getD, drop, length-map, List·getD-eq-default}
 use lib.Seq.{getD-drop}
+use borrow.Author.Tests.{eqb-true, eq-eqb, not-true}
 use Rattle.model.specs.Lists.{upFrom, positions, has}
 use Rattle.model.specs.Sets.{empty, only, union, member}
-use Rattle.model.specs.Line.{operand, isTake, at}
-use Rattle.model.specs.Mate.{takesAt, deviceAt, takes}
+use Rattle.model.specs.Line.{isTake, at}
+use Rattle.model.specs.Mate.{deviceAt, holdsAlready, takesAt, takes}
 use Rattle.model.specs.Claims.{successors, own, joined, tableOf, table, beyond}
 use Rattle.theory.specs.Claims.{claim, Reach, here, step, Reached}
-use Rattle.theory.proofs.Tests.{clash, le-or-lt}
-use Rattle.theory.proofs.Line.{inside}
+use Rattle.theory.proofs.Tests.{clash, and-split, le-or-lt}
+use Rattle.theory.proofs.WellFormed.{take-line}
 use Rattle.theory.proofs.Sets.{member-empty, member-only, in-union, in-left, in-right, in-unionOf, unionOf-in}
 
 -- ---- the table, line by line
@@ -87,10 +88,29 @@ own-takes p i d = go (takesAt p i)
     go true = member-only (deviceAt p i) d
     go false = member-empty d
 
+-- an outermost take is a take, of a device that its job does not hold there
+pub outermost : (p : List ℕ) (i : ℕ) → takesAt p i ≡ true → (isTake (at p i) ≡ true) × (holdsAlready p i ≡ false)
+unfolding takesAt
+outermost p i h =
+    let s = and-split (isTake (at p i)) (not (holdsAlready p i)) h in (s .0, not-true (holdsAlready p i) (s .1))
+
+pub makes-take : (p : List ℕ) (i d : ℕ) → isTake (at p i) ≡ true → holdsAlready p i ≡ false → deviceAt p i ≡ d
+    → takes p i d ≡ true
+unfolding takes takesAt
+makes-take p i d t h e = rw (t, h, eq-eqb (deviceAt p i) d e)
+
+-- a line that takes device d is an outermost take, and d is its device
+pub takes-parts : (p : List ℕ) (i d : ℕ) → takes p i d ≡ true → (takesAt p i ≡ true) × (deviceAt p i ≡ d)
+unfolding takes
+takes-parts p i d h =
+    let s = and-split (takesAt p i) (eqb (deviceAt p i) d) h in (s .0, eqb-true (deviceAt p i) d (s .1))
+
+pub taking : (p : List ℕ) (i d : ℕ) → takes p i d ≡ true → isTake (at p i) ≡ true
+taking p i d h = outermost p i (takes-parts p i d h .0) .0
+
 -- a line that takes is a line of the plan
 pub takes-line : (p : List ℕ) (i d : ℕ) → takes p i d ≡ true → i < length p
-unfolding takes
-takes-line p i d h = inside (λ l. isTake l && eqb (operand l) d) p i refl h
+takes-line p i d h = take-line p i (taking p i d h)
 
 -- ---- claims are reached takes
 

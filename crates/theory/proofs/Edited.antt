@@ -1,37 +1,33 @@
 -- The edited plan, with another device at a take and at its mate. It is as long as the plan and has the same job and
--- kind at each place, so that starts, successors and open takes are the same and one own claim alone differs.
--- Where the plan is well-formed, the edited one has no fault but 8: a move need look for no other.
+-- kind at each place, so that starts, successors and open takes are the same; and own claims differ at most at the take
+-- and at the lines under it, where the take is open. Where the plan is well-formed, so is the edited one: a move need
+-- test nothing of it.
 use Prim.Native.Nat.{ℕ, zero, suc, _+_, _<_, _≤_}
-use mathlib.Core.Bool.{Bool, true, false, not, _&&_}
-use mathlib.Core.List.{List, [], _∷_, map, tail}
+use mathlib.Core.Bool.{Bool, true, false, _&&_}
+use mathlib.Core.List.{List, [], _∷_, map}
 use mathlib.Core.Logic.{_⊎_, inl, inr, _≢_}
-use mathlib.Core.Option.{Option, none, some, Option·some-injective, Option·none-ne-some}
+use mathlib.Core.Option.{Option, none, some, Option·getD, Option·some-injective}
 use mathlib.Core.Path.{_≡_, refl, sym, _∙_, ap}
 use native.Mathlib.Omega.{arith}
 use lib.Dec.{eqb, leb}
 use lib.ListN.{length, drop, getElem?, length-drop, length-set}
 use lib.Seq.{getD-drop, getD-set-same, getD-set-other, set-getD}
-use borrow.Author.Tests.{eqb-true, eq-eqb, eqb-false, lt-ltb, not-true}
-use Rattle.model.specs.Lists.{any}
-use Rattle.model.specs.Answers.{numberOf, refuseIf}
+use borrow.Author.Tests.{eqb-true, eq-eqb, eqb-false, lt-ltb}
+use Rattle.model.specs.Lists.{any, has}
 use Rattle.model.specs.Line.{pack, job, kind, operand, isTake, isGive, isStart, starts, operandFits, isLine, at}
 use Rattle.model.specs.Line.{maxJob, hasLines, firstLine}
-use Rattle.model.specs.Mate.{takesAt, deviceAt, mate}
-use Rattle.model.specs.WellFormed.{isLast, Rules, WellFormed, fault}
+use Rattle.model.specs.WellFormed.{heldThere, isLast, Rules, WellFormed}
+use Rattle.model.specs.Mate.{deviceAt, holdsAlready, takesAt, mateIn, mate}
 use Rattle.model.specs.Claims.{successors, own}
-use Rattle.model.specs.Move.{withDevice, alsoMate, edited, ofNumber}
-use Rattle.model.specs.declared.Refusal.{Refusal}
+use Rattle.model.specs.Move.{withDevice, alsoMate, edited, until, under}
 use Rattle.theory.proofs.Tests.{clash, no-some, test, and-split, and-both}
-use Rattle.theory.proofs.Line.{job-pack, kind-pack, operand-pack, pack-parts, kind-small, start-of}
+use Rattle.theory.proofs.Line.{job-pack, kind-pack, operand-pack, pack-parts, kind-small}
 use Rattle.theory.proofs.Line.{take-no-give, take-no-start, give-no-start}
 use Rattle.theory.proofs.WellFormed.{take-line}
-use Rattle.theory.specs.WellFormed.{FollowsOn, heldThere, Sound, startsEmpty, unstarted}
-use Rattle.theory.proofs.WellFormed.{FaultView, sound}
-use Rattle.theory.specs.WellFormed.{BrokenAt, tooMany, malformed, outOfSequence, badStart, badGive, takeOfHeld}
-use Rattle.theory.specs.WellFormed.{Broken, atLine, noLines, noStart}
-use Rattle.theory.proofs.WellFormed.{fault-view, fault-exactly, no-fault-exactly}
-use Rattle.theory.proofs.Mate.{Pair, pair, openTakes, held-open, take-open-at-mate, mate-names-device}
-use Rattle.theory.proofs.Mate.{give-has-take}
+use Rattle.theory.specs.WellFormed.{FollowsOn, Sound, startsEmpty, unstarted}
+use Rattle.theory.proofs.Mate.{mate-below, Pair, pair, openTakes, Open, open-is, held-open, take-open-at-mate}
+use Rattle.theory.proofs.Mate.{mate-names-device, open-mates, give-has-take}
+use Rattle.theory.proofs.Way.{under-has}
 
 -- ---- plans that are alike: they differ in the devices of takes and gives, and in the operands of dos, at most
 
@@ -41,7 +37,7 @@ pub record Alike (p q : List ℕ) : Type 0 where
   pub kinds : (k : ℕ) → kind (at q k) ≡ kind (at p k)
   pub named : (k : ℕ) → isStart (at p k) ≡ true → operand (at q k) ≡ operand (at p k)
 
-alike-drop : (n : ℕ) (p q : List ℕ) → Alike p q → Alike (drop n p) (drop n q)
+pub alike-drop : (n : ℕ) (p q : List ℕ) → Alike p q → Alike (drop n p) (drop n q)
 alike-drop n p q a = record {
   long = simp length-drop (omega (arith, a .long));
   jobs = λ k. rw (getD-drop n p k 0, getD-drop n q k 0) (a .jobs (n + k));
@@ -49,7 +45,7 @@ alike-drop n p q a = record {
   named = λ k. rw (getD-drop n p k 0, getD-drop n q k 0) (a .named (n + k));
 }
 
-alike-tail : (l m : ℕ) (ls ms : List ℕ) → Alike (l ∷ ls) (m ∷ ms) → Alike ls ms
+pub alike-tail : (l m : ℕ) (ls ms : List ℕ) → Alike (l ∷ ls) (m ∷ ms) → Alike ls ms
 alike-tail l m ls ms a = alike-drop 1 (l ∷ ls) (m ∷ ms) a
 
 module _ (p q : List ℕ) (a : Alike p q) where
@@ -218,32 +214,9 @@ spot p i k = go (test (eqb k i)) (mate p i) refl
         split (inl y) = theMate (rw (eqb-true m k y) at h)
         split (inr y) = another (eqb-false k i z) (λ g. eqb-false m k y (Option·some-injective m k (sym h ∙ g)))
 
-give-no-take : (l : ℕ) → isGive l ≡ true → isTake l ≡ false
-give-no-take l g = go (test (isTake l))
-  where
-    go : (isTake l ≡ true) ⊎ (isTake l ≡ false) → isTake l ≡ false
-    go (inl t) = clash (isGive l) g (take-no-give l t)
-    go (inr t) = t
-
--- open takes are takes
-pub open-are-takes : (p : List ℕ) (j k n t : ℕ) → getElem? (openTakes p j k) n ≡ some t → isTake (at p t) ≡ true
-unfolding openTakes
-open-are-takes p j zero n t h = no-some h
-open-are-takes p j (suc k) n t h =
-    go (eqb (job (at p k)) j) (isTake (at p k)) (isGive (at p k)) refl n (openTakes p j k) h
-    (λ n. open-are-takes p j k n t)
-  where
-    go : (x y z : Bool) → isTake (at p k) ≡ y → (n : ℕ) (xs : List ℕ)
-        → getElem?
-        (elim x [ false ↦ xs | true ↦ elim y [ true ↦ k ∷ xs | false ↦ elim z [ true ↦ tail xs | false ↦ xs ] ] ]) n
-        ≡ some t
-        → ((n : ℕ) → getElem? xs n ≡ some t → isTake (at p t) ≡ true) → isTake (at p t) ≡ true
-    go false y z e n xs h ih = ih n h
-    go true true z e zero xs h ih = rw (Option·some-injective k t h) at e
-    go true true z e (suc n) xs h ih = ih n h
-    go true false true e n [] h ih = no-some h
-    go true false true e n (x ∷ xs) h ih = ih (suc n) h
-    go true false false e n xs h ih = ih n h
+same-map : (f g : ℕ → ℕ) (xs : List ℕ) → ((n x : ℕ) → getElem? xs n ≡ some x → f x ≡ g x) → map f xs ≡ map g xs
+same-map f g [] h = refl
+same-map f g (x ∷ xs) h = cc (h 0 x refl, same-map f g xs (λ n. h (suc n)))
 
 last-is : (f : ℕ → ℕ) (xs : List ℕ) (d t : ℕ) → getElem? xs 0 ≡ some t → d ≡ f t → isLast d (map f xs) ≡ true
 unfolding isLast
@@ -265,14 +238,55 @@ line-with-device D l m h s j k o =
 -- ---- what an edit keeps
 
 module _ (p q : List ℕ) (i e : ℕ) (t : isTake (at p i) ≡ true) (d : EditOf p i e q) where
-  others-own : (k : ℕ) → k ≢ i → own q k ≡ own p k
-  unfolding own takesAt deviceAt
-  others-own k n = go (spot p i k)
+  -- the take's line and its mate's apart, a take has the device that it had
+  pub take-kept : (k : ℕ) → k ≢ i → isTake (at p k) ≡ true → at q k ≡ at p k
+  take-kept k n v = go (spot p i k)
     where
-      go : Spot p i k → own q k ≡ own p k
+      go : Spot p i k → at q k ≡ at p k
       go (theTake z) = absurd (n z)
-      go (theMate h) = rw (same-take p q (d .alike) k, give-no-take (at p k) (pair p i k h .gives))
-      go (another x y) = rw (d .elsewhere k x y)
+      go (theMate h) = clash (isGive (at p k)) (pair p i k h .gives) (take-no-give (at p k) v)
+      go (another x y) = d .elsewhere k x y
+
+  -- where the take is not open, the job holds what it held
+  pub held-kept : (k : ℕ) → ((n : ℕ) → getElem? (openTakes p (job (at p k)) k) n ≡ some i → ⊥)
+      → heldThere q k ≡ heldThere p k
+  unfolding deviceAt
+  held-kept k closed =
+      rw (held-open q (job (at q k)) k, d .alike .jobs k, same-open p q (d .alike) (job (at p k)) k)
+      (same-map (deviceAt q) (deviceAt p) (openTakes p (job (at p k)) k)
+      (λ n u o. ap operand (take-kept u (λ z. closed n (rw z at o)) (open-is p (job (at p k)) k n u o .taken)))
+      ∙ sym (held-open p (job (at p k)) k))
+
+  -- a take before which the moved one is open stands under it
+  open-under : Rules p → (k n : ℕ) → isTake (at p k) ≡ true → getElem? (openTakes p (job (at p k)) k) n ≡ some i
+      → has k (under p i) ≡ true
+  unfolding until
+  open-under rules k n v o =
+      under-has p i k (r .above) (go (mate p i) refl) (sym (r .ofJob))
+    where
+      r : Open p (job (at p k)) k n i
+      r = open-is p (job (at p k)) k n i o
+
+      inPlan : k < length p
+      inPlan = take-line p k v
+
+      found : mate p i ≡ mateIn (job (at p k)) n k (drop k p)
+      found = open-mates p rules k (job (at p k)) n i inPlan refl o
+
+      go : (x : Option ℕ) → mate p i ≡ x → k < Option·getD x (length p)
+      go none e = inPlan
+      go (some m) e =
+          let ne : k ≢ m = λ z. clash (isGive (at p k)) (rw z (pair p i m e .gives)) (take-no-give (at p k) v) in
+          omega (arith, ne, mate-below (job (at p k)) n k (drop k p) m (sym found ∙ e))
+
+  others-own : Rules p → (k : ℕ) → k ≢ i → has k (under p i) ≡ false → own q k ≡ own p k
+  unfolding own takesAt holdsAlready deviceAt
+  others-own rules k n u = go (test (isTake (at p k)))
+    where
+      go : (isTake (at p k) ≡ true) ⊎ (isTake (at p k) ≡ false) → own q k ≡ own p k
+      go (inl v) =
+          rw (held-kept k (λ x o. clash (has k (under p i)) (open-under rules k x v o) u), take-kept k n v)
+      go (inr v) = rw (same-take p q (d .alike) k, v)
 
   -- a give names the device of its take
   pair-named : Rules p → (m u : ℕ) → isGive (at p m) ≡ true → isTake (at p u) ≡ true → mate p u ≡ some m
@@ -308,15 +322,7 @@ module _ (p q : List ℕ) (i e : ℕ) (t : isTake (at p i) ≡ true) (d : EditOf
         same-open p q (d .alike) (job (at p m)) m,
       )
       (last-is (deviceAt q) (openTakes p (job (at p m)) m) (operand (at q m)) (r .0) (r .1)
-      (pair-named rules m (r .0) g′ (open-are-takes p (job (at p m)) m 0 (r .0) (r .1)) (r .2) (r .1)))
-
--- nothing is broken in a plan without a fault
-nothing-broken : (D : ℕ) (p : List ℕ) → WellFormed D p → Sound D p
-nothing-broken D p w = go (fault D p) (no-fault-exactly D p .1 w) (fault-view D p)
-  where
-    go : (x : Option Refusal) → x ≡ none → FaultView D p x → Sound D p
-    go none h (sound v) = v
-    go (some r) h v = absurd (Option·none-ne-some r (sym h))
+      (pair-named rules m (r .0) g′ (open-is p (job (at p m)) m 0 (r .0) (r .1) .taken) (r .2) (r .1)))
 
 module _ (D : ℕ) (p q : List ℕ) (i e : ℕ) (w : WellFormed D p) (t : isTake (at p i) ≡ true) (b : e < D)
     (d : EditOf p i e q) where
@@ -335,69 +341,45 @@ module _ (D : ℕ) (p q : List ℕ) (i e : ℕ) (w : WellFormed D p) (t : isTake
       go (theMate y) = with (inr (pair p i k y .gives)) (d .atMate k y)
       go (another x y) = rw (d .elsewhere k x y) (w .lines k h)
 
-  follows-kept : (k : ℕ) → k < length p → FollowsOn q k
-  follows-kept zero h = a .jobs 0 ∙ w .rules .first h
-  follows-kept (suc k) h = rw (a .jobs k, a .jobs (suc k)) (w .rules .next k h)
-
-  starts-kept : (k : ℕ) → isStart (at q k) ≡ true → starts (at p k) (operand (at q k)) ≡ true
-  starts-kept k h = sym (same-starts p q a k (operand (at q k))) ∙ start-of (at q k) h
-
-  broken-is-eight : (k : ℕ) (r : Refusal) → k < length p → BrokenAt D q k r → numberOf r ≡ 8
-  broken-is-eight k r h (tooMany f) = absurd (omega (arith, w .few))
-  broken-is-eight k r h (malformed f l) = clash (isLine D (at q k)) (line-kept k h) l
-  broken-is-eight k r h (outOfSequence f l n) = absurd (n (follows-kept k h))
-  broken-is-eight k r h (badStart f l o v (inl x)) =
-      absurd (omega (arith, w .rules .startHigher k (operand (at q k)) (starts-kept k v), a .jobs k))
-  broken-is-eight k r h (badStart f l o v (inr x)) =
-      clash (starts (at p (x .0)) (operand (at q k)))
-      (sym (same-starts p q a (x .0) (operand (at q k))) ∙ x .2)
-      (w .rules .startOnce k (x .0) (operand (at q k)) (x .1) (starts-kept k v))
-  broken-is-eight k r h (badGive f l o v x) =
-      clash (isLast (operand (at q k)) (heldThere q k)) (give-kept p q i e t d (w .rules) k v) x
-  broken-is-eight k r h (takeOfHeld f l o v x) = refl
-
   same-lines : (j : ℕ) → hasLines q j ≡ hasLines p j
   unfolding hasLines
   same-lines j = same-any (λ l. eqb (job l) j) p q (a .long) (λ k. rw (a .jobs k))
 
-  same-unstarted : (j : ℕ) → unstarted q j ≡ unstarted p j
-  unfolding unstarted
-  same-unstarted j =
-      rw (same-lines j, same-any (λ l. starts l j) p q (a .long) (λ k. same-starts p q a k j))
+  rules-kept : Rules q
+  rules-kept = record {
+    first = λ h. a .jobs 0 ∙ r .first (omega (arith, a .long));
+    next = λ k h. rw (a .jobs k, a .jobs (suc k)) (r .next k (omega (arith, a .long)));
+    startHigher = λ k j h. rw (a .jobs k) (r .startHigher k j (was k j h));
+    startOnce = λ k l j lt h. same-starts p q a l j ∙ r .startOnce k l j lt (was k j h);
+    startHasLines = λ k j h. same-lines j ∙ r .startHasLines k j (was k j h);
+    started = λ k h n.
+        rw (a .jobs k)
+        (same-any (λ l. starts l (job (at p k))) p q (a .long) (λ x. same-starts p q a x (job (at p k)))
+        ∙ r .started k (omega (arith, a .long)) (λ z. n (a .jobs k ∙ z)));
+    give = give-kept p q i e t d r;
+  }
+    where
+      r : Rules p
+      r = w .rules
 
-  none-empty : (k : ℕ) → startsEmpty q k ≡ true → ⊥
-  unfolding startsEmpty
-  none-empty k h =
-      let v = and-split (isStart (at q k)) (not (hasLines q (operand (at q k)))) h in
-      clash (hasLines q (operand (at q k)))
-      (same-lines (operand (at q k)) ∙ w .rules .startHasLines k (operand (at q k)) (starts-kept k (v .0)))
-      (not-true (hasLines q (operand (at q k))) (v .1))
+      was : (k j : ℕ) → starts (at q k) j ≡ true → starts (at p k) j ≡ true
+      was k j h = sym (same-starts p q a k j) ∙ h
 
-  edit-fault-is-eight : (r : Refusal) → Broken D q r → numberOf r ≡ 8
-  edit-fault-is-eight r (atLine k x l f y) = broken-is-eight k x (omega (arith, a .long)) y
-  edit-fault-is-eight r (noLines k f l y low) = absurd (none-empty k y)
-  edit-fault-is-eight r (noStart j f g x y z low) =
-      clash (unstarted q j) z (same-unstarted j ∙ nothing-broken D p w .begun j x y)
+  well-formed-kept : WellFormed D q
+  well-formed-kept = record {
+    few = omega (arith, a .long, w .few);
+    lines = λ k h. line-kept k (omega (arith, a .long));
+    rules = rules-kept;
+  }
 
 -- ---- of the edited plan itself
 
-pub own-elsewhere : (p : List ℕ) (i e k : ℕ) → isTake (at p i) ≡ true → e < 256 → k ≢ i
+pub own-elsewhere : (p : List ℕ) → Rules p → (i e k : ℕ) → isTake (at p i) ≡ true → e < 256 → k ≢ i
+    → has k (under p i) ≡ false
     → own (edited p i e) k ≡ own p k
-own-elsewhere p i e k t s = others-own p (edited p i e) i e t (edit p i e t s) k
+own-elsewhere p rules i e k t s = others-own p (edited p i e) i e t (edit p i e t s) rules k
 
-module _ (D : ℕ) (p : List ℕ) (i e : ℕ) (w : WellFormed D p) (t : isTake (at p i) ≡ true) (b : e < D)
-    (small : D ≤ 256) where
-  -- where the plan is well-formed, the edited one has no fault but 8
-  pub fault-is-eight : (r : Refusal) → fault D (edited p i e) ≡ some r → numberOf r ≡ 8
-  fault-is-eight r h =
-      edit-fault-is-eight D p (edited p i e) i e w t b (edit p i e t (omega arith)) r
-      (fault-exactly D (edited p i e) r .0 h)
-
-  -- The theorem: the test for 8 is the test for any fault.
-  pub eight-is-all : ofNumber 8 (fault D (edited p i e)) ≡ fault D (edited p i e)
-  unfolding ofNumber refuseIf
-  eight-is-all = go (fault D (edited p i e)) refl
-    where
-      go : (x : Option Refusal) → fault D (edited p i e) ≡ x → ofNumber 8 x ≡ x
-      go none h = refl
-      go (some r) h = rw (eq-eqb (numberOf r) 8 (fault-is-eight r h))
+-- The theorem: where the plan is well-formed, the edited one is.
+pub edited-well-formed : (D : ℕ) (p : List ℕ) (i e : ℕ) → WellFormed D p → isTake (at p i) ≡ true → e < D → D ≤ 256
+    → WellFormed D (edited p i e)
+edited-well-formed D p i e w t b small = well-formed-kept D p (edited p i e) i e w t b (edit p i e t (omega arith))

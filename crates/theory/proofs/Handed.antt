@@ -12,7 +12,6 @@ use lib.Dec.{eqb}
 use lib.ListN.{length}
 use borrow.Author.Tests.{ne-eqb, not-true}
 use Rattle.model.specs.Lists.{upFrom, any, has, orElse}
-use Rattle.model.specs.Line.{isTake, at}
 use Rattle.model.specs.Mate.{takesAt, deviceAt, takes, mate, isNone, lastingAt}
 use Rattle.model.specs.WellFormed.{WellFormed}
 use Rattle.model.specs.Legal.{precedes, Follow, Legal}
@@ -23,7 +22,8 @@ use Rattle.theory.specs.Verdict.{LastsTwice}
 use Rattle.theory.proofs.Tests.{clash, test, and-second}
 use Rattle.theory.proofs.Lists.{has-none, has-left, has-right, has-append, any-none}
 use Rattle.theory.proofs.Lists.{left, left-lt, left-none, left-zero, left-all, among}
-use Rattle.theory.proofs.Turns.{Between, Going, going, taking, turn-follows, turn-between, after-new}
+use Rattle.theory.proofs.Claims.{takes-parts}
+use Rattle.theory.proofs.Turns.{Between, Going, going, turn-follows, turn-between, after-new}
 use Rattle.theory.proofs.Progress.{has-undone, undone-has, has-standing, Picked, stuck, goes, picked, device-is}
 use Rattle.theory.proofs.Progress.{never-stuck}
 
@@ -39,20 +39,20 @@ follow-append p done (i ∷ x) y s t = (
 pub closes : (p done : List ℕ) (i d : ℕ) → takes p i d ≡ true
     → (lastingAt p i ≡ false) ⊎ (alone p (undone p done) i ≡ true)
     → (mate p i ≡ some (lastOf p i)) ⊎ ((x : ℕ) → x < length p → has x done ≡ false → x ≢ i → takes p x d ≡ false)
-unfolding lastingAt takesAt isNone alone lastOf
+unfolding lastingAt isNone alone lastOf
 closes p done i d t c = go c
   where
-    take : isTake (at p i) ≡ true
-    take = taking p i d t
+    take : takesAt p i ≡ true
+    take = takes-parts p i d t .0
 
     mated : (o : Option ℕ) → mate p i ≡ o → isNone o ≡ false
-        → mate p i ≡ some (cond (isTake (at p i)) (Option·getD (mate p i) i) i)
+        → mate p i ≡ some (cond (takesAt p i) (Option·getD (mate p i) i) i)
     mated none e h = clash true refl h
     mated (some m) e h = rw (take, e)
 
     go : (lastingAt p i ≡ false) ⊎ (alone p (undone p done) i ≡ true)
         → (mate p i ≡ some (lastOf p i)) ⊎ ((x : ℕ) → x < length p → has x done ≡ false → x ≢ i → takes p x d ≡ false)
-    go (inl l) = inl (mated (mate p i) refl (and-second (isTake (at p i)) (isNone (mate p i)) take l))
+    go (inl l) = inl (mated (mate p i) refl (and-second (takesAt p i) (isNone (mate p i)) take l))
     go (inr a) = inr λ x xn e n.
         and-second (not (eqb x i)) (takes p x d) (rw (ne-eqb x i n))
         (rw (device-is p i d t) at

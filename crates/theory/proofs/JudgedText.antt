@@ -1,4 +1,4 @@
--- 02, request 1: of a text with a plan and an order, what is refused, exactly: 1 to 8 of the plan's part, and otherwise
+-- 02, request 1: of a text with a plan and an order, what is refused, exactly: 1 to 7 of the plan's part, and otherwise
 -- 15 where the entries go wrong.
 use Prim.Native.Nat.{ℕ, _≤_}
 use mathlib.Core.List.{List}
@@ -23,7 +23,7 @@ module _ (D : ℕ) (text : List ℕ) where
   abbrev plan : List ℕ
   plan = planOf D text
 
-  -- 1 to 8 pass exactly if the plan's part is short, and its plan well-formed
+  -- 1 to 7 pass exactly if the plan's part is short, and its plan well-formed
   plan-passes : (textFault D part ≡ none) ↔ ((length part ≤ maxBytes) × WellFormed D plan)
   plan-passes = (
     λ e. let s = no-text-fault D part .0 e in (s .0, no-fault-exactly D plan .0 (s .1)),

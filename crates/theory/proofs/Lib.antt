@@ -17,9 +17,14 @@ pub mod Claims
 pub mod Rows
 pub mod Successors
 pub mod Mate
-pub mod Edited
+pub mod Outer
 pub mod Way
+pub mod Edited
 pub mod Move
+pub mod Again
+pub mod Around
+pub mod Depth
+pub mod Remarked
 pub mod Places
 pub mod OnlyIf
 pub mod Turns

@@ -10,7 +10,7 @@ use native.Mathlib.Omega.{arith}
 use lib.Dec.{eqb, ltb}
 use lib.ListN.{length}
 use borrow.Author.Tests.{eqb-true, eq-eqb, eqb-false, ltb-true, ltb-false}
-use Rattle.model.specs.Lists.{upFrom, positions, any, all, has, those, firstOf, lower, leastBy}
+use Rattle.model.specs.Lists.{upFrom, positions, any, all, has, those, firstOf, lower, leastBy, orElse}
 use Rattle.theory.proofs.Tests.{clash, no-some, test, or-split, or-left, or-right, and-split, and-both}
 
 -- ---- members
@@ -261,6 +261,49 @@ none-exactly f xs =
         → firstOf f xs ≡ none
     from h none e a = e
     from h (some i) e a = clash (f i) (a .1) (h i (a .0))
+
+-- what a search finds, with what stands before it and after it: nothing before it passes
+pub first-split : (f : ℕ → Bool) (xs : List ℕ) (k : ℕ) → firstOf f xs ≡ some k
+    → (ys zs : List ℕ) × (xs ≡ ys ++ (k ∷ zs)) × (f k ≡ true) × ((j : ℕ) → has j ys ≡ true → f j ≡ false)
+unfolding firstOf
+first-split f [] k e = no-some e
+first-split f (x ∷ xs) k e = go (f x) refl e (first-split f xs k)
+  where
+    go : (b : Bool) → f x ≡ b → elim b [ true ↦ some x | false ↦ firstOf f xs ] ≡ some k
+        → (firstOf f xs ≡ some k
+        → (ys zs : List ℕ) × (xs ≡ ys ++ (k ∷ zs)) × (f k ≡ true) × ((j : ℕ) → has j ys ≡ true → f j ≡ false))
+        → (ys zs : List ℕ) × (x ∷ xs ≡ ys ++ (k ∷ zs)) × (f k ≡ true) × ((j : ℕ) → has j ys ≡ true → f j ≡ false)
+    go true q e ih =
+        let y : x ≡ k = Option·some-injective x k e in
+        ([], xs, ap (λ (z : ℕ). z ∷ xs) y, rw y at q, λ j h. has-none j h)
+    go false q e ih =
+        let r = ih e in
+        (x ∷ r .0, r .1, ap (λ (z : List ℕ). x ∷ z) (r .2), r .3, λ j h. fails (r .0) j (has-cases j x (r .0) h) (r .4))
+      where
+        fails : (ys : List ℕ) (j : ℕ) → (j ≡ x) ⊎ (has j ys ≡ true) → ((j : ℕ) → has j ys ≡ true → f j ≡ false)
+            → f j ≡ false
+        fails ys j (inl z) g = rw z q
+        fails ys j (inr z) g = g j z
+
+-- and back
+pub split-first : (f : ℕ → Bool) (ys zs : List ℕ) (k : ℕ) → f k ≡ true → ((j : ℕ) → has j ys ≡ true → f j ≡ false)
+    → firstOf f (ys ++ (k ∷ zs)) ≡ some k
+unfolding firstOf
+split-first f [] zs k e g = rw e
+split-first f (y ∷ ys) zs k e g =
+    rw (g y (has-head y ys)) (split-first f ys zs k e (λ j h. g j (has-tail j y ys h)))
+
+-- a search through one list after another
+pub first-append : (f : ℕ → Bool) (xs ys : List ℕ) → firstOf f (xs ++ ys) ≡ orElse (firstOf f xs) (firstOf f ys)
+unfolding firstOf orElse
+first-append f [] ys = refl
+first-append f (x ∷ xs) ys = go (f x) (first-append f xs ys)
+  where
+    go : (b : Bool) → firstOf f (xs ++ ys) ≡ orElse (firstOf f xs) (firstOf f ys)
+        → elim b [ true ↦ some x | false ↦ firstOf f (xs ++ ys) ]
+        ≡ orElse (elim b [ true ↦ some x | false ↦ firstOf f xs ]) (firstOf f ys)
+    go true ih = refl
+    go false ih = ih
 
 -- the first of ascending numbers is the lowest
 pub first-lowest : (f : ℕ → Bool) (i n m : ℕ) → firstOf f (upFrom i n) ≡ some m → (k : ℕ) → i ≤ k → k < m → f k ≡ false

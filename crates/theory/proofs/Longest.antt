@@ -17,7 +17,7 @@ use Rattle.model.specs.Answers.{firstRefusal}
 use Rattle.model.specs.Line.{job, kind, operand, isTake, isGive, isStart, starts, at, lineNumber, maxLines}
 use Rattle.model.specs.Text.{spelt, textOf}
 use Rattle.model.specs.WellFormed.{fault}
-use Rattle.model.specs.Mate.{takesAt, deviceAt, takes, mate, isNone, lasting}
+use Rattle.model.specs.Mate.{deviceAt, holdsAlready, takes, mate, isNone, lasting}
 use Rattle.model.specs.Legal.{givenBack, held, MayFollow, Follow, Legal}
 use Rattle.model.specs.Handed.{handed}
 use Rattle.model.specs.Verdict.{noOrder, heldAtEnd}
@@ -28,7 +28,9 @@ use Rattle.theory.proofs.Lists.{has-upFrom, upFrom-has, position-has, a
 use Rattle.theory.proofs.Lists.{those-same}
 use Rattle.theory.proofs.Line.{start-parts}
 use Rattle.theory.proofs.WellFormed.{line-any, start-line, give-line, take-line}
-use Rattle.theory.proofs.Claims.{length-upFrom, getD-upFrom}
+use Rattle.theory.proofs.Claims.{length-upFrom, getD-upFrom, takes-parts, taking, makes-take}
+use Rattle.theory.proofs.WellFormed.{no-fault-exactly}
+use Rattle.theory.proofs.Around.{around}
 use Rattle.theory.proofs.Successors.{Why, sameJob, starter, why, earlier-precedes}
 use Rattle.theory.proofs.Mate.{pair}
 use Rattle.theory.proofs.Verdict.{accepted-is-legal, legal-order-exactly, held-number}
@@ -102,6 +104,23 @@ is-take : (i : ℕ) → i < 10 → isTake (at plan i) ≡ true
 unfolding lineThere isTake kind
 is-take i h = rw (there i (omega arith), lt-ltb i 10 h) (eq-eqb ((1280 + i) / 256 % 4) 1 (omega arith))
 
+-- none of them takes again what the job holds
+first-taken : (i : ℕ) → isTake (at plan i) ≡ true → holdsAlready plan i ≡ false
+unfolding deviceAt
+first-taken i t = falsely (holdsAlready plan i) again
+  where
+    again : holdsAlready plan i ≡ true → ⊥
+    again h =
+        let r = around plan (no-fault-exactly devices plan .0 sound .rules) i t h in
+        let k = r .0 in
+        omega (
+          arith,
+          r .1 .above,
+          of-take i t .1,
+          of-take k (taking plan k (deviceAt plan i) (r .1 .takes)) .1,
+          takes-parts plan k (deviceAt plan i) (r .1 .takes) .1,
+        )
+
 -- ---- the order of the line numbers is legal, and no other
 
 up-snoc : (i n : ℕ) → upFrom i n ++ ((i + n) ∷ []) ≡ upFrom i (suc n)
@@ -115,7 +134,7 @@ up-next i = let z : 0 + i ≡ i = omega arith in rw z at (up-snoc 0 i)
 
 -- after the lines before it, a line may follow
 may-follow : (i : ℕ) → i < maxLines → MayFollow plan (upFrom 0 i) i
-unfolding takes takesAt deviceAt held
+unfolding held deviceAt
 may-follow i h = record {
   line = omega (arith, plan-length);
   once = falsely (has i (upFrom 0 i)) (λ m. omega (arith, has-upFrom 0 i i m .1));
@@ -130,16 +149,14 @@ may-follow i h = record {
     free : (d : ℕ) → takes plan i d ≡ true
         → (k : ℕ) × (has k (upFrom 0 i) ≡ true) × ((takes plan k d && not (givenBack plan (upFrom 0 i) k)) ≡ true) → ⊥
     free d t r =
-        let a = and-split (isTake (at plan i)) (eqb (operand (at plan i)) d) t in
         let b = and-split (takes plan (r .0) d) (not (givenBack plan (upFrom 0 i) (r .0))) (r .2) in
-        let c = and-split (isTake (at plan (r .0))) (eqb (operand (at plan (r .0))) d) (b .0) in
         omega (
           arith,
           has-upFrom 0 i (r .0) (r .1) .1,
-          of-take i (a .0) .1,
-          eqb-true (operand (at plan i)) d (a .1),
-          of-take (r .0) (c .0) .1,
-          eqb-true (operand (at plan (r .0))) d (c .1),
+          of-take i (taking plan i d t) .1,
+          takes-parts plan i d t .1,
+          of-take (r .0) (taking plan (r .0) d (b .0)) .1,
+          takes-parts plan (r .0) d (b .0) .1,
         )
 
 follow : (n i : ℕ) → i + n ≡ maxLines → Follow plan (upFrom 0 i) (upFrom i n)
@@ -187,16 +204,15 @@ handed-is =
 -- ---- ten devices stay held
 
 stays-held : (d : ℕ) → any (λ i. lasting plan i d) (positions plan) ≡ ltb d 10
-unfolding lasting takes takesAt deviceAt isNone
+unfolding lasting deviceAt isNone
 stays-held d = tests-agree (any (λ i. lasting plan i d) (positions plan)) (ltb d 10) to from
   where
     to : any (λ i. lasting plan i d) (positions plan) ≡ true → ltb d 10 ≡ true
     to h =
         let r = any-found (λ i. lasting plan i d) (positions plan) h in
         let a = and-split (takes plan (r .0) d) (isNone (mate plan (r .0))) (r .2) in
-        let b = and-split (isTake (at plan (r .0))) (eqb (operand (at plan (r .0))) d) (a .0) in
-        let t = of-take (r .0) (b .0) in
-        lt-ltb d 10 (omega (arith, t .0, t .1, eqb-true (operand (at plan (r .0))) d (b .1)))
+        let t = of-take (r .0) (taking plan (r .0) d (a .0)) in
+        lt-ltb d 10 (omega (arith, t .0, t .1, takes-parts plan (r .0) d (a .0) .1))
 
     lasts : (m : Option ℕ) → mate plan d ≡ m → isNone m ≡ true
     lasts none e = refl
@@ -208,8 +224,7 @@ stays-held d = tests-agree (any (λ i. lasting plan i d) (positions plan)) (ltb 
         let t = is-take d lt in
         any-at (λ i. lasting plan i d) (positions plan) d (position-has plan d (omega (arith, plan-length)))
         (and-both (takes plan d d) (isNone (mate plan d))
-        (and-both (isTake (at plan d)) (eqb (operand (at plan d)) d) t
-        (eq-eqb (operand (at plan d)) d (of-take d t .1)))
+        (makes-take plan d d t (first-taken d t) (of-take d t .1))
         (lasts (mate plan d) refl))
 
 ten-held : heldAtEnd devices plan ≡ 10

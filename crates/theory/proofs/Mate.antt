@@ -14,12 +14,13 @@ use lib.Seq.{getD-drop, drop-drop, drop-cons}
 use borrow.Author.Tests.{eqb-true, eq-eqb, eqb-false, ne-eqb}
 use Rattle.model.specs.Lists.{has}
 use Rattle.model.specs.Line.{job, isTake, isGive, operand, at}
-use Rattle.model.specs.Mate.{takesAt, deviceAt, takes, mateIn, mate, isNone, lastingAt}
+use Rattle.model.specs.Mate.{deviceAt, holdsAlready, takesAt, takes, mateIn, mate, isNone, lastingAt}
 use Rattle.model.specs.WellFormed.{before, heldBy, isLast, Rules}
-use Rattle.theory.proofs.Tests.{clash, no-some, test, and-split, and-right, le-or-lt}
+use Rattle.theory.proofs.Tests.{clash, no-some, test, and-left, and-right, le-or-lt}
 use Rattle.theory.proofs.Lists.{has-head, has-tail}
 use Rattle.theory.proofs.Line.{take-no-give}
 use Rattle.theory.proofs.WellFormed.{take-line, give-line}
+use Rattle.theory.proofs.Claims.{outermost, takes-parts}
 use Rattle.theory.proofs.Successors.{jobs-grow}
 
 -- ---- the search for a mate
@@ -207,12 +208,14 @@ pair p i m h =
 
 -- no lasting take stands between a take and its give
 pub none-lasts-between : (p : List ℕ) (i m k : ℕ) → mate p i ≡ some m → i < k → k ≤ m → lastingAt p k ≡ false
-unfolding lastingAt takesAt isNone
-none-lasts-between p i m k h a b = go (test (isTake (at p k)))
+unfolding lastingAt isNone
+none-lasts-between p i m k h a b = go (test (takesAt p k))
   where
-    go : (isTake (at p k) ≡ true) ⊎ (isTake (at p k) ≡ false) → (takesAt p k && isNone (mate p k)) ≡ false
-    go (inl t) = let r = pair p i m h .mates k a b t in and-right (takesAt p k) (isNone (mate p k)) (ap isNone (r .1))
-    go (inr t) = rw t
+    go : (takesAt p k ≡ true) ⊎ (takesAt p k ≡ false) → (takesAt p k && isNone (mate p k)) ≡ false
+    go (inl t) =
+        let r = pair p i m h .mates k a b (outermost p k t .0) in
+        and-right (takesAt p k) (isNone (mate p k)) (ap isNone (r .1))
+    go (inr t) = and-left (takesAt p k) (isNone (mate p k)) t
 
 -- ---- the takes that are open, by positions
 
@@ -279,9 +282,58 @@ open-foreign : (p : List ℕ) (j i : ℕ) → (job (at p i) ≡ j → ⊥) → o
 unfolding openTakes
 open-foreign p j i n = rw (ne-eqb (job (at p i)) j n, openTakes)
 
+-- what a line does to the open takes
+data Opens (p : List ℕ) (j i : ℕ) : Type 0 where
+  pushes : job (at p i) ≡ j → isTake (at p i) ≡ true → openTakes p j (suc i) ≡ i ∷ openTakes p j i → Opens p j i
+  pops : openTakes p j (suc i) ≡ tail (openTakes p j i) → Opens p j i
+  stays : openTakes p j (suc i) ≡ openTakes p j i → Opens p j i
+
+opens : (p : List ℕ) (j i : ℕ) → Opens p j i
+opens p j i = go (seen j (at p i) [])
+  where
+    go : Seen j (at p i) [] → Opens p j i
+    go (foreign n q) = stays (open-foreign p j i n)
+    go (deeper e t q) = pushes e t (open-take p j i e t)
+    go (level e t g q) = stays (open-level p j i e t g)
+    go (back e t g z q) = pops (open-give p j i e t g)
+
 nth-tail : (xs : List ℕ) (n : ℕ) → getElem? (tail xs) n ≡ getElem? xs (suc n)
 nth-tail [] n = refl
 nth-tail (x ∷ xs) n = refl
+
+drop-tail : (xs : List ℕ) (n : ℕ) → drop n (tail xs) ≡ drop (suc n) xs
+drop-tail [] zero = refl
+drop-tail [] (suc n) = refl
+drop-tail (x ∷ xs) n = refl
+
+-- a take that lies n deep before line k is a take of the job and stands before it; what lies below it in the stack is
+-- what was open before it
+pub record Open (p : List ℕ) (j k n t : ℕ) : Type 0 where
+  pub taken : isTake (at p t) ≡ true
+  pub ofJob : job (at p t) ≡ j
+  pub above : t < k
+  pub below : openTakes p j t ≡ drop (suc n) (openTakes p j k)
+
+pub open-is : (p : List ℕ) (j k n t : ℕ) → getElem? (openTakes p j k) n ≡ some t → Open p j k n t
+unfolding openTakes
+open-is p j zero n t h = no-some h
+open-is p j (suc k) n t h = go n h (opens p j k) (λ n. open-is p j k n t)
+  where
+    still : (m n : ℕ) → Open p j k m t → drop (suc m) (openTakes p j k) ≡ drop (suc n) (openTakes p j (suc k))
+        → Open p j (suc k) n t
+    still m n o e =
+        record { taken = o .taken; ofJob = o .ofJob; above = omega (arith, o .above); below = o .below ∙ e }
+
+    go : (n : ℕ) → getElem? (openTakes p j (suc k)) n ≡ some t → Opens p j k
+        → ((n : ℕ) → getElem? (openTakes p j k) n ≡ some t → Open p j k n t) → Open p j (suc k) n t
+    go n h (stays q) ih = still n n (ih n (rw q at h)) (rw q)
+    go n h (pops q) ih =
+        still (suc n) n (ih (suc n) (sym (nth-tail (openTakes p j k) n) ∙ (rw q at h)))
+        (sym (drop-tail (openTakes p j k) (suc n)) ∙ rw q)
+    go (suc n) h (pushes e u q) ih = still n (suc n) (ih n (rw q at h)) (rw q)
+    go zero h (pushes e u q) ih =
+        let z : k ≡ t = Option·some-injective k t (rw q at h) in
+        record { taken = rw z at u; ofJob = rw z at e; above = omega arith; below = rw (q, ← z) }
 
 -- a take that lies n deep before line k, and whose mate by that depth is m, is the latest open take before m
 latest : (f : ℕ) (p : List ℕ) (j n k t m : ℕ) → length p ≤ k + f → getElem? (openTakes p j k) n ≡ some t
@@ -462,29 +514,30 @@ module _ (p : List ℕ) (rules : Rules p) where
       go (inl r) = inl (r .0, r .1, omega (arith, r .2))
       go (inr r) = deep (r .0) (r .1) (seen j (at p x) (drop (suc x) p))
 
-  -- where a job takes a device again, it has given it back between
-  pub taken-again : (i k d : ℕ) → takes p i d ≡ true → takes p k d ≡ true → job (at p i) ≡ job (at p k) → i < k
+  -- where a job takes a device again as an outermost take, it has given it back between
+  pub given-between : (i k d : ℕ) → takes p i d ≡ true → takes p k d ≡ true → job (at p i) ≡ job (at p k) → i < k
       → (m : ℕ) × (mate p i ≡ some m) × (m < k)
-  unfolding takes takesAt
-  taken-again i k d ti tk e lt = go (mated-or-open (k - suc i) i k (job (at p k)) (omega arith) inPlan (si .0) e refl)
+  unfolding holdsAlready
+  given-between i k d ti tk e lt =
+      go (mated-or-open (k - suc i) i k (job (at p k)) (omega arith) (take-line p k (ok .0)) (oi .0) e refl)
     where
-      si : (isTake (at p i) ≡ true) × (eqb (deviceAt p i) d ≡ true)
-      si = and-split (isTake (at p i)) (eqb (deviceAt p i) d) ti
+      si : (takesAt p i ≡ true) × (deviceAt p i ≡ d)
+      si = takes-parts p i d ti
 
-      sk : (isTake (at p k) ≡ true) × (eqb (deviceAt p k) d ≡ true)
-      sk = and-split (isTake (at p k)) (eqb (deviceAt p k) d) tk
+      sk : (takesAt p k ≡ true) × (deviceAt p k ≡ d)
+      sk = takes-parts p k d tk
 
-      inPlan : k < length p
-      inPlan = take-line p k (sk .0)
+      oi : (isTake (at p i) ≡ true) × (holdsAlready p i ≡ false)
+      oi = outermost p i (si .0)
 
-      same : deviceAt p k ≡ deviceAt p i
-      same = eqb-true (deviceAt p k) d (sk .1) ∙ sym (eqb-true (deviceAt p i) d (si .1))
+      ok : (isTake (at p k) ≡ true) × (holdsAlready p k ≡ false)
+      ok = outermost p k (sk .0)
 
       go : ((m : ℕ) × (mate p i ≡ some m) × (m < k)) ⊎ ((o : ℕ) × (getElem? (openTakes p (job (at p k)) k) o ≡ some i))
           → (m : ℕ) × (mate p i ≡ some m) × (m < k)
       go (inl r) = r
       go (inr r) =
-          clash (has (deviceAt p k) (heldBy (job (at p k)) (before p k)))
-          (rw (held-open p (job (at p k)) k, same)
+          clash (holdsAlready p k)
+          (rw (held-open p (job (at p k)) k, sk .1 ∙ sym (si .1))
           (mapped-has (deviceAt p) (openTakes p (job (at p k)) k) (r .0) i (r .1)))
-          (rules .take k (sk .0))
+          (ok .1)

@@ -1,7 +1,8 @@
 -- A move from a plan without a fault and its own table gives the edited plan and the table that would be worked out
--- afresh, with the count of the places that changed; nothing off the way changes, and 14 refuses no such move. So over
--- any list of moves, refused ones among them, plan and table stay right; else no table kept by moves could be trusted.
--- Of any plan and table: 9 and 10 refuse no move, and one to the device that the take has changes nothing.
+-- afresh, with the count of the places that changed; nothing changes but on the way and under the take, and 14 refuses
+-- no such move. So over any list of moves, refused ones among them, plan and table stay right; else no table kept by
+-- moves could be trusted. Of any plan and table: 9 and 10 refuse no move, and one to the device that the take has
+-- changes nothing.
 use Prim.Native.Nat.{ℕ, zero, suc, _+_, _<_, _≤_}
 use mathlib.Core.Bool.{Bool, true, false, cond, not}
 use mathlib.Core.List.{List, [], _∷_, _++_}
@@ -21,25 +22,27 @@ use Rattle.model.specs.Line.{isTake, isGive, at, lineNumber}
 use Rattle.model.specs.WellFormed.{Rules, WellFormed, fault}
 use Rattle.model.specs.Mate.{deviceAt}
 use Rattle.model.specs.Claims.{successors, own, joined, table, beyond}
-use Rattle.model.specs.Move.{edited, way, rejoined, stale, rewritten, changed, askedAt, isTakeOf, ofNumber}
-use Rattle.model.specs.Move.{moveRefusal}
+use Rattle.model.specs.Move.{edited, way, under, mayChange, fromLast, rejoined, stale, rewritten, changed, askedAt}
+use Rattle.model.specs.Move.{isTakeOf, moveRefusal}
 use Rattle.model.specs.Entries.{Outcome, Lent, outcome, moving}
 use Rattle.model.specs.declared.Refusal.{Refusal}
 use Rattle.model.specs.declared.Refusal.the-variants.{ListTooShort, NotATake, NoSuchDevice, StaleTable}
 use Rattle.model.specs.declared.MoveAnswer.{MoveAnswer}
-use Rattle.theory.specs.Move.{Refused, notATake, noSuchDevice, takeOfHeld, differing, Accepted, Step}
+use Rattle.theory.specs.Move.{Refused, notATake, noSuchDevice, differing, Accepted, Step}
 use Rattle.theory.specs.Move.{refused, accepted, Ask, moved, movedBy, Kept, NearestStale}
-use Rattle.theory.proofs.Tests.{clash, no-some, test, or-left, or-neither, le-or-lt}
+use Rattle.theory.proofs.Tests.{clash, no-some, test, or-left, or-neither}
 use Rattle.theory.proofs.Lists.{has-none, has-head, has-tail, has-cases, Answer, first-answer, none-exactly}
+use Rattle.theory.proofs.Lists.{has-right, first-split, split-first}
 use Rattle.theory.proofs.Answers.{all-tests, also, first-each, none-refuses, not-refused, not-found}
 use Rattle.theory.proofs.Line.{device-line}
 use Rattle.theory.specs.Claims.{claim}
 use Rattle.theory.proofs.Claims.{claim-is, length-table}
 use Rattle.theory.proofs.WellFormed.{take-line, FaultView, broken, fault-view, broken-number, no-fault-exactly}
 use Rattle.theory.proofs.Successors.{successor-after}
-use Rattle.theory.proofs.Edited.{edit, edited-same, same-successors, own-elsewhere, fault-is-eight, eight-is-all}
+use Rattle.theory.proofs.Edited.{Alike, edit, edited-same, same-successors, own-elsewhere, edited-well-formed}
 use Rattle.theory.specs.Move.{Falls, ends, falls}
-use Rattle.theory.proofs.Way.{falls-below, way-falls, line-on-way, off-way-stays-off}
+use Rattle.theory.proofs.Way.{falls-below, way-falls, may-change-line, off-take}
+use Rattle.theory.proofs.Way.{from-last-falls, from-last-same, from-last-off}
 
 -- ---- a table is determined by the joining
 
@@ -98,62 +101,32 @@ module _ (p t : List ℕ) (mine : take (length p) t ≡ table p) where
   pub whole : t ≡ table p ++ drop (length p) t
   whole = sym (take-append-drop (length p) t) ∙ ap (λ (xs : List ℕ). xs ++ drop (length p) t) mine
 
-  -- no line of the way is stale
-  pub none-stale : (i : ℕ) → i < length p → firstOf (stale p t) (way p i) ≡ none
+  -- no line that a move may change is stale
+  pub none-stale : (i : ℕ) → i < length p → firstOf (stale p t) (mayChange p i) ≡ none
   unfolding stale
   none-stale i h =
-      none-exactly (stale p t) (way p i) .1
-      (λ k m. rw (eq-eqb (getD t k 0) (rejoined p t k)
-      (own-joined k (omega (arith, falls-below (suc i) k (way p i) (way-falls p i) m)))))
+      none-exactly (stale p t) (mayChange p i) .1
+      (λ k m. rw (eq-eqb (getD t k 0) (rejoined p t k) (own-joined k (may-change-line p i h k m))))
 
 -- ---- 14
 
--- the first of falling numbers that passes is the highest, and no higher one passes
-first-highest : (f : ℕ → Bool) (n : ℕ) (xs : List ℕ) → Falls n xs → (k : ℕ) → firstOf f xs ≡ some k → (j : ℕ)
-    → has j xs ≡ true → k < j → f j ≡ false
-unfolding firstOf
-first-highest f n xs (ends m) k e j h lt = no-some e
-first-highest f n xs (falls m x ys g fs) k e j h lt =
-    go (f x) refl e (has-cases j x ys h) (λ q z. first-highest f x ys fs k q j z lt)
+-- The place of 14 is the nearest stale line of those that the move may change, in the order of the test, and there is
+-- one wherever one of them is stale.
+pub stale-exactly : (p t : List ℕ) (i k : ℕ)
+    → (firstOf (stale p t) (mayChange p i) ≡ some k) ↔ NearestStale p t i k
+stale-exactly p t i k = (to, from)
   where
-    go : (b : Bool) → f x ≡ b → elim b [ true ↦ some x | false ↦ firstOf f ys ] ≡ some k
-        → (j ≡ x) ⊎ (has j ys ≡ true) → (firstOf f ys ≡ some k → has j ys ≡ true → f j ≡ false) → f j ≡ false
-    go true q e (inl z) ih = let y : x ≡ k = Option·some-injective x k e in absurd (omega arith)
-    go true q e (inr z) ih =
-        let y : x ≡ k = Option·some-injective x k e in absurd (omega (arith, falls-below x j ys fs z))
-    go false q e (inl z) ih = rw z q
-    go false q e (inr z) ih = ih e z
+    to : firstOf (stale p t) (mayChange p i) ≡ some k → NearestStale p t i k
+    to e =
+        let r = first-split (stale p t) (mayChange p i) k e in
+        record { nearer = r .0; others = r .1; split = r .2; isStale = r .3; fresh = r .4 }
 
--- The place of 14 is the nearest stale line on the way, going back, and there is one wherever a line on the way is
--- stale.
-pub stale-exactly : (p t : List ℕ) (i k : ℕ) → (firstOf (stale p t) (way p i) ≡ some k) ↔ NearestStale p t i k
-stale-exactly p t i k = (λ e. to (firstOf (stale p t) (way p i)) refl e (first-answer (stale p t) (way p i)), from)
-  where
-    to : (o : Option ℕ) → firstOf (stale p t) (way p i) ≡ o → o ≡ some k → Answer (stale p t) (way p i) o
-        → NearestStale p t i k
-    to none q e a = no-some e
-    to (some m) q e a =
-        let z : m ≡ k = Option·some-injective m k e in
-        record {
-          onWay = rw z at (a .0);
-          isStale = rw z at (a .1);
-          nearer = first-highest (stale p t) (suc i) (way p i) (way-falls p i) k (q ∙ e);
-        }
+    from : NearestStale p t i k → firstOf (stale p t) (mayChange p i) ≡ some k
+    from s = rw (s .split) (split-first (stale p t) (s .nearer) (s .others) k (s .isStale) (s .fresh))
 
-    from : NearestStale p t i k → firstOf (stale p t) (way p i) ≡ some k
-    from s = go (firstOf (stale p t) (way p i)) refl (first-answer (stale p t) (way p i))
-      where
-        go : (o : Option ℕ) → firstOf (stale p t) (way p i) ≡ o → Answer (stale p t) (way p i) o
-            → firstOf (stale p t) (way p i) ≡ some k
-        go none q a = clash (stale p t k) (s .isStale) (a k (s .onWay))
-        go (some m) q a = q ∙ ap {B = Option ℕ} some (one (le-or-lt m k) (le-or-lt k m))
-          where
-            one : (m ≤ k) ⊎ (k < m) → (k ≤ m) ⊎ (m < k) → m ≡ k
-            one (inl b) (inl c) = omega arith
-            one (inr b) c = clash (stale p t m) (a .1) (s .nearer m (a .0) b)
-            one (inl b) (inr c) =
-                clash (stale p t k) (s .isStale)
-                (first-highest (stale p t) (suc i) (way p i) (way-falls p i) m q k (s .onWay) c)
+-- it is one of those
+pub nearest-may-change : (p t : List ℕ) (i k : ℕ) → NearestStale p t i k → has k (mayChange p i) ≡ true
+nearest-may-change p t i k s = rw (s .split) (has-right k (s .nearer) (k ∷ s .others) (has-head k (s .others)))
 
 -- ---- the sets rewritten along numbers that fall
 
@@ -221,57 +194,54 @@ module _ (p : List ℕ) where
           ∙ rejoined-same t (rewritten p (set t x v) xs) x above)
       go (inr z) ih = ih z
 
--- ---- the table of the edited plan
+-- ---- the table of an edited plan
 
-module _ (D : ℕ) (p t : List ℕ) (i e : ℕ) (w : WellFormed D p) (mine : take (length p) t ≡ table p)
-    (taken : isTake (at p i) ≡ true) (e<256 : e < 256) where
-  plan′ : List ℕ
-  plan′ = edited p i e
+-- along the numbers of `is`, from a plan's own table: all lines whose own claims differ are among them, and with a line
+-- all those that have it for a successor
+module _ (p q t : List ℕ) (mine : take (length p) t ≡ table p) (alike : Alike p q) (is : List ℕ)
+    (fall : Falls (length p) is)
+    (off : (k o : ℕ) → has o (successors (at p k) (drop (suc k) p)) ≡ true → has k is ≡ false
+    → has (suc k + o) is ≡ false)
+    (owned : (k : ℕ) → has k is ≡ false → own q k ≡ own p k) where
+  abbrev sets′ : List ℕ
+  sets′ = rewritten q t is
 
-  sets′ : List ℕ
-  sets′ = rewritten (edited p i e) t (way p i)
-
-  sets-joined : (k : ℕ) → k < length p → getD sets′ k 0 ≡ union (own plan′ k) (beyond plan′ sets′ k)
-  unfolding plan′ sets′ rejoined beyond
-  sets-joined k h = go (test (has k (way p i)))
+  sets-joined : (k : ℕ) → k < length p → getD sets′ k 0 ≡ union (own q k) (beyond q sets′ k)
+  unfolding rejoined beyond
+  sets-joined k h = go (test (has k is))
     where
-      go : (has k (way p i) ≡ true) ⊎ (has k (way p i) ≡ false)
-          → getD sets′ k 0 ≡ union (own plan′ k) (beyond plan′ sets′ k)
-      go (inl m) =
-          rewritten-on plan′ t (way p i) (suc i) k (way-falls p i)
-          (omega (arith, own-long p t mine, take-line p i taken)) m
+      go : (has k is ≡ true) ⊎ (has k is ≡ false) → getD sets′ k 0 ≡ union (own q k) (beyond q sets′ k)
+      go (inl m) = rewritten-on q t is (length p) k fall (own-long p t mine) m
       go (inr m) =
-          rewritten-off plan′ t (way p i) k m ∙ own-joined p t mine k h
-          ∙ rw (
-            own-elsewhere p i e k taken e<256 (λ z. clash (has i (way p i)) (line-on-way p i) (rw z at m)),
-            same-successors p plan′ (edit p i e taken e<256 .alike) k,
-          )
-          (ap (union (own p k)) (beyond-same p t sets′ k
-          (λ o n. sym (rewritten-off plan′ t (way p i) (suc k + o) (off-way-stays-off p (w .rules) i k o n m)))))
+          rewritten-off q t is k m ∙ own-joined p t mine k h
+          ∙ rw (owned k m, same-successors p q alike k)
+          (ap (union (own p k)) (beyond-same p t sets′ k (λ o x. sym (rewritten-off q t is (suc k + o) (off k o x m)))))
 
   -- the sets rewritten are the table of the edited plan, and then the rest
-  sets-are : sets′ ≡ table plan′ ++ drop (length p) t
-  unfolding plan′ sets′
-  sets-are =
+  pub rewritten-is : rewritten q t is ≡ table q ++ drop (length p) t
+  rewritten-is =
       sym (take-append-drop (length p) sets′)
       ∙ ap (λ (xs : List ℕ). xs ++ drop (length p) sets′) front
-      ∙ ap (λ (xs : List ℕ). table plan′ ++ xs)
-      (rewritten-rest plan′ t (way p i) (suc i) (length p) (way-falls p i) (take-line p i taken))
+      ∙ ap (λ (xs : List ℕ). table q ++ xs) (rewritten-rest q t is (length p) (length p) fall (omega arith))
     where
-      n : length plan′ ≡ length p
-      n = edit p i e taken e<256 .alike .long
-
-      front : take (length p) sets′ ≡ table plan′
+      front : take (length p) sets′ ≡ table q
       front =
-          rw n at
-          (table-by-joining plan′ sets′ (omega (arith, n, length-rewritten plan′ t (way p i), own-long p t mine))
-          (λ k h. sets-joined k (omega (arith, n))))
+          rw (alike .long) at
+          (table-by-joining q sets′ (omega (arith, alike .long, length-rewritten q t is, own-long p t mine))
+          (λ k h. sets-joined k (omega (arith, alike .long))))
+
+-- the sets that a move leaves
+pub sets-are : (p t : List ℕ) (i e : ℕ) → Rules p → take (length p) t ≡ table p → isTake (at p i) ≡ true → e < 256
+    → rewritten (edited p i e) t (fromLast p i) ≡ table (edited p i e) ++ drop (length p) t
+sets-are p t i e rules mine taken small =
+    rewritten-is p (edited p i e) t mine (edit p i e taken small .alike) (fromLast p i)
+    (from-last-falls p rules i (take-line p i taken)) (from-last-off p rules i)
+    (λ k m. let r = off-take p rules i k m in own-elsewhere p rules i e k taken small (r .0) (r .1))
 
 -- ---- the tests of a move
 
 pub data TestView (D : ℕ) (p : List ℕ) (line device : ℕ) : Option Refusal → Type 0 where
-  passes : isTakeOf p line ≡ true → device < D → fault D (edited p (askedAt line) device) ≡ none
-      → TestView D p line device none
+  passes : isTakeOf p line ≡ true → device < D → TestView D p line device none
   refuses : (r : Refusal) → Refused D p line device r → TestView D p line device (some r)
 
 pub asked-take : (p : List ℕ) (line : ℕ) → isTakeOf p line ≡ true → isTake (at p (askedAt line)) ≡ true
@@ -280,21 +250,17 @@ asked-take p zero h = clash false h refl
 asked-take p (suc i) h = h
 
 -- the tests that are left, by their outcomes
-refusedBy : ℕ → ℕ → Bool → Bool → Option ℕ → Option Refusal → Option Refusal
-refusedBy line device isTake′ noDevice old held =
+refusedBy : ℕ → ℕ → Bool → Bool → Option ℕ → Option Refusal
+refusedBy line device isTake′ noDevice old =
     firstRefusal
     (refuseIf (not isTake′) (NotATake line)
     ∷ refuseIf noDevice (NoSuchDevice device)
     ∷ refuseAt (λ k. StaleTable (lineNumber k)) old
-    ∷ held
     ∷ [])
 
--- D ≤ 256, since the new device is packed to eight bits
-module _ (D : ℕ) (p t : List ℕ) (line device : ℕ) (w : WellFormed D p) (small : D ≤ 256)
-    (mine : take (length p) t ≡ table p) where
+module _ (D : ℕ) (p t : List ℕ) (line device : ℕ) (w : WellFormed D p) (mine : take (length p) t ≡ table p) where
   tests-left : moveRefusal D p t line device
-      ≡ refusedBy line device (isTakeOf p line) (leb D device) (firstOf (stale p t) (way p (askedAt line)))
-      (ofNumber 8 (fault D (edited p (askedAt line) device)))
+      ≡ refusedBy line device (isTakeOf p line) (leb D device) (firstOf (stale p t) (mayChange p (askedAt line)))
   unfolding moveRefusal refusedBy firstRefusal tooShort refuseIf
   tests-left = rw (no-fault-exactly D p .1 w, le-ltb (length t) (length p) (own-long p t mine))
 
@@ -306,22 +272,12 @@ module _ (D : ℕ) (p t : List ℕ) (line device : ℕ) (w : WellFormed D p) (sm
       i : ℕ
       i = askedAt line
 
-      last : isTakeOf p line ≡ true → device < D → (x : Option Refusal) → fault D (edited p i device) ≡ x
-          → TestView D p line device (refusedBy line device true false none x)
-      last a b none h = passes a b h
-      last a b (some r) h =
-          refuses r (takeOfHeld r a b (fault-is-eight D p i device w (asked-take p line a) b small r h) h)
-
       go : (x y : Bool) → isTakeOf p line ≡ x → leb D device ≡ y
-          → TestView D p line device
-          (refusedBy line device x y (firstOf (stale p t) (way p i)) (ofNumber 8 (fault D (edited p i device))))
+          → TestView D p line device (refusedBy line device x y (firstOf (stale p t) (mayChange p i)))
       go false y a b = refuses (NotATake line) (notATake a)
       go true true a b = refuses (NoSuchDevice device) (noSuchDevice a (leb-true D device b))
       go true false a b =
-          let v = asked-take p line a in
-          let lt = leb-false D device b in
-          rw (none-stale p t mine i (take-line p i v), eight-is-all D p i device w v lt small)
-          (last a lt (fault D (edited p i device)) refl)
+          rw (none-stale p t mine i (take-line p i (asked-take p line a))) (passes a (leb-false D device b))
 
 -- ---- the tests of any move
 
@@ -331,8 +287,7 @@ tests D p t line device =
     ∷ tooShort (length t) (length p)
     ∷ refuseIf (not (isTakeOf p line)) (NotATake line)
     ∷ refuseIf (leb D device) (NoSuchDevice device)
-    ∷ refuseAt (λ k. StaleTable (lineNumber k)) (firstOf (stale p t) (way p (askedAt line)))
-    ∷ ofNumber 8 (fault D (edited p (askedAt line) device))
+    ∷ refuseAt (λ k. StaleTable (lineNumber k)) (firstOf (stale p t) (mayChange p (askedAt line)))
     ∷ []
 
 -- a refusal, if there is one, is neither 9 nor 10
@@ -357,11 +312,6 @@ fault-no-verdict D p = go (fault D p) (fault-view D p)
     go none v = tt
     go (some r) (broken s h) = let n = broken-number D p s h in (λ e. omega arith, λ e. omega arith)
 
-eight-no-verdict : (x : Option Refusal) → NoVerdict x → NoVerdict (ofNumber 8 x)
-unfolding ofNumber
-eight-no-verdict none v = tt
-eight-no-verdict (some r) v = if-no-verdict (eqb (numberOf r) 8) r v
-
 module _ (D : ℕ) (p t : List ℕ) (line device : ℕ) where
   -- 9 and 10 are verdicts, and refuse no move
   pub no-verdict-refuses : (r : Refusal) → moveRefusal D p t line device ≡ some r
@@ -375,21 +325,17 @@ module _ (D : ℕ) (p t : List ℕ) (line device : ℕ) where
       (if-no-verdict (ltb (length t) (length p)) (ListTooShort (length p)) (λ e. omega arith, λ e. omega arith))
       (also (if-no-verdict (not (isTakeOf p line)) (NotATake line) (λ e. omega arith, λ e. omega arith))
       (also (if-no-verdict (leb D device) (NoSuchDevice device) (λ e. omega arith, λ e. omega arith))
-      (also (stale-no-verdict (firstOf (stale p t) (way p (askedAt line))))
-      (also
-      (eight-no-verdict (fault D (edited p (askedAt line) device))
-      (fault-no-verdict D (edited p (askedAt line) device)))
-      all-tests)))))))
+      (also (stale-no-verdict (firstOf (stale p t) (mayChange p (askedAt line)))) all-tests))))))
 
-  -- where none refuses: the plan has no fault, the line is a take, no line on the way is stale
-  tests-passed : moveRefusal D p t line device ≡ none
-      → (fault D p ≡ none) × (isTakeOf p line ≡ true) × (firstOf (stale p t) (way p (askedAt line)) ≡ none)
+  -- where none refuses: the plan has no fault, the line is a take, no line that may change is stale
+  pub tests-passed : moveRefusal D p t line device ≡ none
+      → (fault D p ≡ none) × (isTakeOf p line ≡ true) × (firstOf (stale p t) (mayChange p (askedAt line)) ≡ none)
   unfolding moveRefusal
   tests-passed h =
       let e = none-refuses (tests D p t line device) h in (
         e 0,
         not-refused (isTakeOf p line) (NotATake line) (e 2),
-        not-found (λ k. StaleTable (lineNumber k)) (firstOf (stale p t) (way p (askedAt line))) (e 4),
+        not-found (λ k. StaleTable (lineNumber k)) (firstOf (stale p t) (mayChange p (askedAt line))) (e 4),
       )
 
 -- ---- how many places changed
@@ -451,24 +397,23 @@ changed-is p t u old new rest x y e h =
 abbrev pub tested : List ℕ → List ℕ → ℕ → ℕ → Option Refusal → Outcome MoveAnswer Lent
 tested p t i device x =
     let plan : List ℕ = edited p i device in
-    let sets : List ℕ = rewritten plan t (way p i) in
+    let sets : List ℕ = rewritten plan t (fromLast p i) in
     outcome MoveAnswer.Refused x (MoveAnswer.Changed (changed p t sets))
     (record { plan = plan; sets = sets }) (record { plan = p; sets = t })
 
 module _ (D : ℕ) (p t : List ℕ) (line device : ℕ) (w : WellFormed D p) (small : D ≤ 256)
     (mine : take (length p) t ≡ table p) where
-  accepts : isTakeOf p line ≡ true → device < D → fault D (edited p (askedAt line) device) ≡ none
-      → Accepted D p t line device (tested p t (askedAt line) device none)
-  unfolding outcome plan′ sets′
-  accepts a b f = record {
+  accepts : isTakeOf p line ≡ true → device < D → Accepted D p t line device (tested p t (askedAt line) device none)
+  unfolding outcome
+  accepts a b = record {
     plan = refl;
     long = n;
-    noFault = f;
+    noFault = no-fault-exactly D q .1 (edited-well-formed D p i device w taken b small);
     afresh = new;
-    room = length-rewritten q t (way p i);
-    offWay = rewritten-off q t (way p i);
-    count = ap MoveAnswer.Changed (changed-is p t (rewritten q t (way p i)) (table p) (table q) (drop (length p) t)
-        (whole p t mine) new (length-table p) (length-table q ∙ n));
+    room = length-rewritten q t (fromLast p i);
+    elsewhere = λ k m. rewritten-off q t (fromLast p i) k (from-last-same p (w .rules) i k ∙ m);
+    count = ap MoveAnswer.Changed (changed-is p t (rewritten q t (fromLast p i)) (table p) (table q)
+        (drop (length p) t) (whole p t mine) new (length-table p) (length-table q ∙ n));
   }
     where
       i : ℕ
@@ -477,30 +422,33 @@ module _ (D : ℕ) (p t : List ℕ) (line device : ℕ) (w : WellFormed D p) (sm
       q : List ℕ
       q = edited p i device
 
-      n : length q ≡ length p
-      n = edit p i device (asked-take p line a) (omega arith) .alike .long
+      taken : isTake (at p i) ≡ true
+      taken = asked-take p line a
 
-      new : rewritten q t (way p i) ≡ table q ++ drop (length p) t
-      new = sets-are D p t i device w mine (asked-take p line a) (omega arith)
+      n : length q ≡ length p
+      n = edit p i device taken (omega arith) .alike .long
+
+      new : rewritten q t (fromLast p i) ≡ table q ++ drop (length p) t
+      new = sets-are p t i device (w .rules) mine taken (omega arith)
 
   -- from a plan without a fault and its own table: a move that no test refuses
   pub move-accepted : moveRefusal D p t line device ≡ none → Accepted D p t line device (moving D p t line device)
   unfolding moving
-  move-accepted h = go (moveRefusal D p t line device) h (test-view D p t line device w small mine)
+  move-accepted h = go (moveRefusal D p t line device) h (test-view D p t line device w mine)
     where
       go : (x : Option Refusal) → x ≡ none → TestView D p line device x
           → Accepted D p t line device (tested p t (askedAt line) device x)
-      go none e (passes a b f) = accepts a b f
+      go none e (passes a b) = accepts a b
       go (some r) e v = absurd (Option·none-ne-some r (sym e))
 
   -- and any move
   pub move-step : Step D p t line device (moving D p t line device)
   unfolding moving outcome
-  move-step = go (moveRefusal D p t line device) (test-view D p t line device w small mine)
+  move-step = go (moveRefusal D p t line device) (test-view D p t line device w mine)
     where
       go : (x : Option Refusal) → TestView D p line device x
           → Step D p t line device (tested p t (askedAt line) device x)
-      go none (passes a b f) = accepted (accepts a b f)
+      go none (passes a b) = accepted (accepts a b)
       go (some r) (refuses x y) =
           refused (record { refusal = x; reason = y; answer = refl; plan = refl; sets = refl })
 
@@ -535,11 +483,13 @@ module _ (D : ℕ) (p t : List ℕ) (line device : ℕ) (present : deviceAt p (a
   unfolding moving outcome
   same-device-stays h =
       let v = tests-passed D p t line device h in
-      let f = none-exactly (stale p t) (way p i) .0 (v .2) in
+      let rules = no-fault-exactly D p .0 (v .0) .rules in
+      let f = none-exactly (stale p t) (mayChange p i) .0 (v .2) in
       rw (
         h,
-        same-plan (no-fault-exactly D p .0 (v .0) .rules) (v .1),
-        rewritten-same p t (way p i) f,
+        same-plan rules (v .1),
+        rewritten-same p t (fromLast p i)
+            (λ k m. f k (sym (from-last-same p rules i k) ∙ m)),
         none-changed p t,
       )
     where
@@ -547,10 +497,10 @@ module _ (D : ℕ) (p t : List ℕ) (line device : ℕ) (present : deviceAt p (a
       i = askedAt line
 
   -- and none does, from a plan without a fault and its own table, where the line is a take
-  pub same-device-passes : WellFormed D p → D ≤ 256 → take (length p) t ≡ table p → isTakeOf p line ≡ true
+  pub same-device-passes : WellFormed D p → take (length p) t ≡ table p → isTakeOf p line ≡ true
       → moveRefusal D p t line device ≡ none
   unfolding deviceAt
-  same-device-passes w small mine a = go (moveRefusal D p t line device) (test-view D p t line device w small mine)
+  same-device-passes w mine a = go (moveRefusal D p t line device) (test-view D p t line device w mine)
     where
       taken : isTake (at p (askedAt line)) ≡ true
       taken = asked-take p line a
@@ -565,9 +515,6 @@ module _ (D : ℕ) (p t : List ℕ) (line device : ℕ) (present : deviceAt p (a
       go none v = refl
       go (some r) (refuses s (notATake b)) = clash (isTakeOf p line) a b
       go (some r) (refuses s (noSuchDevice b h)) = absurd (omega (arith, onBoard))
-      go (some r) (refuses s (takeOfHeld q b c n h)) =
-          absurd (Option·none-ne-some q
-          (sym (no-fault-exactly D p .1 w) ∙ ap (fault D) (sym (same-plan (w .rules) a)) ∙ h))
 
 -- ---- a list of moves
 

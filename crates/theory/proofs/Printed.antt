@@ -30,7 +30,7 @@ use Rattle.theory.proofs.Tests.{or-split, or-left, or-right, le-or-lt}
 use Rattle.theory.proofs.Lists.{has-head, those-length, left, left-le, left-lt, left-zero, left-every}
 use Rattle.theory.proofs.Lists.{among}
 use Rattle.theory.proofs.Answers.{all-tests, also, first-each}
-use Rattle.theory.specs.WellFormed.{BrokenAt, tooMany, malformed, outOfSequence, badStart, badGive, takeOfHeld}
+use Rattle.theory.specs.WellFormed.{BrokenAt, tooMany, malformed, outOfSequence, badStart, badGive}
 use Rattle.theory.specs.WellFormed.{Broken, atLine, noLines, noStart}
 use Rattle.theory.proofs.WellFormed.{FaultView, broken, fault-view}
 use Rattle.theory.proofs.WellFormed.{broken-number, no-fault-exactly}
@@ -52,7 +52,7 @@ pub refusal-length : (r : Refusal) → numberOf r < 100 → placeOf r < 10000 �
 unfolding printedRefusal
 refusal-length r n p = rw three-fields (omega (arith, digits-two (numberOf r) n, digits-four (placeOf r) p))
 
--- the faults of a plan are 2 to 8, at a line of at most 1,025
+-- the faults of a plan are 2 to 7, at a line of at most 1,025
 broken-place : (D : ℕ) (p : List ℕ) (r : Refusal) → Broken D p r → placeOf r ≤ suc maxLines
 unfolding lineNumber headD
 broken-place D p r (atLine k s b f h) = go s h
@@ -63,7 +63,6 @@ broken-place D p r (atLine k s b f h) = go s h
     go s (outOfSequence h a b) = omega arith
     go s (badStart h a b c d) = omega arith
     go s (badGive h a b c d) = omega arith
-    go s (takeOfHeld h a b c d) = omega arith
 broken-place D p r (noLines i f b e low) = omega (arith, f i b .few)
 broken-place D p r (noStart j f g a b e low) = first (firstLine j p) (λ k h. first-is j p k h .0)
   where
@@ -71,7 +70,7 @@ broken-place D p r (noStart j f g a b e low) = first (firstLine j p) (λ k h. fi
     first [] h = omega arith
     first (k ∷ ks) h = omega (arith, f k (h k (has-head k ks)) .few)
 
-pub broken-bounds : (D : ℕ) (p : List ℕ) (r : Refusal) → Broken D p r → (numberOf r ≤ 8) × (placeOf r ≤ suc maxLines)
+pub broken-bounds : (D : ℕ) (p : List ℕ) (r : Refusal) → Broken D p r → (numberOf r ≤ 7) × (placeOf r ≤ suc maxLines)
 broken-bounds D p r b = (broken-number D p r b, broken-place D p r b)
 
 -- a refusal, if there is one, is one of the first ten, at a place of at most 1,025

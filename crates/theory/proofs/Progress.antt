@@ -11,10 +11,10 @@ use mathlib.Core.Path.{_≡_, refl, sym, _∙_}
 use native.Mathlib.Omega.{arith}
 use lib.Dec.{eqb}
 use lib.ListN.{length, getD}
-use borrow.Author.Tests.{eqb-true, eq-eqb, eqb-false, not-true, not-false}
+use borrow.Author.Tests.{eq-eqb, eqb-false, not-true, not-false}
 use Rattle.model.specs.Lists.{any, has, those, firstOf, leastBy, orElse, positions}
 use Rattle.model.specs.Sets.{member}
-use Rattle.model.specs.Line.{operand, isTake, isGive, at}
+use Rattle.model.specs.Line.{isTake, isGive, at}
 use Rattle.model.specs.Mate.{takesAt, deviceAt, takes, mate, isNone, lastingAt, lasting}
 use Rattle.model.specs.WellFormed.{WellFormed}
 use Rattle.model.specs.Legal.{precedes}
@@ -28,12 +28,11 @@ use Rattle.theory.proofs.Lists.{those-has}
 use Rattle.theory.proofs.Lists.{any-found, Answer, first-answer, Least, least-answer}
 use Rattle.theory.proofs.Lists.{left, left-lt, left-none, among}
 use Rattle.theory.specs.Claims.{Reach, here, step}
-use Rattle.theory.proofs.Claims.{reached-claimed, beyond-in}
+use Rattle.theory.proofs.Claims.{reached-claimed, beyond-in, takes-parts, taking, takes-line}
 use Rattle.theory.proofs.Successors.{precedes-reaches}
 use Rattle.theory.proofs.OnlyIf.{row-in}
 use Rattle.theory.proofs.Places.{lasting-parts}
 use Rattle.theory.proofs.Line.{device-line}
-use Rattle.theory.proofs.WellFormed.{take-line}
 
 -- ---- undone and standing lines
 
@@ -108,16 +107,15 @@ lasting-own p i h =
 
 -- a take has one device
 pub device-is : (p : List ℕ) (i d : ℕ) → takes p i d ≡ true → deviceAt p i ≡ d
-unfolding takes
-device-is p i d t = eqb-true (deviceAt p i) d (and-split (takesAt p i) (eqb (deviceAt p i) d) t .1)
+device-is p i d t = takes-parts p i d t .1
 
 -- which the board has
 pub device-below : (D : ℕ) (p : List ℕ) → WellFormed D p → (i d : ℕ) → takes p i d ≡ true → d < D
-unfolding takes takesAt deviceAt
+unfolding deviceAt
 device-below D p w i d t =
-    let s = and-split (isTake (at p i)) (eqb (operand (at p i)) d) t in
-    rw (eqb-true (operand (at p i)) d (s .1)) at
-    (device-line D (at p i) (w .lines i (take-line p i (s .0))) (or-left (isTake (at p i)) (isGive (at p i)) (s .0)))
+    rw (device-is p i d t) at
+    (device-line D (at p i) (w .lines i (takes-line p i d t))
+    (or-left (isTake (at p i)) (isGive (at p i)) (taking p i d t)))
 
 -- a take reached from a line is its own, or claimed past it
 past-reach : (p : List ℕ) (i k d : ℕ) → Reach p i k → takes p k d ≡ true

@@ -1,6 +1,6 @@
 -- What one step of an order changes (01, "Legal orders"): which devices are held after it. At most one take of a device
--- is done and not given back, for a take may follow only where its device is not held. So a take makes its device held,
--- a give makes it free, and every other device stays as it was.
+-- is done and not given back, for a take may follow only where its device is not held. So an outermost take makes its
+-- device held, an outermost give makes it free, and every other device stays as it was.
 use Prim.Native.Nat.{ℕ, _<_}
 use mathlib.Core.Bool.{Bool, true, false, cond, not, _&&_, _||_}
 use mathlib.Core.List.{List, [], _∷_, _++_}
@@ -12,17 +12,19 @@ use lib.Dec.{eqb}
 use lib.ListN.{length}
 use borrow.Author.Tests.{eqb-true, eq-eqb, not-true}
 use Rattle.model.specs.Lists.{has}
-use Rattle.model.specs.Line.{job, isTake, isGive, operand, at}
+use Rattle.model.specs.Line.{job, isGive, operand, at}
 use Rattle.model.specs.Mate.{takesAt, deviceAt, takes, mate}
 use Rattle.model.specs.WellFormed.{Rules}
 use Rattle.model.specs.Legal.{givenBack, held, MayFollow}
+use Rattle.theory.specs.Outer.{freesAt}
 use Rattle.theory.proofs.Tests.{clash, falsely, tests-agree, or-left, or-right, and-split, and-both}
 use Rattle.theory.proofs.Lists.{has-none, any-found, any-at}
 use Rattle.theory.proofs.Line.{take-no-give}
 use Rattle.theory.proofs.Successors.{earlier-precedes}
-use Rattle.theory.proofs.Mate.{pair, mate-names-device, give-has-take}
-use Rattle.theory.proofs.Edited.{open-are-takes}
-use Rattle.theory.proofs.Turns.{taking, given-parts, given-back, still-given}
+use Rattle.theory.proofs.Claims.{takes-parts, taking}
+use Rattle.theory.proofs.Mate.{pair, mate-names-device}
+use Rattle.theory.proofs.Outer.{outer-together, frees-gives, freed-take}
+use Rattle.theory.proofs.Turns.{given-parts, given-back, still-given}
 use Rattle.theory.proofs.LineByLine.{more-old, more-new, more-only}
 
 -- line k took device d and did not give it back
@@ -51,9 +53,9 @@ HeldOnce p done = (k t d : ℕ) → Holds p done k d → Holds p done t d → k 
 pub held-once-first : (p : List ℕ) → HeldOnce p []
 held-once-first p k t d h g = has-none k (h .isDone)
 
--- the line at x takes or gives device d
+-- the line at x is an outermost take or give of device d
 unfoldable pub handles : List ℕ → ℕ → ℕ → Bool
-handles p x d = (isTake (at p x) || isGive (at p x)) && eqb (operand (at p x)) d
+handles p x d = (takesAt p x || freesAt p x) && eqb (operand (at p x)) d
 
 module _ (p : List ℕ) (rules : Rules p) (done : List ℕ) (x : ℕ) (may : MayFollow p done x) where
   abbrev next : List ℕ
@@ -93,20 +95,21 @@ module _ (p : List ℕ) (rules : Rules p) (done : List ℕ) (x : ℕ) (may : May
       go (inr a) (inl b) = free t b (rw a at (h .took))
 
   handles-take : (d : ℕ) → takes p x d ≡ true → handles p x d ≡ true
-  unfolding handles takes takesAt deviceAt
+  unfolding handles deviceAt
   handles-take d t =
-      let s = and-split (isTake (at p x)) (eqb (operand (at p x)) d) t in
-      and-both (isTake (at p x) || isGive (at p x)) (eqb (operand (at p x)) d)
-      (or-left (isTake (at p x)) (isGive (at p x)) (s .0)) (s .1)
+      let s = takes-parts p x d t in
+      and-both (takesAt p x || freesAt p x) (eqb (operand (at p x)) d) (or-left (takesAt p x) (freesAt p x) (s .0))
+      (eq-eqb (operand (at p x)) d (s .1))
 
   -- a take that line x gives back is of its device
   handles-give : (k d : ℕ) → takes p k d ≡ true → mate p k ≡ some x → handles p x d ≡ true
-  unfolding handles takes takesAt deviceAt
+  unfolding handles deviceAt
   handles-give k d t e =
-      let s = and-split (isTake (at p k)) (eqb (operand (at p k)) d) t in
-      and-both (isTake (at p x) || isGive (at p x)) (eqb (operand (at p x)) d)
-      (or-right (isTake (at p x)) (isGive (at p x)) (pair p k x e .gives))
-      (eq-eqb (operand (at p x)) d (mate-names-device p rules k x (s .0) e ∙ eqb-true (operand (at p k)) d (s .1)))
+      let s = takes-parts p k d t in
+      let u = taking p k d t in
+      and-both (takesAt p x || freesAt p x) (eqb (operand (at p x)) d)
+      (or-right (takesAt p x) (freesAt p x) (outer-together p rules k x u e ∙ s .0))
+      (eq-eqb (operand (at p x)) d (mate-names-device p rules k x u e ∙ s .1))
 
   -- a device that line x does not handle is held as it was
   held-same : (d : ℕ) → handles p x d ≡ false → held p next d ≡ held p done d
@@ -149,23 +152,22 @@ module _ (p : List ℕ) (rules : Rules p) (done : List ℕ) (x : ℕ) (may : May
           go m l lt e (inl h) = clash (has m done) h (later m l lt e)
           go m l lt e (inr h) = omega arith
 
-  -- the take that a give gives back held its device
-  held-given : isGive (at p x) ≡ true → (t : ℕ) × Holds p done t (operand (at p x)) × (mate p t ≡ some x)
-  unfolding takes takesAt deviceAt
+  -- the take that an outermost give gives back held its device
+  held-given : freesAt p x ≡ true → (t : ℕ) × Holds p done t (operand (at p x)) × (mate p t ≡ some x)
+  unfolding takes deviceAt
   held-given g =
-      let r = give-has-take p rules x g in
+      let r = freed-take p rules x g in
       let t = r .0 in
-      let isT = open-are-takes p (job (at p x)) x 0 t (r .1) in
-      let q = pair p t x (r .2) in
+      let q = pair p t x (r .3) in
       let before = earlier-precedes p t x (q .below) (sym (q .sameJob x (omega (arith, q .below)) (omega arith))) in (
         t,
         record {
           isDone = may .after t (omega (arith, q .below, may .line)) before;
-          took = and-both (isTake (at p t)) (eqb (operand (at p t)) (operand (at p x))) isT
-              (eq-eqb (operand (at p t)) (operand (at p x)) (sym (mate-names-device p rules t x isT (r .2))));
-          kept = falsely (givenBack p done t) (still t (r .2));
+          took = and-both (takesAt p t) (eqb (operand (at p t)) (operand (at p x))) (r .1)
+              (eq-eqb (operand (at p t)) (operand (at p x)) (sym (mate-names-device p rules t x (r .2) (r .3))));
+          kept = falsely (givenBack p done t) (still t (r .3));
         },
-        r .2,
+        r .3,
       )
     where
       still : (t : ℕ) → mate p t ≡ some x → givenBack p done t ≡ true → ⊥
@@ -174,8 +176,8 @@ module _ (p : List ℕ) (rules : Rules p) (done : List ℕ) (x : ℕ) (may : May
           let z = Option·some-injective (s .0) x (sym (s .1) ∙ e) in
           clash (has x done) (rw z at (s .2)) (may .once)
 
-  -- a give makes its device free
-  held-freed : HeldOnce p done → isGive (at p x) ≡ true → held p next (operand (at p x)) ≡ false
+  -- an outermost give makes its device free
+  held-freed : HeldOnce p done → freesAt p x ≡ true → held p next (operand (at p x)) ≡ false
   held-freed one g = falsely (held p next (operand (at p x))) no
     where
       no : held p next (operand (at p x)) ≡ true → ⊥
@@ -185,24 +187,24 @@ module _ (p : List ℕ) (rules : Rules p) (done : List ℕ) (x : ℕ) (may : May
         where
           go : (k : ℕ) → Holds p next k (operand (at p x)) → Holds p done k (operand (at p x)) ⊎ (k ≡ x) → ⊥
           go k b (inr q) =
-              clash (isGive (at p x)) g
+              clash (isGive (at p x)) (frees-gives p x g)
               (take-no-give (at p x) (taking p x (operand (at p x)) (rw q at (b .took))))
           go k b (inl a) =
               let t = held-given g in
               let z = one k (t .0) (operand (at p x)) a (t .1) in
               clash (givenBack p next k) (given-back p next k x (rw z (t .2)) (more-new x done)) (b .kept)
 
-  -- The devices held after the step: what line x takes or gives is turned.
+  -- The devices held after the step: what line x takes or gives as an outermost one is turned.
   pub held-step : HeldOnce p done
       → ((i : ℕ) → i < length p → x < i → job (at p x) ≡ job (at p i) → has i done ≡ false) → (d : ℕ)
       → held p next d ≡ cond (handles p x d) (not (held p done d)) (held p done d)
-  unfolding handles takes takesAt deviceAt
-  held-step one later d = go (isTake (at p x)) (isGive (at p x)) (eqb (operand (at p x)) d) refl refl refl
+  unfolding handles takes deviceAt
+  held-step one later d = go (takesAt p x) (freesAt p x) (eqb (operand (at p x)) d) refl refl refl
     where
-      go : (a b c : Bool) → isTake (at p x) ≡ a → isGive (at p x) ≡ b → eqb (operand (at p x)) d ≡ c
+      go : (a b c : Bool) → takesAt p x ≡ a → freesAt p x ≡ b → eqb (operand (at p x)) d ≡ c
           → held p next d ≡ cond ((a || b) && c) (not (held p done d)) (held p done d)
       go true b true e f q =
-          let t = and-both (isTake (at p x)) (eqb (operand (at p x)) d) e q in
+          let t = and-both (takesAt p x) (eqb (operand (at p x)) d) e q in
           held-taken later d t ∙ sym (ap not (may .free d t))
       go false true true e f q =
           let z = eqb-true (operand (at p x)) d q in

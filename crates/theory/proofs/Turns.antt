@@ -13,19 +13,16 @@ use lib.ListN.{length}
 use borrow.Author.Tests.{eqb-true, eqb-false}
 use Rattle.model.specs.Lists.{upFrom, has}
 use Rattle.model.specs.Line.{job, isTake, at}
-use Rattle.model.specs.Mate.{takesAt, deviceAt, takes, mate}
+use Rattle.model.specs.Mate.{takesAt, takes, mate}
 use Rattle.model.specs.WellFormed.{Rules}
 use Rattle.model.specs.Legal.{precedes, doneAt, givenBack, held, MayFollow, Follow}
 use Rattle.model.specs.Handed.{lastOf}
-use Rattle.theory.proofs.Tests.{clash, test, and-split, and-left, and-right, le-or-lt}
+use Rattle.theory.proofs.Tests.{clash, test, and-left, and-right, le-or-lt}
 use Rattle.theory.proofs.Lists.{has-none, has-head, has-cases, has-left, has-right, has-append, has-upFrom}
 use Rattle.theory.proofs.Lists.{upFrom-has, none-any}
+use Rattle.theory.proofs.Claims.{taking}
 use Rattle.theory.proofs.Successors.{Why, sameJob, starter, why, earlier-precedes, start-precedes}
-use Rattle.theory.proofs.Mate.{pair, taken-again}
-
-pub taking : (p : List ℕ) (k d : ℕ) → takes p k d ≡ true → isTake (at p k) ≡ true
-unfolding takes
-taking p k d t = and-split (isTake (at p k)) (eqb (deviceAt p k) d) t .0
+use Rattle.theory.proofs.Mate.{pair, given-between}
 
 -- ---- given back
 
@@ -157,7 +154,7 @@ module _ (p : List ℕ) (rules : Rules p) (done : List ℕ) (inv : Between p don
           go (inl e) = before (inv .given k d e u)
           go (inr e) =
               let same = g .sameJob k (e .0) (omega (arith, e .1)) ∙ sym (g .sameJob x ix xm) in
-              let r = taken-again p rules k x d u t same (e .1) in
+              let r = given-between p rules k x d u t same (e .1) in
               given-back p now k (r .0) (r .1)
               (n .new (r .0) (omega (arith, e .0, pair p k (r .0) (r .1) .below)) (r .2))
 

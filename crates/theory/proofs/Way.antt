@@ -1,26 +1,32 @@
 -- The way of a line: it begins with the line and falls to line 1, and with a line it has all that come before that one.
--- So a line off the way has no successor on it, and a move, which rewrites the sets on the way, leaves the rest right.
-use Prim.Native.Nat.{ℕ, zero, suc, _+_, _<_, _≤_}
+-- So a line off the way has no successor on it. The lines that a move may change are the way of the moved take and the
+-- lines under it; together they are the way of the last of these, so that what holds of a way holds of them, and a
+-- move, which rewrites their sets from the last one back, leaves the rest right.
+use Prim.Native.Nat.{ℕ, zero, suc, _+_, _-_, _<_, _≤_}
 use mathlib.Core.Bool.{Bool, true, false, _||_}
-use mathlib.Core.List.{List, [], _∷_}
-use mathlib.Core.Logic.{_⊎_, inl, inr}
-use mathlib.Core.Path.{_≡_, refl, sym, _∙_}
+use mathlib.Core.List.{List, [], _∷_, _++_, append-nil}
+use mathlib.Core.Logic.{_⊎_, inl, inr, _≢_}
+use mathlib.Core.Option.{Option, none, some, Option·getD}
+use mathlib.Core.Path.{_≡_, refl, sym, _∙_, ap}
 use native.Mathlib.Omega.{arith}
 use lib.Dec.{eqb}
 use lib.ListN.{length, drop}
 use borrow.Author.Tests.{eqb-true, eq-eqb, eqb-false}
-use Rattle.model.specs.Lists.{has}
+use Rattle.model.specs.Lists.{upFrom, has, those, lastOr}
 use Rattle.model.specs.Line.{job, starts, at}
 use Rattle.model.specs.WellFormed.{Rules}
 use Rattle.model.specs.Legal.{precedes}
 use Rattle.model.specs.Claims.{successors}
-use Rattle.model.specs.Move.{wayIn, way}
+use Rattle.model.specs.Mate.{mate}
+use Rattle.model.specs.Move.{wayIn, way, until, under, mayChange, fromLast}
 use Rattle.theory.specs.Move.{Falls, ends, falls}
 use Rattle.theory.proofs.Tests.{clash, test, or-split, or-right, le-or-lt}
-use Rattle.theory.proofs.Lists.{has-none, has-head, has-tail, has-cases}
+use Rattle.theory.proofs.Lists.{has-none, has-head, has-tail, has-cases, has-left, has-right, has-append}
+use Rattle.theory.proofs.Lists.{has-upFrom, upFrom-has, has-those, those-has}
 use Rattle.theory.proofs.WellFormed.{start-line, any-line}
 use Rattle.theory.proofs.Successors.{Why, sameJob, starter, why, successor-after, jobs-grow}
 use Rattle.theory.proofs.Successors.{earlier-precedes, start-precedes, precedes-reaches}
+use Rattle.theory.proofs.Mate.{pair}
 
 pub falls-below : (n k : ℕ) (xs : List ℕ) → Falls n xs → has k xs ≡ true → k < n
 falls-below n k xs (ends m) h = has-none k h
@@ -30,7 +36,7 @@ falls-below n k xs (falls m x ys lt f) h = go (has-cases k x ys h) (falls-below 
     go (inl e) ih = omega arith
     go (inr e) ih = omega (arith, ih e)
 
-falls-further : (n m : ℕ) (xs : List ℕ) → n ≤ m → Falls n xs → Falls m xs
+pub falls-further : (n m : ℕ) (xs : List ℕ) → n ≤ m → Falls n xs → Falls m xs
 falls-further n m xs h (ends k) = ends m
 falls-further n m xs h (falls k x ys lt f) = falls m x ys (omega arith) f
 
@@ -66,6 +72,10 @@ way-falls p i = wayIn-falls p (job (at p i)) (suc i)
 pub way-first : (p : List ℕ) (i : ℕ) → way p i ≡ i ∷ wayIn p (job (at p i)) i
 unfolding way onto
 way-first p i = way-on p (job (at p i)) i (rw (eq-eqb (job (at p i)) (job (at p i)) refl))
+
+pub way-is : (p : List ℕ) (j i : ℕ) → job (at p i) ≡ j → way p i ≡ wayIn p j (suc i)
+unfolding way
+way-is p j i e = ap (λ (j : ℕ). wayIn p j (suc i)) e
 
 pub line-on-way : (p : List ℕ) (i : ℕ) → has i (way p i) ≡ true
 line-on-way p i = rw (way-first p i) (has-head i (wayIn p (job (at p i)) i))
@@ -181,3 +191,113 @@ module _ (p : List ℕ) (rules : Rules p) where
   -- The way goes back to line 1.
   pub way-to-first : (i : ℕ) → i < length p → has 0 (way p i) ≡ true
   way-to-first i h = down i i i (omega arith) h (line-on-way p i)
+
+-- ---- the lines under a take
+
+module _ (p : List ℕ) (i : ℕ) where
+  pub has-under : (k : ℕ) → has k (under p i) ≡ true → (i < k) × (k < until p i) × (job (at p k) ≡ job (at p i))
+  unfolding under
+  has-under k h =
+      let r = has-those (λ k. eqb (job (at p k)) (job (at p i))) (upFrom (suc i) (until p i - suc i)) k h in
+      let s = has-upFrom (suc i) (until p i - suc i) k (r .0) in
+      (s .0, omega (arith, s .0, s .1), eqb-true (job (at p k)) (job (at p i)) (r .1))
+
+  pub under-has : (k : ℕ) → i < k → k < until p i → job (at p k) ≡ job (at p i) → has k (under p i) ≡ true
+  unfolding under
+  under-has k a b e =
+      those-has (λ k. eqb (job (at p k)) (job (at p i))) (upFrom (suc i) (until p i - suc i)) k
+      (upFrom-has (suc i) (until p i - suc i) k a (omega arith)) (eq-eqb (job (at p k)) (job (at p i)) e)
+
+  -- what a take holds ends in the plan, or with it
+  pub until-in-plan : until p i ≤ length p
+  unfolding until
+  until-in-plan = go (mate p i) refl
+    where
+      go : (o : Option ℕ) → mate p i ≡ o → Option·getD o (length p) ≤ length p
+      go none e = omega arith
+      go (some m) e = omega (arith, pair p i m e .inPlan)
+
+  pub may-change-line : i < length p → (k : ℕ) → has k (mayChange p i) ≡ true → k < length p
+  unfolding mayChange
+  may-change-line h k m = go (has-append k (way p i) (under p i) m)
+    where
+      go : (has k (way p i) ≡ true) ⊎ (has k (under p i) ≡ true) → k < length p
+      go (inl a) = omega (arith, falls-below (suc i) k (way p i) (way-falls p i) a)
+      go (inr a) = omega (arith, has-under k a .1, until-in-plan)
+
+-- where in a list a number stands makes no difference
+has-moved : (k a : ℕ) (xs ys : List ℕ) → has k (xs ++ (a ∷ ys)) ≡ has k (a ∷ xs ++ ys)
+unfolding has
+has-moved k a [] ys = refl
+has-moved k a (x ∷ xs) ys = rw (has-moved k a xs ys) (swap (eqb k x) (eqb k a))
+  where
+    swap : (b c : Bool) → (b || (c || has k (xs ++ ys))) ≡ (c || (b || has k (xs ++ ys)))
+    swap true true = refl
+    swap true false = refl
+    swap false c = refl
+
+module _ (p : List ℕ) (rules : Rules p) (i : ℕ) where
+  -- after line i, the walk back for its job skips the lines of others
+  skips : (a : ℕ) → i < a → eqb (job (at p a)) (job (at p i)) ≡ false
+      → wayIn p (job (at p i)) (suc a) ≡ wayIn p (job (at p i)) a
+  unfolding onto
+  skips a lt q =
+      way-past p (job (at p i)) a
+      (rw (q, no-start-between p rules (job (at p i)) i a (rw (eq-eqb (job (at p i)) (job (at p i)) refl)) lt))
+
+  -- the way of the last line of the job among n from line a on, or of line x before them, goes through all of them
+  through : (n a x k : ℕ) → i < a → way p x ≡ wayIn p (job (at p i)) a
+      → has k (way p (lastOr x (those (λ k. eqb (job (at p k)) (job (at p i))) (upFrom a n))))
+      ≡ has k (way p x ++ those (λ k. eqb (job (at p k)) (job (at p i))) (upFrom a n))
+  unfolding those upFrom lastOr
+  through zero a x k lt e = rw (append-nil (way p x))
+  through (suc n) a x k lt e =
+      go (eqb (job (at p a)) (job (at p i))) refl (λ x. through n (suc a) x k (omega arith))
+    where
+      rest : List ℕ
+      rest = those (λ k. eqb (job (at p k)) (job (at p i))) (upFrom (suc a) n)
+
+      go : (b : Bool) → eqb (job (at p a)) (job (at p i)) ≡ b
+          → ((x : ℕ) → way p x ≡ wayIn p (job (at p i)) (suc a)
+          → has k (way p (lastOr x rest)) ≡ has k (way p x ++ rest))
+          → has k (way p (lastOr x (elim b [ true ↦ a ∷ rest | false ↦ rest ])))
+          ≡ has k (way p x ++ elim b [ true ↦ a ∷ rest | false ↦ rest ])
+      go false q ih = ih x (e ∙ sym (skips a lt q))
+      go true q ih =
+          let j = eqb-true (job (at p a)) (job (at p i)) q in
+          let here : way p a ≡ a ∷ way p x = way-first p a ∙ rw (j, ← e) in
+          ih a (way-is p (job (at p i)) a j) ∙ rw here (sym (has-moved k a (way p x) rest))
+
+  -- from the last line back are the same lines as in the order of the tests
+  pub from-last-same : (k : ℕ) → has k (fromLast p i) ≡ has k (mayChange p i)
+  unfolding fromLast mayChange under
+  from-last-same k = through (until p i - suc i) (suc i) i k (omega arith) (way-is p (job (at p i)) i refl)
+
+  -- a line that is not among them is neither the take nor under it
+  pub off-take : (k : ℕ) → has k (fromLast p i) ≡ false → (k ≢ i) × (has k (under p i) ≡ false)
+  unfolding mayChange
+  off-take k m = (
+    λ z. clash (has k (fromLast p i))
+        (from-last-same k ∙ has-left k (way p i) (under p i) (rw z (line-on-way p i))) m,
+    go (test (has k (under p i))),
+  )
+    where
+      go : (has k (under p i) ≡ true) ⊎ (has k (under p i) ≡ false) → has k (under p i) ≡ false
+      go (inl u) = clash (has k (fromLast p i)) (from-last-same k ∙ has-right k (way p i) (under p i) u) m
+      go (inr u) = u
+
+  -- from the last line back they fall, within the plan
+  pub from-last-falls : i < length p → Falls (length p) (fromLast p i)
+  unfolding fromLast
+  from-last-falls h =
+      falls-further (suc last) (length p) (way p last)
+      (may-change-line p i h last (sym (from-last-same last) ∙ line-on-way p last)) (way-falls p last)
+    where
+      last : ℕ
+      last = lastOr i (under p i)
+
+  -- and another line has no successor among them
+  pub from-last-off : (k o : ℕ) → has o (successors (at p k) (drop (suc k) p)) ≡ true → has k (fromLast p i) ≡ false
+      → has (suc k + o) (fromLast p i) ≡ false
+  unfolding fromLast
+  from-last-off = off-way-stays-off p rules (lastOr i (under p i))

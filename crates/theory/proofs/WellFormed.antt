@@ -1,4 +1,4 @@
--- A plan has no fault exactly if it is well-formed: at most 1,024 numbers, each a line's, that obey the five rules.
+-- A plan has no fault exactly if it is well-formed: at most 1,024 numbers, each a line's, that obey the rules.
 -- And a fault's case is given exactly when its rule is broken at its place, all that is tested before it being in
 -- order.
 use Prim.Native.Nat.{ℕ, zero, suc, _+_, _<_, _≤_}
@@ -12,23 +12,23 @@ use lib.Dec.{eqb, leb}
 use lib.ListN.{length, drop, drop-of-length-le}
 use lib.Seq.{drop-cons}
 use borrow.Author.Tests.{eqb-true, eq-eqb, eqb-false, ne-eqb, leb-true, leb-false, le-leb, lt-leb, not-true, not-false}
-use Rattle.model.specs.Lists.{upFrom, positions, any, has, firstOf}
+use Rattle.model.specs.Lists.{upFrom, positions, any, firstOf}
 use Rattle.model.specs.Answers.{numberOf, refuseIf, refuseAt, firstRefusal}
 use Rattle.model.specs.Line.{job, operand, isTake, isGive, isStart, starts, isLine, at, lineNumber, hasLines}
 use Rattle.model.specs.Line.{firstLine}
 use Rattle.model.specs.Line.{maxLines, maxJob}
-use Rattle.model.specs.WellFormed.{before, isLast, Rules, WellFormed, inSequence, verbFault, lineFault, firstFault}
-use Rattle.model.specs.WellFormed.{emptyStart, neverStarted, fault}
+use Rattle.model.specs.WellFormed.{before, heldThere, isLast, Rules, WellFormed, inSequence, verbFault, lineFault}
+use Rattle.model.specs.WellFormed.{firstFault, emptyStart, neverStarted, fault}
 use Rattle.model.specs.declared.Refusal.{Refusal}
 use Rattle.model.specs.declared.Refusal.the-variants.{Malformed, TooManyLines, JobOutOfSequence, BadStart}
-use Rattle.model.specs.declared.Refusal.the-variants.{NeverStarted, GiveWithoutTake, TakeOfHeld}
-use Rattle.theory.specs.WellFormed.{FollowsOn, heldThere, InOrder, BrokenAt, tooMany, malformed}
-use Rattle.theory.specs.WellFormed.{outOfSequence, badStart, badGive, takeOfHeld, Broken, atLine, noLines}
+use Rattle.model.specs.declared.Refusal.the-variants.{NeverStarted, GiveWithoutTake}
+use Rattle.theory.specs.WellFormed.{FollowsOn, InOrder, BrokenAt, tooMany, malformed}
+use Rattle.theory.specs.WellFormed.{outOfSequence, badStart, badGive, Broken, atLine, noLines}
 use Rattle.theory.specs.WellFormed.{noStart, Sound}
 use Rattle.theory.specs.WellFormed.{startsEmpty, unstarted}
 use Rattle.theory.proofs.Tests.{clash, falsely, test, or-split, or-left, or-right, and-split, and-both}
 use Rattle.theory.proofs.Tests.{and-second, le-or-lt}
-use Rattle.theory.proofs.Line.{inside, start-parts, start-of, give-no-start, take-no-start, take-no-give}
+use Rattle.theory.proofs.Line.{inside, start-parts, start-of, give-no-start}
 use Rattle.theory.proofs.Line.{line-parts}
 use Rattle.theory.proofs.Lists.{Answer, first-answer, first-lowest, upFrom-has, has-upFrom}
 
@@ -79,15 +79,14 @@ line-any f (l ∷ ls) (suc k) h e = or-right (f l) (any f ls) (line-any f ls k (
 
 -- ---- one line
 
--- the six tests of a line, by their outcomes
-faultBy : ℕ → Bool → Bool → Bool → Bool → Bool → Bool → Option Refusal
-faultBy n b3 b2 b4 b5 b7 b8 =
+-- the five tests of a line, by their outcomes
+faultBy : ℕ → Bool → Bool → Bool → Bool → Bool → Option Refusal
+faultBy n b3 b2 b4 b5 b7 =
     firstRefusal
     (refuseIf b3 TooManyLines
     ∷ refuseIf b2 (Malformed n)
     ∷ refuseIf b4 (JobOutOfSequence n)
-    ∷ firstRefusal
-    (refuseIf b5 (BadStart n) ∷ refuseIf b7 (GiveWithoutTake n) ∷ refuseIf b8 (TakeOfHeld n) ∷ [])
+    ∷ firstRefusal (refuseIf b5 (BadStart n) ∷ refuseIf b7 (GiveWithoutTake n) ∷ [])
     ∷ [])
 
 follows-on : (p : List ℕ) (i : ℕ) → (inSequence (before p i) (at p i) ≡ true) ↔ FollowsOn p i
@@ -118,7 +117,6 @@ module _ (D : ℕ) (p : List ℕ) (i : ℕ) where
       ≡ faultBy (lineNumber i) (leb maxLines i) (not (isLine D (at p i))) (not (inSequence (before p i) (at p i)))
       (isStart (at p i) && startBroken)
       (isGive (at p i) && not (isLast (operand (at p i)) (heldThere p i)))
-      (isTake (at p i) && has (operand (at p i)) (heldThere p i))
   unfolding lineFault verbFault faultBy startBroken
   fault-is = rw (length-before p i)
 
@@ -175,43 +173,36 @@ module _ (D : ℕ) (p : List ℕ) (i : ℕ) where
   line-view =
       rw fault-is
       (go (leb maxLines i) (isLine D (at p i)) (inSequence (before p i) (at p i)) (isStart (at p i) && startBroken)
-      (isGive (at p i) && not (isLast (operand (at p i)) (heldThere p i)))
-      (isTake (at p i) && has (operand (at p i)) (heldThere p i)) refl refl refl refl refl refl)
+      (isGive (at p i) && not (isLast (operand (at p i)) (heldThere p i))) refl refl refl refl refl)
     where
-      go : (b3 b2 b4 b5 b7 b8 : Bool) → leb maxLines i ≡ b3 → isLine D (at p i) ≡ b2
+      go : (b3 b2 b4 b5 b7 : Bool) → leb maxLines i ≡ b3 → isLine D (at p i) ≡ b2
           → inSequence (before p i) (at p i) ≡ b4
           → isStart (at p i) && startBroken ≡ b5
           → isGive (at p i) && not (isLast (operand (at p i)) (heldThere p i)) ≡ b7
-          → isTake (at p i) && has (operand (at p i)) (heldThere p i) ≡ b8
-          → LineView (faultBy (lineNumber i) b3 (not b2) (not b4) b5 b7 b8)
-      go true b2 b4 b5 b7 b8 e3 e2 e4 e5 e7 e8 = broken TooManyLines (tooMany (leb-true maxLines i e3))
-      go false false b4 b5 b7 b8 e3 e2 e4 e5 e7 e8 =
+          → LineView (faultBy (lineNumber i) b3 (not b2) (not b4) b5 b7)
+      go true b2 b4 b5 b7 e3 e2 e4 e5 e7 = broken TooManyLines (tooMany (leb-true maxLines i e3))
+      go false false b4 b5 b7 e3 e2 e4 e5 e7 =
           broken (Malformed (lineNumber i)) (malformed (leb-false maxLines i e3) e2)
-      go false true false b5 b7 b8 e3 e2 e4 e5 e7 e8 =
+      go false true false b5 b7 e3 e2 e4 e5 e7 =
           broken (JobOutOfSequence (lineNumber i))
           (outOfSequence (leb-false maxLines i e3) e2
           (λ f. clash (inSequence (before p i) (at p i)) (follows-on p i .1 f) e4))
-      go false true true true b7 b8 e3 e2 e4 e5 e7 e8 =
+      go false true true true b7 e3 e2 e4 e5 e7 =
           let s = and-split (isStart (at p i)) startBroken e5 in
           broken (BadStart (lineNumber i))
           (badStart (leb-false maxLines i e3) e2 (follows-on p i .0 e4) (s .0) (start-broken (s .1)))
-      go false true true false true b8 e3 e2 e4 e5 e7 e8 =
+      go false true true false true e3 e2 e4 e5 e7 =
           let s = and-split (isGive (at p i)) (not (isLast (operand (at p i)) (heldThere p i))) e7 in
           broken (GiveWithoutTake (lineNumber i))
           (badGive (leb-false maxLines i e3) e2 (follows-on p i .0 e4) (s .0)
           (not-true (isLast (operand (at p i)) (heldThere p i)) (s .1)))
-      go false true true false false true e3 e2 e4 e5 e7 e8 =
-          let s = and-split (isTake (at p i)) (has (operand (at p i)) (heldThere p i)) e8 in
-          broken (TakeOfHeld (lineNumber i))
-          (takeOfHeld (leb-false maxLines i e3) e2 (follows-on p i .0 e4) (s .0) (s .1))
-      go false true true false false false e3 e2 e4 e5 e7 e8 = fine (record {
+      go false true true false false e3 e2 e4 e5 e7 = fine (record {
         few = leb-false maxLines i e3;
         line = e2;
         followsOn = follows-on p i .0 e4;
         start = start-holds e5;
         give = λ g. not-false (isLast (operand (at p i)) (heldThere p i))
             (and-second (isGive (at p i)) (not (isLast (operand (at p i)) (heldThere p i))) g e7);
-        take = λ t. and-second (isTake (at p i)) (has (operand (at p i)) (heldThere p i)) t e8;
       })
 
   -- what the tests find where the first ones are in order
@@ -219,7 +210,6 @@ module _ (D : ℕ) (p : List ℕ) (i : ℕ) where
       → lineFault D (before p i) (at p i)
       ≡ faultBy (lineNumber i) false false false (isStart (at p i) && startBroken)
       (isGive (at p i) && not (isLast (operand (at p i)) (heldThere p i)))
-      (isTake (at p i) && has (operand (at p i)) (heldThere p i))
   opened f h s = fault-is ∙ rw (lt-leb maxLines i f, h, follows-on p i .1 s)
 
   pub broken-found : (r : Refusal) → BrokenAt D p i r → lineFault D (before p i) (at p i) ≡ some r
@@ -230,7 +220,6 @@ module _ (D : ℕ) (p : List ℕ) (i : ℕ) where
       fault-is ∙ rw (lt-leb maxLines i f, h, falsely (inSequence (before p i) (at p i)) (λ e. n (follows-on p i .0 e)))
   broken-found r (badStart f h s t e) = opened f h s ∙ rw (t, broken-start e)
   broken-found r (badGive f h s t e) = opened f h s ∙ rw (give-no-start (at p i) t, t, e)
-  broken-found r (takeOfHeld f h s t e) = opened f h s ∙ rw (take-no-start (at p i) t, take-no-give (at p i) t, t, e)
 
   pub in-order-passes : InOrder D p i → lineFault D (before p i) (at p i) ≡ none
   in-order-passes o = go (lineFault D (before p i) (at p i)) refl line-view
@@ -244,7 +233,6 @@ module _ (D : ℕ) (p : List ℕ) (i : ℕ) where
           clash (starts (at p (e .0)) (operand (at p i))) (e .2)
           (o .start (operand (at p i)) (start-of (at p i) t) .1 (e .0) (e .1))
       unbroken r (badGive f h s t e) = clash (isLast (operand (at p i)) (heldThere p i)) (o .give t) e
-      unbroken r (takeOfHeld f h s t e) = clash (has (operand (at p i)) (heldThere p i)) e (o .take t)
 
       go : (x : Option Refusal) → lineFault D (before p i) (at p i) ≡ x → LineView x
           → lineFault D (before p i) (at p i) ≡ none
@@ -382,17 +370,16 @@ fault-exactly D p r = (λ e. to (fault D p) e (fault-view D p), λ b. from b (fa
     from b none e (sound s) = absurd (sound-unbroken D p r s b)
     from b (some q) e (broken t h) = e ∙ ap {B = Option Refusal} some (one-broken D p q r h b)
 
--- the faults are none but 2 to 8
-pub broken-number : (D : ℕ) (p : List ℕ) (r : Refusal) → Broken D p r → numberOf r ≤ 8
+-- the faults are none but 2 to 7
+pub broken-number : (D : ℕ) (p : List ℕ) (r : Refusal) → Broken D p r → numberOf r ≤ 7
 broken-number D p r (atLine k s b f h) = go s h
   where
-    go : (s : Refusal) → BrokenAt D p k s → numberOf s ≤ 8
+    go : (s : Refusal) → BrokenAt D p k s → numberOf s ≤ 7
     go s (tooMany h) = omega arith
     go s (malformed h a) = omega arith
     go s (outOfSequence h a b) = omega arith
     go s (badStart h a b c d) = omega arith
     go s (badGive h a b c d) = omega arith
-    go s (takeOfHeld h a b c d) = omega arith
 broken-number D p r (noLines i f b e low) = omega arith
 broken-number D p r (noStart j f g a b e low) = omega arith
 
@@ -454,7 +441,6 @@ module _ (D : ℕ) (p : List ℕ) where
         startHasLines = has-lines;
         started = is-started;
         give = λ i h. s .lines i (give-line p i h) .give h;
-        take = λ i h. s .lines i (take-line p i h) .take h;
       }
 
   well-formed-sound : WellFormed D p → Sound D p
@@ -472,7 +458,6 @@ module _ (D : ℕ) (p : List ℕ) where
         followsOn = follows k h;
         start = λ j e. (w .rules .startHigher k j e, λ i b. w .rules .startOnce k i j b e);
         give = w .rules .give k;
-        take = w .rules .take k;
       }
 
       full′ : (k : ℕ) → startsEmpty p k ≡ false

@@ -1,5 +1,5 @@
--- The words in which theory says what a claim set is (01, "Claims and rows"): the devices whose takes are reached from
--- the line by successors.
+-- The words in which theory says what a claim set is (01, "Claims and rows"): the devices whose outermost takes are
+-- reached from the line by successors.
 use Prim.Native.Nat.{ℕ, suc, _+_}
 use mathlib.Core.Bool.{true}
 use mathlib.Core.List.{List}
@@ -19,7 +19,7 @@ pub data Reach (p : List ℕ) : ℕ → ℕ → Type 0 where
   here : (i : ℕ) → Reach p i i
   step : (i o j : ℕ) → has o (successors (at p i) (drop (suc i) p)) ≡ true → Reach p (suc i + o) j → Reach p i j
 
--- a take of d is reached from line i
+-- an outermost take of d is reached from line i
 pub record Reached (p : List ℕ) (i d : ℕ) : Type 0 where
   pub j : ℕ
   pub way : Reach p i j

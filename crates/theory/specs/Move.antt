@@ -1,43 +1,44 @@
--- The words in which theory says what moves do (01, "Moving a claim"): why one is refused, what it leaves, and the same
--- of any list of moves. What is claimed of moves is claimed in these words, so they are read like those of `model`.
+-- The words in which theory says what moves do (01, "Moving a claim"; 02, request 2): why one is refused, what it
+-- leaves, and the same of any list of moves. What is claimed of moves is claimed in these words, so they are read like
+-- those of `model`.
 use Prim.Native.Nat.{ℕ, suc, _<_, _≤_}
 use mathlib.Core.Bool.{true, false, cond}
 use mathlib.Core.List.{List, [], _∷_, _++_}
-use mathlib.Core.Option.{none, some}
+use mathlib.Core.Option.{none}
 use mathlib.Core.Path.{_≡_}
 use lib.Dec.{eqb}
 use lib.ListN.{length, getD, drop}
 use Rattle.model.specs.Lists.{has}
-use Rattle.model.specs.Answers.{numberOf}
 use Rattle.model.specs.WellFormed.{fault}
 use Rattle.model.specs.Claims.{table}
-use Rattle.model.specs.Move.{edited, way, stale, askedAt, isTakeOf}
+use Rattle.model.specs.Move.{edited, mayChange, stale, askedAt, isTakeOf}
 use Rattle.model.specs.Entries.{Outcome, Lent, moving}
 use Rattle.model.specs.declared.Refusal.{Refusal}
 use Rattle.model.specs.declared.Refusal.the-variants.{NotATake, NoSuchDevice}
 use Rattle.model.specs.declared.MoveAnswer.{MoveAnswer}
 
--- ---- the way
+-- ---- the lines that a move may change
 
 -- numbers that fall, all below n
 pub data Falls : ℕ → List ℕ → Type 0 where
   ends : (n : ℕ) → Falls n []
   falls : (n x : ℕ) (xs : List ℕ) → x < n → Falls x xs → Falls n (x ∷ xs)
 
--- the line at k is the nearest stale one on the way of the line at i, going back
+-- the line at k is the nearest stale one of those that a move of the take at i may change: in the order of the test,
+-- those before it are not stale
 pub record NearestStale (p t : List ℕ) (i k : ℕ) : Type 0 where
-  pub onWay : has k (way p i) ≡ true
+  pub nearer : List ℕ
+  pub others : List ℕ
+  pub split : mayChange p i ≡ nearer ++ (k ∷ others)
   pub isStale : stale p t k ≡ true
-  pub nearer : (j : ℕ) → has j (way p i) ≡ true → k < j → stale p t j ≡ false
+  pub fresh : (j : ℕ) → has j nearer ≡ true → stale p t j ≡ false
 
 -- ---- one move
 
--- why a move from a plan without a fault and its own table is refused: 12, 13 or 8
+-- why a move from a plan without a fault and its own table is refused: 12 or 13
 pub data Refused (D : ℕ) (p : List ℕ) (line device : ℕ) : Refusal → Type 0 where
   notATake : isTakeOf p line ≡ false → Refused D p line device (NotATake line)
   noSuchDevice : isTakeOf p line ≡ true → D ≤ device → Refused D p line device (NoSuchDevice device)
-  takeOfHeld : (r : Refusal) → isTakeOf p line ≡ true → device < D → numberOf r ≡ 8
-      → fault D (edited p (askedAt line) device) ≡ some r → Refused D p line device r
 
 -- at how many places two lists differ, as far as both go
 unfoldable pub differing : List ℕ → List ℕ → ℕ
@@ -46,15 +47,15 @@ differing (x ∷ xs) [] = 0
 differing (x ∷ xs) (y ∷ ys) = cond (eqb x y) (differing xs ys) (suc (differing xs ys))
 
 -- what an accepted move does: the plan is the edited one and has no fault; the sets are its table, worked out afresh,
--- and the rest of the list; off the way they are what they were; the count is that of the places where the lists
--- differ
+-- and the rest of the list; at lines that are neither on the way nor under the take they are what they were; the count
+-- is that of the places where the lists differ
 pub record Accepted (D : ℕ) (p t : List ℕ) (line device : ℕ) (o : Outcome MoveAnswer Lent) : Type 0 where
   pub plan : o .left .plan ≡ edited p (askedAt line) device
   pub long : length (o .left .plan) ≡ length p
   pub noFault : fault D (o .left .plan) ≡ none
   pub afresh : o .left .sets ≡ table (o .left .plan) ++ drop (length p) t
   pub room : length (o .left .sets) ≡ length t
-  pub offWay : (k : ℕ) → has k (way p (askedAt line)) ≡ false → getD (o .left .sets) k 0 ≡ getD t k 0
+  pub elsewhere : (k : ℕ) → has k (mayChange p (askedAt line)) ≡ false → getD (o .left .sets) k 0 ≡ getD t k 0
   pub count : o .answer ≡ MoveAnswer.Changed (differing (o .left .sets) t)
 
 -- what a refused move does: nothing, but for the answer

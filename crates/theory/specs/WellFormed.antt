@@ -1,5 +1,5 @@
 -- The words in which theory says what of a plan is in order and what is broken (01, "Rules of a well-formed plan" and
--- "Refusal numbers", 2 to 8): at a line, what is tested there, in the order of the tests; in a plan, the first line at
+-- "Refusal numbers", 2 to 7): at a line, what is tested there, in the order of the tests; in a plan, the first line at
 -- which something is broken, and otherwise what is tested after the last line.
 use Prim.Native.Nat.{ℕ, zero, suc, _<_, _≤_}
 use mathlib.Core.Bool.{Bool, true, false, not, _&&_}
@@ -8,13 +8,13 @@ use mathlib.Core.Logic.{_⊎_}
 use mathlib.Core.Path.{_≡_}
 use lib.Dec.{eqb}
 use lib.ListN.{length}
-use Rattle.model.specs.Lists.{any, has}
-use Rattle.model.specs.Line.{job, operand, isTake, isGive, isStart, starts, isLine, at, lineNumber, hasLines}
+use Rattle.model.specs.Lists.{any}
+use Rattle.model.specs.Line.{job, operand, isGive, isStart, starts, isLine, at, lineNumber, hasLines}
 use Rattle.model.specs.Line.{firstLine, maxLines, maxJob}
-use Rattle.model.specs.WellFormed.{before, heldBy, isLast}
+use Rattle.model.specs.WellFormed.{heldThere, isLast}
 use Rattle.model.specs.declared.Refusal.{Refusal}
 use Rattle.model.specs.declared.Refusal.the-variants.{Malformed, TooManyLines, JobOutOfSequence, BadStart}
-use Rattle.model.specs.declared.Refusal.the-variants.{NeverStarted, GiveWithoutTake, TakeOfHeld}
+use Rattle.model.specs.declared.Refusal.the-variants.{NeverStarted, GiveWithoutTake}
 
 -- ---- one line
 
@@ -23,10 +23,6 @@ abbrev pub FollowsOn : List ℕ → ℕ → Type 0
 FollowsOn p zero = job (at p 0) ≡ 1
 FollowsOn p (suc i) = (job (at p (suc i)) ≡ job (at p i)) ⊎ (job (at p (suc i)) ≡ suc (job (at p i)))
 
--- the devices that the job of line i holds there
-abbrev pub heldThere : List ℕ → ℕ → List ℕ
-heldThere p i = heldBy (job (at p i)) (before p i)
-
 -- line i is in order: nothing that is tested at a line is broken there
 pub record InOrder (D : ℕ) (p : List ℕ) (i : ℕ) : Type 0 where
   pub few : i < maxLines
@@ -34,7 +30,6 @@ pub record InOrder (D : ℕ) (p : List ℕ) (i : ℕ) : Type 0 where
   pub followsOn : FollowsOn p i
   pub start : (j : ℕ) → starts (at p i) j ≡ true → (job (at p i) < j) × ((k : ℕ) → k < i → starts (at p k) j ≡ false)
   pub give : isGive (at p i) ≡ true → isLast (operand (at p i)) (heldThere p i) ≡ true
-  pub take : isTake (at p i) ≡ true → has (operand (at p i)) (heldThere p i) ≡ false
 
 -- what is broken at line i, where what is tested before it is in order
 pub data BrokenAt (D : ℕ) (p : List ℕ) (i : ℕ) : Refusal → Type 0 where
@@ -47,8 +42,6 @@ pub data BrokenAt (D : ℕ) (p : List ℕ) (i : ℕ) : Refusal → Type 0 where
       → BrokenAt D p i (BadStart (lineNumber i))
   badGive : i < maxLines → isLine D (at p i) ≡ true → FollowsOn p i → isGive (at p i) ≡ true
       → isLast (operand (at p i)) (heldThere p i) ≡ false → BrokenAt D p i (GiveWithoutTake (lineNumber i))
-  takeOfHeld : i < maxLines → isLine D (at p i) ≡ true → FollowsOn p i → isTake (at p i) ≡ true
-      → has (operand (at p i)) (heldThere p i) ≡ true → BrokenAt D p i (TakeOfHeld (lineNumber i))
 
 -- ---- a plan
 

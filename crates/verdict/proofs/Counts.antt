@@ -1,5 +1,6 @@
 -- How many undone lines take a device: one less where such a line is done, and at most one exactly if a line that takes
--- it is the only one. The code's counts are these numbers, and its scarce devices those with at most one.
+-- it is the only one. The code's counts are these numbers, and its scarce devices those with at most one. The code
+-- takes lines as they count, of which the takes are the outermost ones (02, request 2).
 use Prim.Native.Nat.{ℕ, zero, suc, _+_, _-_, _<_, _≤_}
 use mathlib.Core.Bool.{Bool, true, false, cond, not, _||_, _&&_}
 use mathlib.Core.List.{List, [], _∷_, _++_}
@@ -19,10 +20,12 @@ use Rattle.model.specs.Mate.{takesAt, deviceAt, takes}
 use Rattle.model.specs.Handed.{undone, alone}
 use Rattle.model.specs.WellFormed.{WellFormed}
 use Rattle.model.specs.Board.{devices}
+use Rattle.theory.specs.Outer.{againAt, plainAt}
 use Rattle.theory.proofs.Tests.{clash, test, falsely, tests-agree, or-left, or-right, and-split, and-both, and-second}
 use Rattle.theory.proofs.Tests.{and-right, le-or-lt}
 use Rattle.theory.proofs.Lists.{any-none, none-any, left, left-zero, left-none, left-same, left-one, left-all}
 use Rattle.theory.proofs.Sets.{member-union, member-empty}
+use Rattle.theory.proofs.Outer.{plain-operand, plain-take}
 use Rattle.theory.proofs.Progress.{has-undone, undone-has, device-below}
 use Rattle.theory.proofs.LineByLine.{more-new, has-other, more-not, not-more}
 use Rattle.line.proofs.Ranges.{or-none}
@@ -159,17 +162,15 @@ module _ (xs : List ℕ) (s : ℕ) (h : s < length xs) where
 pub tallied-length : (p : List ℕ) (n : ℕ) → length (tallied p n) ≡ devices
 unfolding tallied added
 tallied-length p zero = refl
-tallied-length p (suc n) = length-set (tallied p n) (slot (at p n)) (getD (tallied p n) (slot (at p n)) 0 + takesOne
-    (at p n))
-    ∙ tallied-length p n
+tallied-length p (suc n) = length-set (tallied p n) (slot (plainAt p n)) _ ∙ tallied-length p n
 
 module _ (p : List ℕ) (w : WellFormed devices p) where
-  -- a take's entry is that of its device
-  takes-slot : (k d : ℕ) → (isTake (at p k) && eqb (slot (at p k)) d) ≡ takes p k d
-  unfolding takes takesAt deviceAt
-  takes-slot k d = go (isTake (at p k)) refl
+  -- an outermost take's entry is that of its device
+  takes-slot : (k d : ℕ) → (isTake (plainAt p k) && eqb (slot (plainAt p k)) d) ≡ takes p k d
+  unfolding takes deviceAt
+  takes-slot k d = rw (plain-take p k, plain-operand (againAt p k) (at p k)) (go (takesAt p k) refl)
     where
-      go : (t : Bool) → isTake (at p k) ≡ t → (t && eqb (slot (at p k)) d) ≡ (t && eqb (operand (at p k)) d)
+      go : (t : Bool) → takesAt p k ≡ t → (t && eqb (slot (at p k)) d) ≡ (t && eqb (operand (at p k)) d)
       go false t = refl
       go true t =
           let h = device-below devices p w k (deviceAt p k) (takes-own p k t) in
@@ -179,19 +180,19 @@ module _ (p : List ℕ) (w : WellFormed devices p) where
   unfolding tallied added left through has any
   tallied-takes zero d h = getD-replicate devices d 0 0 h
   tallied-takes (suc n) d h =
-      risen (tallied p n) (slot (at p n)) (omega (arith, tallied-length p n)) (isTake (at p n)) d
+      risen (tallied p n) (slot (plainAt p n)) (omega (arith, tallied-length p n)) (isTake (plainAt p n)) d
       ∙ rw (takes-slot n d, tallied-takes n d h) (go (takes p n d) (left (through p [] d) n))
     where
       go : (b : Bool) (l : ℕ) → boolByte b + l ≡ cond (not b) l (suc l)
       go true l = omega arith
       go false l = omega arith
 
-  pub tallied-small : (n : ℕ) → n ≤ maxLines → CanRise (tallied p n) (at p n)
+  pub tallied-small : (n : ℕ) → n ≤ maxLines → CanRise (tallied p n) (plainAt p n)
   tallied-small n h =
       omega (
         arith,
-        tallied-takes n (slot (at p n)) (omega arith),
-        left-all (through p [] (slot (at p n))) n,
+        tallied-takes n (slot (plainAt p n)) (omega arith),
+        left-all (through p [] (slot (plainAt p n))) n,
       )
 
 -- ---- the scarce devices
@@ -255,42 +256,42 @@ module _ {p : List ℕ} (w : WellFormed devices p) where
   module _ {done counts : List ℕ} {scarce : ℕ} (c : Counted p done counts scarce) {x : ℕ} (l : x < length p)
       (u : has x done ≡ false) where
     abbrev s : ℕ
-    s = slot (at p x)
+    s = slot (plainAt p x)
 
     -- the count of a take that is to do is not nought
-    pub can-fall : CanFall counts (at p x)
+    pub can-fall : CanFall counts (plainAt p x)
     can-fall =
         omega (
           arith,
           c .counts-are s (omega arith),
           wanted-step p done x s l u,
           ap boolByte (takes-slot p w x s),
-          ap (λ (b : Bool). boolByte (isTake (at p x) && b)) (eq-eqb s s refl),
-          ap boolByte (and-true (isTake (at p x))),
+          ap (λ (b : Bool). boolByte (isTake (plainAt p x) && b)) (eq-eqb s s refl),
+          ap boolByte (and-true (isTake (plainAt p x))),
         )
 
     before : (d : ℕ) → d < devices
-        → getD counts d 0 ≡ boolByte (isTake (at p x) && eqb s d) + wanted p (done ++ (x ∷ [])) d
+        → getD counts d 0 ≡ boolByte (isTake (plainAt p x) && eqb s d) + wanted p (done ++ (x ∷ [])) d
     before d h =
         c .counts-are d h ∙ wanted-step p done x d l u
         ∙ ap (λ (b : Bool). boolByte b + wanted p (done ++ (x ∷ [])) d) (sym (takes-slot p w x d))
 
     pub one-counted : (wa : Waiting) → wa .scarce ≡ scarce
-        → Counted p (done ++ (x ∷ [])) (counted counts (at p x)) (settled counts wa (at p x) .scarce)
+        → Counted p (done ++ (x ∷ [])) (counted counts (plainAt p x)) (settled counts wa (plainAt p x) .scarce)
     unfolding counted settled
     one-counted wa e = record {
-      long = length-set counts s (getD counts s 0 - takesOne (at p x)) ∙ c .long;
+      long = length-set counts s (getD counts s 0 - takesOne (plainAt p x)) ∙ c .long;
       counts-are = λ d h. omega (
         arith,
         before d h,
-        fallen counts s (omega (arith, c .long)) (isTake (at p x)) can-fall d,
+        fallen counts s (omega (arith, c .long)) (isTake (plainAt p x)) can-fall d,
       );
-      scarce-are = λ d h. member-union (wa .scarce) (scarceIf (isTake (at p x) && leb (getD counts s 0) 2) s) d
+      scarce-are = λ d h. member-union (wa .scarce) (scarceIf (isTake (plainAt p x) && leb (getD counts s 0) 2) s) d
           ∙ rw (
             ap (λ (n : ℕ). member n d) e ∙ c .scarce-are d h
                 ∙ ap (λ (n : ℕ). leb n 1) (sym (c .counts-are d h) ∙ before d h),
-            member-scarce (isTake (at p x) && leb (getD counts s 0) 2) s d h,
+            member-scarce (isTake (plainAt p x) && leb (getD counts s 0) 2) s d h,
           )
-          (scarce-now (isTake (at p x)) (eqb s d) (getD counts s 0) (wanted p (done ++ (x ∷ [])) d)
+          (scarce-now (isTake (plainAt p x)) (eqb s d) (getD counts s 0) (wanted p (done ++ (x ∷ [])) d)
           (λ q. ap (λ (n : ℕ). getD counts n 0) (eqb-true s d q) ∙ before d h));
     }

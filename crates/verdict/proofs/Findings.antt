@@ -18,6 +18,7 @@ use Rattle.model.specs.declared.Refusal.the-variants.{TwoLasting, LeadsBack}
 use Rattle.theory.proofs.Lists.{has-upFrom, first-answer, Answer}
 use Rattle.theory.proofs.OnlyIf.{length-rows}
 use Rattle.theory.proofs.Verdict.{held-number, accepted-is-legal}
+use Rattle.plan.specs.Again.{againFlags}
 use Rattle.plan.specs.Jobs.{firstLines}
 use Rattle.plan.specs.Ends.{leftBy}
 use Rattle.rows.specs.Lasting.{lastingFlags}
@@ -51,7 +52,7 @@ module _ (s : ℕ) {d : ℕ} (e : d ≡ lowestOf devices s) where
 
 -- ---- 9 and 10 by the sets, and how many devices stay held
 
-module _ {p first rs lasting : List ℕ} {held twice : ℕ} (f : Findings p first rs lasting held twice) where
+module _ {p first again rs lasting : List ℕ} {held twice : ℕ} (f : Findings p first again rs lasting held twice) where
   nine : twoLasting devices p ≡ refuseAt TwoLasting (lowestIn twice)
   unfolding twoLasting
   nine = ap (refuseAt TwoLasting) (sym (twice-first devices p) ∙ ap lowestIn (sym (f .twiceAre)))
@@ -88,8 +89,8 @@ module _ {p first rs lasting : List ℕ} {held twice : ℕ} (f : Findings p firs
 
 -- ---- what the search for the holds found
 
-module _ {p first rs lasting first′ rs′ lasting′ : List ℕ} {answer : HoldsAnswer}
-    (h : HoldsAs p first rs lasting answer first′ rs′ lasting′) where
+module _ {p first again rs lasting first′ again′ rs′ lasting′ : List ℕ} {answer : HoldsAnswer}
+    (h : HoldsAs p first again rs lasting answer first′ again′ rs′ lasting′) where
   pub holds-refused : {r : Refusal} → answer ≡ HoldsAnswer.Refused r → fault devices p ≡ some r
   holds-refused {r} e = go (fault devices p) (sym e ∙ h .answers)
     where
@@ -97,18 +98,21 @@ module _ {p first rs lasting first′ rs′ lasting′ : List ℕ} {answer : Hol
       go none q = cc
       go (some s) q = cc
 
-  pub holds-made : {held twice : ℕ} → answer ≡ HoldsAnswer.Made held twice → Findings p first′ rs′ lasting′ held twice
+  pub holds-made : {held twice : ℕ} → answer ≡ HoldsAnswer.Made held twice
+      → Findings p first′ again′ rs′ lasting′ held twice
   holds-made {held} {twice} e =
-      go (fault devices p) refl (sym e ∙ h .answers) (h .firstsAre) (h .rowsAre) (h .flagsAre)
+      go (fault devices p) refl (sym e ∙ h .answers) (h .firstsAre) (h .againsAre) (h .rowsAre) (h .flagsAre)
     where
       go : (o : Option Refusal) → fault devices p ≡ o → HoldsAnswer.Made held twice ≡ holdsBy o p
-          → first′ ≡ leftBy o (firstLines p) first → rs′ ≡ leftBy o (rowsOf p) rs
-          → lasting′ ≡ leftBy o (lastingFlags p) lasting → Findings p first′ rs′ lasting′ held twice
-      go none f q a b c = record {
+          → first′ ≡ leftBy o (firstLines p) first → again′ ≡ leftBy o (againFlags p) again
+          → rs′ ≡ leftBy o (rowsOf p) rs → lasting′ ≡ leftBy o (lastingFlags p) lasting
+          → Findings p first′ again′ rs′ lasting′ held twice
+      go none f q a g b c = record {
         marked = record { sound = f; marks = c };
         listed = record { sound = f; firsts = a };
+        againsAre = g;
         rowsAre = b;
         toEnd = cc;
         twiceAre = cc;
       }
-      go (some r) f q a b c = let z : _≡_ {A = ℕ} 0 1 = cc in absurd (omega arith)
+      go (some r) f q a g b c = let z : _≡_ {A = ℕ} 0 1 = cc in absurd (omega arith)

@@ -12,10 +12,11 @@ use lib.Dec.{ltb}
 use lib.ListN.{length, getD, replicate, length-append}
 use Rattle.model.specs.Lists.{has, orElse}
 use Rattle.model.specs.Sets.{empty, member}
-use Rattle.model.specs.Line.{at, maxJob}
+use Rattle.model.specs.Line.{maxJob}
 use Rattle.model.specs.WellFormed.{WellFormed}
 use Rattle.model.specs.Handed.{undone, goingOn, lastingNext, handed}
 use Rattle.model.specs.Board.{devices}
+use Rattle.theory.specs.Outer.{plainAt}
 use Rattle.theory.proofs.Tests.{clash}
 use Rattle.theory.proofs.Lists.{has-none, left, left-one, left-every, among}
 use Rattle.theory.proofs.Sets.{member-empty}
@@ -145,7 +146,7 @@ module _ {p : List ℕ} (ok : Accepted p) where
 
     pub keeps-on : {on : Bool} → Keeps p done places counts wa on i → {c : Choice}
         → Chooses p done places (wa .scarce) c
-        → Keeps p (done ++ (c .line ∷ [])) (replaced p places (c .line)) (counted counts (at p (c .line)))
+        → Keeps p (done ++ (c .line ∷ [])) (replaced p places (c .line)) (counted counts (plainAt p (c .line)))
         (passed p counts (c .others) (c .line)) (goesOn p (c .line)) (suc (c .line))
     unfolding chosen orElse passed replaced
     keeps-on k {c} g = record {
@@ -153,8 +154,8 @@ module _ {p : List ℕ} (ok : Accepted p) where
       going = λ e l. going-on e;
       shows = shown;
       counts-all = rw (
-        scarce-arrived p (arrived p (settled counts (c .others) (at p x)) (lastingAfter p x)) (startedLine p x),
-        scarce-arrived p (settled counts (c .others) (at p x)) (lastingAfter p x),
+        scarce-arrived p (arrived p (settled counts (c .others) (plainAt p x)) (lastingAfter p x)) (startedLine p x),
+        scarce-arrived p (settled counts (c .others) (plainAt p x)) (lastingAfter p x),
       ) (one-counted w (k .counts-all) (here .line) (here .waiting) (c .others) (g .scarce-kept));
       rest = omega (arith, k .rest, length-append done (x ∷ []), one-less);
       order = append-assoc done (x ∷ []) (linesAfter (left (among next) (length p)) p next)
@@ -200,5 +201,5 @@ module _ {p : List ℕ} (ok : Accepted p) where
             shows-same
             (comes-if below (apart w (ok .no-two)) (startedLine p x) came (started-stands w (k .closed) here)
             (comes-if below (apart w (ok .no-two)) (lastingAfter p x) (stayed-stands w (k .closed) here)
-            (lasting-stands w (k .closed) here) (shows-settled counts (at p x) (g .beside))))
+            (lasting-stands w (k .closed) here) (shows-settled counts (plainAt p x) (g .beside))))
             (beside-placed w (k .closed) here) (placed-beside w (k .closed) here)

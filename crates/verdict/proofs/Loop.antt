@@ -9,13 +9,14 @@ use native.Mathlib.Omega.{arith}
 use lib.ListN.{length, getD, set, drop, replicate, length-append, length-drop, length-map}
 use lib.Seq.{drop-cons, set-at}
 use Rattle.model.specs.Lists.{over}
-use Rattle.model.specs.Line.{lineNumber, at}
+use Rattle.model.specs.Line.{lineNumber}
 use Rattle.model.specs.WellFormed.{fault}
 use Rattle.model.specs.Rows.{rows}
 use Rattle.model.specs.Handed.{handed}
 use Rattle.model.specs.Verdict.{noOrder}
 use Rattle.model.specs.Board.{devices}
 use Rattle.model.specs.declared.Refusal.{Refusal}
+use Rattle.theory.specs.Outer.{plainAt}
 use Rattle.theory.proofs.Lists.{left, among}
 use Rattle.theory.proofs.OnlyIf.{length-rows}
 use Rattle.theory.proofs.Places.{lasting-parts}
@@ -25,6 +26,7 @@ use Rattle.theory.proofs.WellFormed.{no-fault-exactly}
 use Rattle.theory.proofs.Verdict.{OrderView, accepted, order-view}
 use Rattle.verdict.specs.declared.waiting.Waiting.{Waiting}
 use Rattle.verdict.specs.declared.order.Choice.{Choice}
+use Rattle.plan.specs.Again.{againFlags}
 use Rattle.plan.specs.Jobs.{FirstsListed}
 use Rattle.verdict.specs.Waiting.{Marked, allPlaces, foremost, tallied, scarceBelow, counted}
 use Rattle.verdict.specs.Waiting.{passed, replaced, goesOn, choosing, CanFall}
@@ -69,10 +71,11 @@ over-more f xs old x h =
 
 -- ---- with k lines done
 
-pub record Handing (p first lasting old order places counts : List ℕ) (wa : Waiting) (on : Bool) (i k : ℕ)
+pub record Handing (p first again lasting old order places counts : List ℕ) (wa : Waiting) (on : Bool) (i k : ℕ)
     : Type 0 where
   pub marked : Marked p lasting
   pub listed : FirstsListed p first
+  pub agains : again ≡ againFlags p
   pub ok : Accepted p
   pub room : length p ≤ length old
   pub done : List ℕ
@@ -80,15 +83,16 @@ pub record Handing (p first lasting old order places counts : List ℕ) (wa : Wa
   pub keeps : Keeps p done places counts wa on i
   pub written : order ≡ over (map lineNumber done) old
 
-pub hands-first : {p first lasting old counts : List ℕ} {s : ℕ} → Marked p lasting → FirstsListed p first
-    → noOrder devices p ≡ none
+pub hands-first : {p first again lasting old counts : List ℕ} {s : ℕ} → Marked p lasting → FirstsListed p first
+    → again ≡ againFlags p → noOrder devices p ≡ none
     → length p ≤ length old → counts ≡ tallied p (length p) → s ≡ scarceBelow counts devices
-    → Handing p first lasting old old (replicate allPlaces 0) counts (idle s) true 0 0
+    → Handing p first again lasting old old (replicate allPlaces 0) counts (idle s) true 0 0
 unfolding over
-hands-first {p} m l fine room c e =
+hands-first {p} m l a fine room c e =
     let ok = is-accepted p (m .sound) fine in record {
       marked = m;
       listed = l;
+      agains = a;
       ok = ok;
       room = room;
       done = [];
@@ -97,8 +101,8 @@ hands-first {p} m l fine room c e =
       written = refl;
     }
 
-module _ {p first lasting old order places counts : List ℕ} {wa : Waiting} {on : Bool} {i k : ℕ}
-    (h : Handing p first lasting old order places counts wa on i k) where
+module _ {p first again lasting old order places counts : List ℕ} {wa : Waiting} {on : Bool} {i k : ℕ}
+    (h : Handing p first again lasting old order places counts wa on i k) where
   pub same-room : length order ≡ length old
   same-room =
       ap length (h .written)
@@ -126,22 +130,25 @@ module _ {p first lasting old order places counts : List ℕ} {wa : Waiting} {on
 
       -- what doing the line asks
       pub asks : (Marked p lasting × FirstsListed p first × (c .line < length p))
-          × ((length places ≡ allPlaces) × CanFall counts (at p (c .line)))
+          × ((again ≡ againFlags p) × (length places ≡ allPlaces) × CanFall counts (plainAt p (c .line)))
       asks = (
         (h .marked, h .listed, a-line),
         (
+          h .agains,
           h .keeps .shows .long,
           can-fall (h .ok .formed) (h .keeps .counts-all) a-line (next .going .stands .waiting),
         ),
       )
 
       pub hands-on : {r : Waiting} {places′ counts′ : List ℕ} {on′ : Bool} → r ≡ passed p counts (c .others) (c .line)
-          → places′ ≡ replaced p places (c .line) → counts′ ≡ counted counts (at p (c .line)) → on′ ≡ goesOn p (c .line)
-          → Handing p first lasting old (set order k (c .line + 1)) places′ counts′ r on′ (c .line + 1) (k + 1)
+          → places′ ≡ replaced p places (c .line) → counts′ ≡ counted counts (plainAt p (c .line))
+          → on′ ≡ goesOn p (c .line)
+          → Handing p first again lasting old (set order k (c .line + 1)) places′ counts′ r on′ (c .line + 1) (k + 1)
       unfolding lineNumber
       hands-on q a b d = rw (d, b, a, q, add-one (c .line)) (record {
         marked = h .marked;
         listed = h .listed;
+        agains = h .agains;
         ok = h .ok;
         room = h .room;
         done = h .done ++ (c .line ∷ []);

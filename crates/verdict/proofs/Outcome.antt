@@ -26,7 +26,7 @@ module _ (p lent : List ℕ) where
       by-refusal VerdictAnswer.Refused (VerdictAnswer.Held (heldAtEnd devices p))
       (over (map lineNumber (handed p)) lent) lent (verdictRefusal devices p lent) r e
 
-  -- 2 to 8
+  -- 2 to 7
   pub faulty : (r : Refusal) → fault devices p ≡ some r → OrdersAs p lent (VerdictAnswer.Refused r) lent
   unfolding firstRefusal
   faulty r e = refused r (rw e)

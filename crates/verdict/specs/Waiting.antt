@@ -2,7 +2,7 @@
 -- Each other line that stands next waits at a place: a lasting take at the place of its device, any other line at that
 -- of its job. The places taken are two sets, of jobs and of devices, so the lowest is read off a word; a list says
 -- which line waits at each place. Takes still to do are counted by device, and a third set has the devices that at most
--- one of them takes.
+-- one of them takes; lines are counted as they count, so that a take of what its job holds is none (02, request 2).
 use Prim.Native.Nat.{ℕ, zero, suc, _+_, _-_, _%_, _≤_}
 use mathlib.Core.Bool.{Bool, cond, not, _&&_}
 use mathlib.Core.List.{List}
@@ -16,6 +16,7 @@ use Rattle.model.specs.Line.{job, operand, isTake, isStart, at, maxLines, maxJo
 use Rattle.model.specs.Mate.{lastingAt}
 use Rattle.model.specs.WellFormed.{fault}
 use Rattle.model.specs.Board.{devices}
+use Rattle.theory.specs.Outer.{plainAt}
 use Rattle.sets.specs.Only.{onlyOf}
 use Rattle.sets.specs.Both.{both, without}
 use Rattle.plan.specs.Jobs.{firstLines}
@@ -125,7 +126,7 @@ added counts l = set counts (slot l) (getD counts (slot l) 0 + takesOne l)
 -- the takes of each device among the first n lines
 unfoldable pub tallied : List ℕ → ℕ → List ℕ
 tallied p zero = replicate devices 0
-tallied p (suc n) = added (tallied p n) (at p n)
+tallied p (suc n) = added (tallied p n) (plainAt p n)
 
 -- the set of a device, if it comes to be scarce; else no device
 unfoldable pub scarceIf : Bool → ℕ → ℕ
@@ -149,7 +150,7 @@ settled counts w l = record {
 
 -- the sets after line i, which waits at no place, is done
 unfoldable pub passed : List ℕ → List ℕ → Waiting → ℕ → Waiting
-passed p counts w i = arrived p (arrived p (settled counts w (at p i)) (lastingAfter p i)) (startedLine p i)
+passed p counts w i = arrived p (arrived p (settled counts w (plainAt p i)) (lastingAfter p i)) (startedLine p i)
 
 -- and the list of the lines that wait
 unfoldable pub replaced : List ℕ → List ℕ → ℕ → List ℕ

@@ -19,13 +19,14 @@ mod waiting;
 fn decide(
     plan: &[u32],
     first: &[u32; EACH_JOB],
+    again: &[u8; MOST_LINES],
     rows: &[Set; EACH_DEVICE],
     lasting: &[u8; MOST_LINES],
     held: Set,
     twice: Set,
     order: &mut [u16],
 ) -> VerdictAnswer
-    requires { ⌜ Findings (now plan) (now first) (now rows) (now lasting) held twice ⌝ }
+    requires { ⌜ Findings (now plan) (now first) (now again) (now rows) (now lasting) held twice ⌝ }
     ensures { λ r. ⌜ OrdersAs (now (plan .entry)) (now (order .entry)) r (now (order .exit)) ⌝ }
 {
     let n = plan.len();
@@ -40,7 +41,7 @@ fn decide(
     if e < DEVICES {
         return VerdictAnswer::Refused(Refusal::LeadsBack(e));
     }
-    order::hand_out(plan, first, lasting, order);
+    order::hand_out(plan, first, again, lasting, order);
     VerdictAnswer::Held(sets::count(held))
 }
 
@@ -50,10 +51,13 @@ pub fn verdict(plan: &[u32], order: &mut [u16]) -> VerdictAnswer
     ensures { λ r. ⌜ OrdersAs (now (plan .entry)) (now (order .entry)) r (now (order .exit)) ⌝ }
 {
     let mut first = [0u32; EACH_JOB];
+    let mut again = [0u8; MOST_LINES];
     let mut rows = [sets::NONE; EACH_DEVICE];
     let mut lasting = [0u8; MOST_LINES];
-    match rows::holds(plan, &mut first, &mut rows, &mut lasting) {
+    match rows::holds(plan, &mut first, &mut again, &mut rows, &mut lasting) {
         HoldsAnswer::Refused(r) => VerdictAnswer::Refused(r),
-        HoldsAnswer::Made(held, twice) => decide(plan, &first, &rows, &lasting, held, twice, order),
+        HoldsAnswer::Made(held, twice) => {
+            decide(plan, &first, &again, &rows, &lasting, held, twice, order)
+        }
     }
 }

@@ -1,6 +1,7 @@
 // The order handed out (01), in constant work a line. A job goes on, without a look at the others, as long as its next
 // line is no lasting take: it stays the lowest that can go on, since a job starts only higher ones. Every other line
-// that stands next waits at a place, which it leaves to be done.
+// that stands next waits at a place, which it leaves to be done. Takes still to do are counted by lines as they count,
+// so that a take of what its job holds is none (02, request 2).
 use crate::waiting;
 use crate::waiting::PLACES;
 use crate::waiting::Waiting;
@@ -17,11 +18,13 @@ ghost use mathlib.Core.Option.{none};
 ghost use Prim.Native.Nat.{_<_, _≤_};
 ghost use lib.ListN.{length};
 ghost use Rattle.model.specs.Lists.{over};
-ghost use Rattle.model.specs.Line.{lineNumber, at, job};
+ghost use Rattle.model.specs.Line.{lineNumber, job};
 ghost use Rattle.model.specs.WellFormed.{fault};
 ghost use Rattle.model.specs.Handed.{handed};
 ghost use Rattle.model.specs.Verdict.{noOrder};
 ghost use Rattle.model.specs.Board.{devices};
+ghost use Rattle.theory.specs.Outer.{plainAt};
+ghost use Rattle.plan.specs.Again.{againFlags};
 ghost use Rattle.plan.specs.Jobs.{FirstsListed};
 ghost use Rattle.verdict.specs.Waiting.{Marked, allPlaces, waitingPlace, foremost, arrived};
 ghost use Rattle.verdict.specs.Waiting.{placed, followed, goesOn, lastingAfter, startedLine, passed};
@@ -110,9 +113,9 @@ fn started(plan: &[u32], first: &[u32; EACH_JOB], i: usize) -> usize
     plan.len()
 }
 
-// A line is done: if it is a take, one line less takes its device. There is no branch on the verb, which cannot be
-// foretold: of another line nothing is taken off, at whatever entry its operand falls, and no device comes to be
-// scarce.
+// A line, as it counts, is done: if it is a take, one line less takes its device. There is no branch on the verb, which
+// cannot be foretold: of another line nothing is taken off, at whatever entry its operand falls, and no device comes to
+// be scarce.
 fn settle(counts: &mut [u32; EACH_DEVICE], w: Waiting, l: u32) -> Waiting
     requires { ⌜ CanFall (now counts) l ⌝ }
     ensures { λ r. ⌜ r ≡ settled (now (counts .entry)) w l ⌝ }
@@ -133,6 +136,7 @@ fn settle(counts: &mut [u32; EACH_DEVICE], w: Waiting, l: u32) -> Waiting
 fn pass(
     plan: &[u32],
     first: &[u32; EACH_JOB],
+    again: &[u8; MOST_LINES],
     lasting: &[u8; MOST_LINES],
     places: &mut [usize; PLACES],
     counts: &mut [u32; EACH_DEVICE],
@@ -140,12 +144,13 @@ fn pass(
     i: usize,
 ) -> Waiting
     requires { ⌜ Marked (now plan) (now lasting) × FirstsListed (now plan) (now first) × (i < length (now plan)) ⌝ }
-    requires { ⌜ (length (now places) ≡ allPlaces) × CanFall (now counts) (at (now plan) i) ⌝ }
+    requires { ⌜ (now again ≡ againFlags (now plan)) × (length (now places) ≡ allPlaces)
+        × CanFall (now counts) (plainAt (now plan) i) ⌝ }
     ensures { λ r. ⌜ r ≡ passed (now (plan .entry)) (now (counts .entry)) w i ⌝ }
     ensures { λ r. ⌜ now (places .exit) ≡ replaced (now (plan .entry)) (now (places .entry)) i ⌝ }
-    ensures { λ r. ⌜ now (counts .exit) ≡ counted (now (counts .entry)) (at (now (plan .entry)) i) ⌝ }
+    ensures { λ r. ⌜ now (counts .exit) ≡ counted (now (counts .entry)) (plainAt (now (plan .entry)) i) ⌝ }
 {
-    let settled = settle(counts, w, plan[i]);
+    let settled = settle(counts, w, line::plain(plan[i], again[i] == 1));
     let next = lasting_after(plan, lasting, i);
     let followed = arrive(plan, lasting, places, settled, next);
     arrive(plan, lasting, places, followed, started(plan, first, i))
@@ -167,7 +172,7 @@ fn goes_next(places: &[usize; PLACES], w: Waiting, on: bool, i: usize) -> Choice
     }
 }
 
-// A line is counted, if it is a take; there is no branch on the verb here either.
+// A line, as it counts, is counted, if it is a take; there is no branch on the verb here either.
 fn count(counts: &mut [u32; EACH_DEVICE], l: u32)
     requires { ⌜ CanRise (now counts) l ⌝ }
     ensures { λ r. ⌜ now (counts .exit) ≡ added (now (counts .entry)) l ⌝ }
@@ -177,15 +182,15 @@ fn count(counts: &mut [u32; EACH_DEVICE], l: u32)
     counts[d] += takes as u32;
 }
 
-// How many lines take each device.
-fn tally(plan: &[u32]) -> [u32; EACH_DEVICE]
-    requires { ⌜ fault devices (now plan) ≡ none ⌝ }
+// How many lines take each device. `again` has the flags of the lines that take again.
+fn tally(plan: &[u32], again: &[u8; MOST_LINES]) -> [u32; EACH_DEVICE]
+    requires { ⌜ (fault devices (now plan) ≡ none) × (now again ≡ againFlags (now plan)) ⌝ }
     ensures { λ r. ⌜ r ≡ tallied (now (plan .entry)) (length (now (plan .entry))) ⌝ }
 {
     let mut counts = [0u32; EACH_DEVICE];
     let mut i = 0;
     while i < plan.len() {
-        count(&mut counts, plan[i]);
+        count(&mut counts, line::plain(plan[i], again[i] == 1));
         i += 1;
     }
     counts
@@ -208,15 +213,17 @@ fn scarce(counts: &[u32; EACH_DEVICE]) -> Set
 pub fn hand_out(
     plan: &[u32],
     first: &[u32; EACH_JOB],
+    again: &[u8; MOST_LINES],
     lasting: &[u8; MOST_LINES],
     order: &mut [u16],
 )
-    requires { ⌜ Marked (now plan) (now lasting) × FirstsListed (now plan) (now first) ⌝ }
+    requires { ⌜ Marked (now plan) (now lasting) × FirstsListed (now plan) (now first)
+        × (now again ≡ againFlags (now plan)) ⌝ }
     requires { ⌜ (noOrder devices (now plan) ≡ none) × (length (now plan) ≤ length (now order)) ⌝ }
     ensures { λ r. ⌜ now (order .exit) ≡ over (map lineNumber (handed (now (plan .entry)))) (now (order .entry)) ⌝ }
 {
     let mut places = [0usize; PLACES];
-    let mut counts = tally(plan);
+    let mut counts = tally(plan, again);
     let mut w = Waiting {
         ready: sets::NO_JOBS,
         awaited: sets::NONE,
@@ -229,8 +236,9 @@ pub fn hand_out(
     while k < plan.len() {
         let c = goes_next(&places, w, on, i);
         i = c.line;
+        w = c.others;
         order[k] = (i + 1) as u16;
-        w = pass(plan, first, lasting, &mut places, &mut counts, c.others, i);
+        w = pass(plan, first, again, lasting, &mut places, &mut counts, w, i);
         on = goes_on(plan, lasting, i);
         i += 1;
         k += 1;

@@ -19,6 +19,8 @@ use Rattle.model.specs.Claims.{joined}
 use Rattle.model.specs.Move.{rejoined}
 use Rattle.sets.specs.Only.{onlyOf}
 use Rattle.plan.specs.Jobs.{numberOfFirst, firstLines}
+use Rattle.plan.specs.Again.{againFlags}
+use Rattle.plan.proofs.Again.{plain-is}
 use Rattle.theory.proofs.Tests.{test, le-or-lt}
 use Rattle.theory.proofs.Lists.{has-none, has-head}
 use Rattle.theory.proofs.Line.{line-parts, start-of, start-operand}
@@ -134,6 +136,8 @@ module _ (p t : List ℕ) (w : WellFormed devices p) (room : length p ≤ length
       go (inr s) = rw s
 
   -- The theorem: a line's set is joined as `model` joins it.
-  pub rejoined-is : rejoinedBy p (firstLines p) t i ≡ rejoined p t i
+  pub rejoined-is : rejoinedBy p (againFlags p) (firstLines p) t i ≡ rejoined p t i
   unfolding rejoinedBy claimWith ownOf rejoined
-  rejoined-is = cc (own-is devices p i (w .lines i h), beyond-is p t i, next-is, begun-is)
+  rejoined-is =
+      rw (plain-is p (againFlags p) i refl (omega (arith, w .few)))
+      (cc (own-is devices p i (w .lines i h), beyond-is p t i, next-is, begun-is))

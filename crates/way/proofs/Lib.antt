@@ -4,3 +4,4 @@ pub mod Numbered
 pub mod OnWay
 pub mod Joins
 pub mod Kept
+pub mod Unders

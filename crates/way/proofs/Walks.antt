@@ -78,30 +78,31 @@ module _ (p starter : List ℕ) where
 
 -- ---- the search
 
-abbrev pub staleOf : List ℕ → List ℕ → List ℕ → List ℕ → ℕ → Option ℕ
-staleOf p first t starter i = firstOf (staleBy p first t) (wayBy p t starter i)
+abbrev pub staleOf : List ℕ → List ℕ → List ℕ → List ℕ → List ℕ → ℕ → Option ℕ
+staleOf p again first t starter i = firstOf (staleBy p again first t) (wayBy p t starter i)
 
 -- the first stale line on the way is the first from number n on
-module _ (p first t starter : List ℕ) (i n : ℕ)
-    (is : staleOf p first t starter i ≡ firstOf (staleBy p first t) (wayFrom p starter n)) where
-  pub stale-none : n ≤ 0 → Found.Nothing ≡ found (staleOf p first t starter i)
+module _ (p again first t starter : List ℕ) (i n : ℕ)
+    (is : staleOf p again first t starter i ≡ firstOf (staleBy p again first t) (wayFrom p starter n)) where
+  pub stale-none : n ≤ 0 → Found.Nothing ≡ found (staleOf p again first t starter i)
   unfolding firstOf
-  stale-none h = ap found (sym (is ∙ ap (firstOf (staleBy p first t)) (ended p starter n h)))
+  stale-none h = ap found (sym (is ∙ ap (firstOf (staleBy p again first t)) (ended p starter n h)))
 
-  module _ (h : 0 < n) (r : ℕ) (e : r ≡ rejoinedBy p first t (n - 1)) where
-    first-is : staleOf p first t starter i
-        ≡ firstOf (staleBy p first t) ((n - 1) ∷ wayFrom p starter (lineBefore p starter (n - 1)))
-    first-is = is ∙ ap (firstOf (staleBy p first t)) (goes p starter n h)
+  module _ (h : 0 < n) (r : ℕ) (e : r ≡ rejoinedBy p again first t (n - 1)) where
+    first-is : staleOf p again first t starter i
+        ≡ firstOf (staleBy p again first t) ((n - 1) ∷ wayFrom p starter (lineBefore p starter (n - 1)))
+    first-is = is ∙ ap (firstOf (staleBy p again first t)) (goes p starter n h)
 
-    pub stale-here : getD t (n - 1) 0 ≢ r → Found.At (n - 1) ≡ found (staleOf p first t starter i)
+    pub stale-here : getD t (n - 1) 0 ≢ r → Found.At (n - 1) ≡ found (staleOf p again first t starter i)
     unfolding staleBy firstOf
     stale-here ne =
-        rw (first-is, ne-eqb (getD t (n - 1) 0) (rejoinedBy p first t (n - 1)) (λ q. ne (q ∙ sym e)), firstOf)
+        rw (first-is, ne-eqb (getD t (n - 1) 0) (rejoinedBy p again first t (n - 1)) (λ q. ne (q ∙ sym e)), firstOf)
 
     pub stale-on : getD t (n - 1) 0 ≡ r
-        → staleOf p first t starter i ≡ firstOf (staleBy p first t) (wayFrom p starter (lineBefore p starter (n - 1)))
+        → staleOf p again first t starter i ≡ firstOf (staleBy p again first t)
+        (wayFrom p starter (lineBefore p starter (n - 1)))
     unfolding staleBy firstOf
-    stale-on q = first-is ∙ rw (eq-eqb (getD t (n - 1) 0) (rejoinedBy p first t (n - 1)) (q ∙ e), firstOf)
+    stale-on q = first-is ∙ rw (eq-eqb (getD t (n - 1) 0) (rejoinedBy p again first t (n - 1)) (q ∙ e), firstOf)
 
 -- ---- how many sets are others than before
 
@@ -183,17 +184,18 @@ one-rewritten p old t x v h room e =
 
 -- where it stands at number n: what is left to do, from the sets as they are, leads to what all of it does; those
 -- further up are as they were
-pub record Mending (p first starter old : List ℕ) (i : ℕ) (sets : List ℕ) (count n : ℕ) : Type 0 where
+pub record Mending (p again first starter old : List ℕ) (i : ℕ) (sets : List ℕ) (count n : ℕ) : Type 0 where
   pub few : count + n ≤ length p
   pub stored : n ≤ length sets
   pub long : length sets ≡ length old
-  pub leads : mendedBy p first old (wayBy p old starter i) ≡ mendedBy p first sets (wayFrom p starter n)
+  pub leads : mendedBy p again first old (wayBy p old starter i) ≡ mendedBy p again first sets (wayFrom p starter n)
   pub counts : count ≡ changed p old sets
   pub asWere : (k : ℕ) → k < n → getD sets k 0 ≡ getD old k 0
 
-pub mend-start : (p first starter old : List ℕ) (i : ℕ) → Mending p first starter old i old 0 (beginOf p old i)
+pub mend-start : (p again first starter old : List ℕ) (i : ℕ) → Mending p again first starter old i old 0
+    (beginOf p old i)
 unfolding wayBy
-mend-start p first starter old i = record {
+mend-start p again first starter old i = record {
   few = omega (arith, begin-within p old i .inPlan);
   stored = begin-within p old i .stored;
   long = refl;
@@ -202,19 +204,19 @@ mend-start p first starter old i = record {
   asWere = λ k h. refl;
 }
 
-module _ {p first starter old : List ℕ} {i : ℕ} {sets : List ℕ} {count n : ℕ}
-    (d : Mending p first starter old i sets count n) where
+module _ {p again first starter old : List ℕ} {i : ℕ} {sets : List ℕ} {count n : ℕ}
+    (d : Mending p again first starter old i sets count n) where
   one-at-most : (b : Bool) → cond b 1 0 ≤ 1
   one-at-most true = omega arith
   one-at-most false = omega arith
 
   -- a change more still fits the count's number
-  pub mend-fits : (c : ℕ) → c ≡ cond (staleBy p first sets (n - 1)) 1 0 → c ≤ 1
-  mend-fits c e = omega (arith, one-at-most (staleBy p first sets (n - 1)))
+  pub mend-fits : (c : ℕ) → c ≡ cond (staleBy p again first sets (n - 1)) 1 0 → c ≤ 1
+  mend-fits c e = omega (arith, one-at-most (staleBy p again first sets (n - 1)))
 
-  pub mend-on : (next : List ℕ) (c : ℕ) → 0 < n → next ≡ set sets (n - 1) (rejoinedBy p first sets (n - 1))
-      → c ≡ cond (staleBy p first sets (n - 1)) 1 0
-      → Mending p first starter old i next (count + c) (lineBefore p starter (n - 1))
+  pub mend-on : (next : List ℕ) (c : ℕ) → 0 < n → next ≡ set sets (n - 1) (rejoinedBy p again first sets (n - 1))
+      → c ≡ cond (staleBy p again first sets (n - 1)) 1 0
+      → Mending p again first starter old i next (count + c) (lineBefore p starter (n - 1))
   unfolding staleBy mendedBy
   mend-on next c h e q =
       let up = further-up p starter (n - 1) in
@@ -223,8 +225,9 @@ module _ {p first starter old : List ℕ} {i : ℕ} {sets : List ℕ} {count n :
         few = omega (arith, d .few, up, mend-fits c q);
         stored = omega (arith, long′, d .stored, up);
         long = long′ ∙ d .long;
-        leads = d .leads ∙ ap (mendedBy p first sets) (goes p starter n h)
-            ∙ ap (λ (xs : List ℕ). mendedBy p first xs (wayFrom p starter (lineBefore p starter (n - 1)))) (sym e);
+        leads = d .leads ∙ ap (mendedBy p again first sets) (goes p starter n h)
+            ∙ ap (λ (xs : List ℕ). mendedBy p again first xs (wayFrom p starter (lineBefore p starter (n - 1))))
+            (sym e);
         counts = omega (
           arith,
           d .counts,
@@ -238,9 +241,9 @@ module _ {p first starter old : List ℕ} {i : ℕ} {sets : List ℕ} {count n :
       }
     where
       v : ℕ
-      v = rejoinedBy p first sets (n - 1)
+      v = rejoinedBy p again first sets (n - 1)
 
   pub mend-end : n ≤ 0
-      → (sets ≡ mendedBy p first old (wayBy p old starter i)) × (count ≡ changed p old sets)
+      → (sets ≡ mendedBy p again first old (wayBy p old starter i)) × (count ≡ changed p old sets)
   unfolding mendedBy
-  mend-end h = (sym (d .leads ∙ ap (mendedBy p first sets) (ended p starter n h)), d .counts)
+  mend-end h = (sym (d .leads ∙ ap (mendedBy p again first sets) (ended p starter n h)), d .counts)

@@ -1,10 +1,11 @@
--- 01, "Moving a claim": the way as the code walks it, from line number to line number. (That with the tables of a
--- well-formed plan this is the way of `model` is shown in proofs/.)
+-- 01, "Moving a claim": the way as the code walks it, from line number to line number; and the lines under a take (02,
+-- request 2). (That with the tables of a well-formed plan these are the lines of `model` is shown in proofs/.)
 use Prim.Native.Nat.{ℕ, zero, suc, _-_}
 use mathlib.Core.Bool.{cond, _&&_}
 use mathlib.Core.List.{List, [], _∷_}
-use lib.Dec.{eqb, ltb}
+use lib.Dec.{eqb, leb, ltb}
 use lib.ListN.{length, getD}
+use Rattle.model.specs.Lists.{upFrom}
 use Rattle.model.specs.Line.{job, at}
 
 -- After the line at i the way goes on at the line with this number, and ends at 0. It goes to the line before, if that
@@ -33,3 +34,8 @@ beginOf p t i = cond (ltb i (length p) && ltb i (length t)) (suc i) 0
 unfoldable pub wayBy : List ℕ → List ℕ → List ℕ → ℕ → List ℕ
 unfolding beginOf walked
 wayBy p t starter i = wayFrom p starter (beginOf p t i)
+
+-- the lines after the line at i and before position stop; none where the plan or the table does not go so far
+unfoldable pub underBy : List ℕ → List ℕ → ℕ → ℕ → List ℕ
+unfolding upFrom
+underBy p t i stop = upFrom (suc i) (cond (leb stop (length p) && leb stop (length t)) stop 0 - suc i)

@@ -1,5 +1,6 @@
 -- 01, "Moving a claim": a line's set, joined from those that a table stores for its successors, as the code joins it;
--- by that, stale lines and the sets rewritten. `first` has the number of each job's first line.
+-- by that, stale lines and the sets rewritten. `first` has the number of each job's first line, `again` the flags of
+-- the lines that take again (02, request 2).
 use Prim.Native.Nat.{ℕ, suc}
 use mathlib.Core.Bool.{Bool, cond, not}
 use mathlib.Core.List.{List, [], _∷_}
@@ -7,6 +8,7 @@ use lib.Dec.{eqb}
 use lib.ListN.{getD, set}
 use Rattle.model.specs.Sets.{empty}
 use Rattle.model.specs.Line.{job, operand, isStart, at}
+use Rattle.theory.specs.Outer.{plain}
 use Rattle.claims.specs.Claim.{claimWith}
 
 -- the set of the next line of the job; none where that is of another job, as 0 past the end is
@@ -20,16 +22,17 @@ unfolding isStart operand empty
 begunSet l t first = cond (isStart l) (getD (empty ∷ t) (getD first (operand l) 0) 0) empty
 
 -- the set that the line at i should have
-unfoldable pub rejoinedBy : List ℕ → List ℕ → List ℕ → ℕ → ℕ
-unfolding claimWith nextSet begunSet
-rejoinedBy p first t i = claimWith (at p i) (nextSet p t i) (begunSet (at p i) t first)
+unfoldable pub rejoinedBy : List ℕ → List ℕ → List ℕ → List ℕ → ℕ → ℕ
+unfolding claimWith plain nextSet begunSet
+rejoinedBy p again first t i =
+    claimWith (plain (eqb (getD again i 0) 1) (at p i)) (nextSet p t i) (begunSet (at p i) t first)
 
-unfoldable pub staleBy : List ℕ → List ℕ → List ℕ → ℕ → Bool
+unfoldable pub staleBy : List ℕ → List ℕ → List ℕ → List ℕ → ℕ → Bool
 unfolding rejoinedBy
-staleBy p first t i = not (eqb (getD t i 0) (rejoinedBy p first t i))
+staleBy p again first t i = not (eqb (getD t i 0) (rejoinedBy p again first t i))
 
 -- the table with the sets at some positions rewritten, one after the other
-unfoldable pub mendedBy : List ℕ → List ℕ → List ℕ → List ℕ → List ℕ
+unfoldable pub mendedBy : List ℕ → List ℕ → List ℕ → List ℕ → List ℕ → List ℕ
 unfolding rejoinedBy
-mendedBy p first t [] = t
-mendedBy p first t (i ∷ is) = mendedBy p first (set t i (rejoinedBy p first t i)) is
+mendedBy p again first t [] = t
+mendedBy p again first t (i ∷ is) = mendedBy p again first (set t i (rejoinedBy p again first t i)) is

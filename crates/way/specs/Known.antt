@@ -1,5 +1,6 @@
 -- What is known where the way is walked for a move (01, "Moving a claim"): the plan is well-formed, its scan has left
--- the first line of each job and the line that starts it, and the table has a set for each line.
+-- the first line of each job, the line that starts it and the flags of the lines that take again, and the table has a
+-- set for each line.
 use Prim.Native.Nat.{ℕ, _≤_}
 use mathlib.Core.List.{List}
 use mathlib.Core.Path.{_≡_}
@@ -7,12 +8,14 @@ use lib.ListN.{length}
 use Rattle.model.specs.Board.{devices}
 use Rattle.model.specs.WellFormed.{WellFormed}
 use Rattle.plan.specs.Jobs.{firstLines, starters}
+use Rattle.plan.specs.Again.{againFlags}
 
-pub record Scanned (p first starter : List ℕ) : Type 0 where
+pub record Scanned (p first starter again : List ℕ) : Type 0 where
   pub wellFormed : WellFormed devices p
   pub firsts : first ≡ firstLines p
   pub starts : starter ≡ starters p
+  pub agains : again ≡ againFlags p
 
-pub record Known (p t first starter : List ℕ) : Type 0 where
-  pub scan : Scanned p first starter
+pub record Known (p t first starter again : List ℕ) : Type 0 where
+  pub scan : Scanned p first starter again
   pub room : length p ≤ length t

@@ -1,20 +1,21 @@
 // The way of a line (01, "Moving a claim"): back through its job to that job's top, across to where another job starts
-// it, and on in the same manner. It is walked from line to line, by tables of the first line of each job and of the
-// line that starts it, as `plan::scan` fills them, so that no line off the way is looked at. Each function answers for
-// any tables.
+// it, and on in the same manner; and the lines under a take (02, request 2). The way is walked from line to line, by
+// tables of the first line of each job and of the line that starts it, as `plan::scan` fills them, so that no line off
+// the way is looked at; lines that take again are told by its flags. Each function answers for any tables and flags.
 use board::Set;
 use mates::Found;
 ghost use mathlib.Core.Path.{_≡_};
 ghost use mathlib.Core.Bool.{cond};
 ghost use mathlib.Core.List.{_∷_};
 ghost use Prim.Native.Nat.{_≤_, _<_};
+ghost use lib.Dec.{eqb};
 ghost use lib.ListN.{length, getD, set};
 ghost use Rattle.model.specs.Lists.{firstOf};
 ghost use Rattle.model.specs.Sets.{empty};
 ghost use Rattle.model.specs.Line.{at};
 ghost use Rattle.model.specs.Move.{changed};
 ghost use Rattle.mates.specs.Found.{found};
-ghost use Rattle.way.specs.Back.{lineBefore, beginOf, wayBy};
+ghost use Rattle.way.specs.Back.{lineBefore, beginOf, wayBy, underBy};
 ghost use Rattle.way.specs.Join.{nextSet, begunSet, rejoinedBy, staleBy, mendedBy};
 
 // What a plan or a table of line numbers has at a place; 0, which is no line and no line's number, past its end.
@@ -107,26 +108,46 @@ fn begun_set(l: u32, sets: &[Set], first: &[u32]) -> Set
     sets::NONE
 }
 
+// Does the line at a place take again, or give such a take back? Not past the flags' end.
+fn flagged(again: &[u8], k: usize) -> bool
+    ensures { λ r. ⌜ r ≡ eqb (getD (now (again .entry)) k 0) 1 ⌝ }
+{
+    if k < again.len() {
+        return again[k] == 1;
+    }
+    false
+}
+
 // The set that the line at i should have.
-fn rejoined(plan: &[u32], sets: &[Set], i: usize, first: &[u32]) -> Set
+fn rejoined(plan: &[u32], again: &[u8], sets: &[Set], i: usize, first: &[u32]) -> Set
     requires { ⌜ i < length (now plan) ⌝ }
-    ensures { λ r. ⌜ r ≡ rejoinedBy (now (plan .entry)) (now (first .entry)) (now (sets .entry)) i ⌝ }
+    ensures { λ r. ⌜ r
+        ≡ rejoinedBy (now (plan .entry)) (now (again .entry)) (now (first .entry)) (now (sets .entry)) i ⌝ }
 {
     let l = plan[i];
-    claims::joined(l, next_set(plan, sets, i), begun_set(l, sets, first))
+    let counts = line::plain(l, flagged(again, i));
+    claims::joined(counts, next_set(plan, sets, i), begun_set(l, sets, first))
 }
 
 // ---- along the way
 
 // The nearest stale line, going back along the way of the line at i.
-pub fn stale_line(plan: &[u32], sets: &[Set], i: usize, first: &[u32], starter: &[u32]) -> Found
-    ensures { λ r. ⌜ r ≡ found (firstOf (staleBy (now (plan .entry)) (now (first .entry)) (now (sets .entry)))
+pub fn stale_line(
+    plan: &[u32],
+    again: &[u8],
+    sets: &[Set],
+    i: usize,
+    first: &[u32],
+    starter: &[u32],
+) -> Found
+    ensures { λ r. ⌜ r ≡ found (firstOf
+        (staleBy (now (plan .entry)) (now (again .entry)) (now (first .entry)) (now (sets .entry)))
         (wayBy (now (plan .entry)) (now (sets .entry)) (now (starter .entry)) i)) ⌝ }
 {
     let mut next = begin(plan, sets, i);
     while 0 < next {
         let k = next - 1;
-        if sets[k] != rejoined(plan, sets, k, first) {
+        if sets[k] != rejoined(plan, again, sets, k, first) {
             return Found::At(k);
         }
         next = line_before(plan, k, starter);
@@ -134,22 +155,57 @@ pub fn stale_line(plan: &[u32], sets: &[Set], i: usize, first: &[u32], starter: 
     Found::Nothing
 }
 
-// Rewrites the set of the line at i; 1 where it was stale, else 0.
-fn mend(plan: &[u32], sets: &mut [Set], i: usize, first: &[u32]) -> usize
-    requires { ⌜ (i < length (now plan)) × (i < length (now sets)) ⌝ }
-    ensures mended { λ r. ⌜ now (sets .exit)
-        ≡ set (now (sets .entry)) i (rejoinedBy (now (plan .entry)) (now (first .entry)) (now (sets .entry)) i) ⌝ }
-    ensures counted { λ r. ⌜ r ≡ cond (staleBy (now (plan .entry)) (now (first .entry)) (now (sets .entry)) i) 1 0 ⌝ }
+// The nearest stale line after the line at i and before position `stop`.
+pub fn stale_under(
+    plan: &[u32],
+    again: &[u8],
+    sets: &[Set],
+    i: usize,
+    stop: usize,
+    first: &[u32],
+) -> Found
+    ensures { λ r. ⌜ r ≡ found (firstOf
+        (staleBy (now (plan .entry)) (now (again .entry)) (now (first .entry)) (now (sets .entry)))
+        (underBy (now (plan .entry)) (now (sets .entry)) i stop)) ⌝ }
 {
-    let s = rejoined(plan, sets, i, first);
+    if (plan.len() < stop) | (sets.len() < stop) | (stop <= i) {
+        return Found::Nothing;
+    }
+    let mut u = i + 1;
+    while u < stop {
+        if sets[u] != rejoined(plan, again, sets, u, first) {
+            return Found::At(u);
+        }
+        u += 1;
+    }
+    Found::Nothing
+}
+
+// Rewrites the set of the line at i; 1 where it was stale, else 0.
+fn mend(plan: &[u32], again: &[u8], sets: &mut [Set], i: usize, first: &[u32]) -> usize
+    requires { ⌜ (i < length (now plan)) × (i < length (now sets)) ⌝ }
+    ensures mended { λ r. ⌜ now (sets .exit) ≡ set (now (sets .entry)) i
+        (rejoinedBy (now (plan .entry)) (now (again .entry)) (now (first .entry)) (now (sets .entry)) i) ⌝ }
+    ensures counted { λ r. ⌜ r
+        ≡ cond (staleBy (now (plan .entry)) (now (again .entry)) (now (first .entry)) (now (sets .entry)) i) 1 0 ⌝ }
+{
+    let s = rejoined(plan, again, sets, i, first);
     let old = sets[i];
     sets[i] = s;
     (old != s) as usize
 }
 
 // Rewrites the sets on the way of the line at i, and counts those that are another than before.
-pub fn mend_way(plan: &[u32], sets: &mut [Set], i: usize, first: &[u32], starter: &[u32]) -> usize
-    ensures mended { λ r. ⌜ now (sets .exit) ≡ mendedBy (now (plan .entry)) (now (first .entry)) (now (sets .entry))
+pub fn mend_way(
+    plan: &[u32],
+    again: &[u8],
+    sets: &mut [Set],
+    i: usize,
+    first: &[u32],
+    starter: &[u32],
+) -> usize
+    ensures mended { λ r. ⌜ now (sets .exit)
+        ≡ mendedBy (now (plan .entry)) (now (again .entry)) (now (first .entry)) (now (sets .entry))
         (wayBy (now (plan .entry)) (now (sets .entry)) (now (starter .entry)) i) ⌝ }
     ensures counted { λ r. ⌜ r ≡ changed (now (plan .entry)) (now (sets .entry)) (now (sets .exit)) ⌝ }
 {
@@ -157,7 +213,7 @@ pub fn mend_way(plan: &[u32], sets: &mut [Set], i: usize, first: &[u32], starter
     let mut next = begin(plan, sets, i);
     while 0 < next {
         let k = next - 1;
-        count += mend(plan, sets, k, first);
+        count += mend(plan, again, sets, k, first);
         next = line_before(plan, k, starter);
     }
     count

@@ -37,7 +37,7 @@ module _ (p lent : List ℕ) where
   refused r e =
       by-refusal WriteAnswer.Refused (WriteAnswer.Bytes (length (textOf p))) (over (textOf p) lent) lent tests r e
 
-  -- 2 to 8
+  -- 2 to 7
   pub faulty : (r : Refusal) → fault devices p ≡ some r → WritesAs p lent (WriteAnswer.Refused r) lent
   unfolding tests firstRefusal
   faulty r e = refused r (rw e)

@@ -2,6 +2,7 @@
 //! stale tables, orders that are legal and orders that are not. A version that refused differently would not be one to
 //! hold times against.
 
+use crate::again::{deep, take_again};
 use crate::sides::{FAST, OURS};
 use bench::fast;
 use second::elsewhere::{damaged, mixed};
@@ -42,16 +43,28 @@ pub fn compare(random: &mut Random) -> Result<Counts, String> {
     Ok(counts)
 }
 
-/// A well-formed plan, of a few lines or of up to 1,024; about one in eight is a ring.
+/// A well-formed plan, of a few lines or of up to 1,024. About one in eight is a ring, and in about every other one
+/// jobs take again what they hold.
 fn any_plan(random: &mut Random) -> Vec<u32> {
-    if random.once_in(8) {
+    let most = random.one_of(&[8, 40, 300, 1_024]);
+    if random.once_in(64) {
+        return pack(&deep(random, most));
+    }
+    let mut lines = if random.once_in(8) {
         let length = 1 + random.below(5);
         let cut = random.one_of(&[Cut::Whole, Cut::LeftOut, Cut::GivenBack]);
-        return pack(&ring(random, length, cut));
+        ring(random, length, cut)
+    } else {
+        let wish = wish(random, most, 64, 32);
+        plan(random, wish)
+    };
+    let times = if random.once_in(2) && !lines.is_empty() { random.below(30) } else { 0 };
+    for _ in 0..times {
+        if lines.len() + 2 <= 1_024 {
+            take_again(random, &mut lines);
+        }
     }
-    let most = random.one_of(&[8, 40, 300, 1_024]);
-    let wish = wish(random, most, 64, 32);
-    pack(&plan(random, wish))
+    pack(&lines)
 }
 
 /// One byte other, more or less, or far too many; another verb; or too many lines of the last job.
@@ -178,6 +191,11 @@ fn compare_move(
             break;
         }
         line = random.below(plan.len() + 2);
+    }
+    let mut table = table.to_vec();
+    // A line under the take, perhaps, has a set that is stale, while all sets on the way may be right.
+    if let Some(set) = table.get_mut(line + random.below(8)).filter(|_| random.once_in(8)) {
+        *set ^= 1 << random.below(32);
     }
     let room = if random.once_in(8) { random.below(table.len() + 1) } else { table.len() };
     let side = |entry: fn(&mut [u32], &mut [u32], u32, u32) -> u64| {

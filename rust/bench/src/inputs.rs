@@ -1,6 +1,7 @@
 //! What both sides are given: accepted plans, the same as text and as packed numbers, orders to judge, and lists of
 //! moves.
 
+use crate::again::lengthen;
 use bench::fast;
 use second::elsewhere::mixed;
 use second::line::{pack, Line, Verb};
@@ -84,6 +85,8 @@ pub struct Move {
 /// The inputs of one size.
 pub struct Inputs {
     pub lines: usize,
+    /// Whether jobs take again what they hold.
+    pub again: bool,
     pub plans: Vec<Input>,
     pub moves: Vec<Move>,
 }
@@ -92,36 +95,46 @@ pub struct Inputs {
 #[derive(Default)]
 pub struct Make {
     pub plans: usize,
+    pub takes: usize,
+    pub again: usize,
     pub lasting: usize,
-    pub pairs: usize,
-    pub deepest_pair: usize,
+    pub deepest_take: usize,
     pub deepest_start: usize,
 }
 
+/// A plan of so many lines, which has an order. Where takes of what the job holds are put in, the others are so many
+/// fewer that about a fifth of all takes are such.
+fn made(random: &mut Random, lines: usize, again: bool) -> Vec<Line> {
+    let wish = Wish {
+        lines: if again { lines * 7 / 8 } else { lines },
+        jobs: JOBS,
+        devices: DEVICES,
+        single: true,
+        rising: true,
+        lasting: 6,
+        again: 0,
+    };
+    let mut plan = plan(random, wish);
+    lengthen(random, &mut plan, lines);
+    plan
+}
+
 impl Inputs {
-    pub fn new(random: &mut Random, lines: usize) -> (Inputs, Make) {
+    pub fn new(random: &mut Random, lines: usize, again: bool) -> (Inputs, Make) {
         let mut make = Make::default();
         let mut plans = Vec::new();
         let mut for_orders = random.clone();
         while plans.len() < LINES / lines {
-            let wish = Wish {
-                lines,
-                jobs: JOBS,
-                devices: DEVICES,
-                single: true,
-                rising: true,
-                lasting: 6,
-            };
-            let lines = plan(random, wish);
-            // The wish makes plans that have an order; one that had none would be no input for these times.
-            if let Some(input) = Input::new(&mut for_orders, &lines) {
-                make.add(&lines);
+            let made = made(random, lines, again);
+            // One that had no order would be no input for these times.
+            if let Some(input) = Input::new(&mut for_orders, &made) {
+                make.add(&made);
                 plans.push(input);
             }
         }
         make.plans = plans.len();
         let moves = (0..MOVES).map(|at| Move::new(random, at % plans.len(), &plans)).collect();
-        (Inputs { lines, plans, moves }, make)
+        (Inputs { lines, again, plans, moves }, make)
     }
 }
 
@@ -155,26 +168,35 @@ impl Move {
 impl Make {
     fn add(&mut self, lines: &[Line]) {
         let mut depth_of_job = [0; JOBS + 1];
-        let (mut present, mut open) = (0, 0);
-        for line in lines {
-            if line.job != present {
-                self.lasting += open;
-                (present, open) = (line.job, 0);
-            }
-            match line.verb {
-                Verb::Do(_) => {}
-                Verb::Take(_) => open += 1,
-                Verb::Give(_) => {
-                    open -= 1;
-                    self.pairs += 1;
-                }
-                Verb::Start(job) => {
-                    depth_of_job[usize::from(job)] = depth_of_job[usize::from(present)] + 1
+        for job in lines.chunk_by(|one, next| one.job == next.job) {
+            self.add_job(job);
+            let depth = depth_of_job[usize::from(job[0].job)];
+            for line in job {
+                if let Verb::Start(started) = line.verb {
+                    depth_of_job[usize::from(started)] = depth + 1;
                 }
             }
-            self.deepest_pair = self.deepest_pair.max(open);
         }
-        self.lasting += open;
         self.deepest_start = self.deepest_start.max(depth_of_job.into_iter().max().unwrap_or(0));
+    }
+
+    /// What one job takes: the devices of its takes that wait for their gives are kept, and which of them it took
+    /// again.
+    fn add_job(&mut self, lines: &[Line]) {
+        let mut in_hand: Vec<(u8, bool)> = Vec::new();
+        for line in lines {
+            match line.verb {
+                Verb::Take(device) => {
+                    let again = in_hand.iter().any(|&(held, _)| held == device);
+                    in_hand.push((device, again));
+                    self.takes += 1;
+                    self.again += usize::from(again);
+                }
+                Verb::Give(_) => drop(in_hand.pop()),
+                _ => {}
+            }
+            self.deepest_take = self.deepest_take.max(in_hand.len());
+        }
+        self.lasting += in_hand.iter().filter(|(_, again)| !again).count();
     }
 }

@@ -3,6 +3,7 @@
 //! Answers and lent lists are compared in every round; a difference ends the run with exit status 1. The seed is taken
 //! from the environment variable SEED, the number of rounds from ROUNDS; without them fixed ones are used.
 
+mod again;
 mod damaged;
 mod inputs;
 mod report;
@@ -17,7 +18,8 @@ use std::time::Duration;
 
 const SEED: u64 = 20_260_418;
 const ROUNDS: usize = 301;
-const SIZES: [usize; 3] = [256, 512, 1_024];
+/// The lines of the plans, and whether their jobs take again what they hold.
+const SIZES: [(usize, bool); 4] = [(256, true), (512, true), (1_024, true), (1_024, false)];
 const ENTRIES: [Entry; 8] = [
     Entry::Read,
     Entry::Write,
@@ -74,8 +76,8 @@ fn run(seed: u64, rounds: usize) -> Result<Report, String> {
     let mut random = Random::new(seed);
     let mut report = Report { tried: damaged::compare(&mut random)?, ..Report::default() };
     let mut sizes = Vec::new();
-    for lines in SIZES {
-        let (inputs, make) = Inputs::new(&mut random, lines);
+    for (lines, again) in SIZES {
+        let (inputs, make) = Inputs::new(&mut random, lines, again);
         report.makes.push((lines, make));
         sizes.push(inputs);
     }

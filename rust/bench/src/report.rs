@@ -10,6 +10,7 @@ use std::time::Duration;
 /// What one entry took at one size: nanoseconds a call, of both sides, round by round.
 pub struct OfSize {
     lines: usize,
+    again: bool,
     ours: Vec<f64>,
     fast: Vec<f64>,
     /// The answers of the last round.
@@ -45,11 +46,20 @@ impl Figures {
     pub fn new(entry: Entry, sizes: &[Inputs]) -> Figures {
         let of_size = |inputs: &Inputs| OfSize {
             lines: inputs.lines,
+            again: inputs.again,
             ours: Vec::new(),
             fast: Vec::new(),
             answers: Vec::new(),
         };
         Figures { entry, sizes: sizes.iter().map(of_size).collect() }
+    }
+}
+
+/// How many of the takes are of what the job holds.
+fn share(again: bool) -> &'static str {
+    match again {
+        true => "a fifth",
+        false => "none",
     }
 }
 
@@ -73,19 +83,20 @@ impl Report {
     pub fn print(&self) {
         for (lines, make) in &self.makes {
             println!(
-                "- {lines} lines: {} plans, together {} lasting takes and {} pairs, up to {} takes open at once, \
-                 starts up to {} deep",
-                make.plans, make.lasting, make.pairs, make.deepest_pair, make.deepest_start
+                "- {lines} lines: {} plans, together {} takes, {} of what the job holds and {} lasting, up to {} open \
+                 at once, starts up to {} deep",
+                make.plans, make.takes, make.again, make.lasting, make.deepest_take, make.deepest_start
             );
         }
         println!(
-            "\n| entry | lines | ours, ns | fast, ns | ours/fast |\n|---|---:|---:|---:|---:|"
+            "\n| entry | lines | taken again | ours, ns | fast, ns | ours/fast |\n|---|---:|---|---:|---:|---:|"
         );
         for Figures { entry, sizes } in &self.figures {
-            for OfSize { lines, ours, fast, .. } in sizes {
+            for OfSize { lines, again, ours, fast, .. } in sizes {
                 let ratio = ratio(ours, fast);
-                let (ours, fast) = (median(ours.clone()), median(fast.clone()));
-                println!("| {entry} | {lines} | {ours:.0} | {fast:.0} | {ratio:.2} |");
+                let (again, ours, fast) =
+                    (share(*again), median(ours.clone()), median(fast.clone()));
+                println!("| {entry} | {lines} | {again} | {ours:.0} | {fast:.0} | {ratio:.2} |");
             }
         }
         self.print_growth();
@@ -105,17 +116,16 @@ impl Report {
         }
     }
 
-    /// By how much each entry's time grows from the smallest plans to the largest.
+    /// By how much each entry's time grows from the smallest plans to the largest of the same kind.
     fn print_growth(&self) {
-        let (Some(least), Some(most)) = (self.makes.first(), self.makes.last()) else {
-            return;
-        };
-        println!("\n| entry | {} to {} lines, ours | fast |\n|---|---:|---:|", least.0, most.0);
+        println!("\n| entry | lines | ours | fast |\n|---|---|---:|---:|");
         for Figures { entry, sizes } in &self.figures {
-            if let (Some(small), Some(large)) = (sizes.first(), sizes.last()) {
+            let mut alike = sizes.iter().filter(|of| of.again);
+            if let (Some(small), Some(large)) = (alike.next(), alike.next_back()) {
                 let (ours, fast) =
                     (ratio(&large.ours, &small.ours), ratio(&large.fast, &small.fast));
-                println!("| {entry} | {ours:.2} | {fast:.2} |");
+                let (from, to) = (small.lines, large.lines);
+                println!("| {entry} | {from} to {to} | {ours:.2} | {fast:.2} |");
             }
         }
     }
@@ -131,7 +141,8 @@ impl Report {
             }
             let words: Vec<String> =
                 counts.iter().map(|(&number, &count)| came_out(number, count)).collect();
-            println!("- {} lines: {}", of.lines, words.join(", "));
+            let (lines, again) = (of.lines, share(of.again));
+            println!("- {lines} lines, {again} taken again: {}", words.join(", "));
         }
     }
 }

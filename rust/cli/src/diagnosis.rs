@@ -4,6 +4,7 @@
 mod astray;
 mod entry;
 mod faults;
+mod inner;
 mod moves;
 mod no_order;
 mod text;

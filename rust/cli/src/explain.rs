@@ -53,15 +53,22 @@ fn of_job(plan: &Plan, holds: &Holds, job: u8, names: &Names) -> String {
     let mut out = format!("\nJob {job}, {stands}, {started}:\n");
     let takes: Vec<_> = lines.iter().filter(|(_, step)| step.verb == Verb::Take).collect();
     for (line, step) in &takes {
-        let until = match holds.mate(*line) {
-            Some(give) => format!("to line {give}"),
-            None => "to the end".to_string(),
-        };
-        let device = names.words(step.operand);
-        out.push_str(&format!("  holds {device} from line {line} {until}\n"));
+        out.push_str(&format!("  {}\n", of_take(holds, *line, &names.words(step.operand))));
     }
     if takes.is_empty() {
         out.push_str("  holds no device\n");
     }
     out
+}
+
+/// What a take does: an outermost one has its device held up to its give or to the end, any other takes it again.
+fn of_take(holds: &Holds, line: u16, device: &str) -> String {
+    match (holds.takes_again(line), holds.mate(line)) {
+        (false, Some(give)) => format!("holds {device} from line {line} to line {give}"),
+        (false, None) => format!("holds {device} from line {line} to the end"),
+        (true, Some(give)) => {
+            format!("takes {device} again from line {line} to line {give}, and holds it on")
+        }
+        (true, None) => format!("takes {device} again in line {line}, without a give for it"),
+    }
 }

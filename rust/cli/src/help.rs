@@ -38,20 +38,24 @@ fn more(kind: Kind) -> &'static str {
              stay held, and then the line numbers in their order; or `refused`, number and place. What is wrong is\n\
              said in words on standard error. The answers for several files come one after the other, in the files'\n\
              order and without their names.\n\n  \
-             --steps   prints a table of the steps in their order instead\n"
+             --steps   prints a table of the steps in their order instead: `again` marks a take of what the job\n\
+             \x20           holds, `inner` a give after which it still holds the device\n"
         }
         Kind::Explain => {
             "Of a plan that is refused it shows the lines concerned, says what is wrong and how it could be mended.\n\
-             Of a plan that is accepted it says, job by job, which device is held from which line to which.\n"
+             Of a plan that is accepted it says, job by job, which device is held from which line to which, and where\n\
+             the job takes again what it holds.\n"
         }
         Kind::Table => {
             "A line claims the devices that it takes itself and those that are taken behind it: further down in its\n\
-             job, and in the jobs that are started there. A plan without an order has such a table too.\n"
+             job, and in the jobs that are started there. What its job holds it can take again, but does not claim. A\n\
+             plan without an order has such a table too.\n"
         }
         Kind::Move => {
             "The take in LINE, and its give, get DEVICE: a number, or a name of --names (a number is never taken for\n\
              a name). Standard output gets the edited plan; how many sets of claims have changed is said on standard\n\
-             error. A plan without an order can be moved too.\n\n  \
+             error, and which takes are now of what their job holds, or no longer. A plan without an order can be\n\
+             moved too.\n\n  \
              --in-place   replaces the file, whole or not at all, and prints no plan\n"
         }
         Kind::Check => "A line for each file: `accepted` with its counts, or `refused` with number, place and words.\n",

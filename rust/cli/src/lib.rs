@@ -24,6 +24,7 @@ pub mod order;
 pub mod output;
 pub mod replace;
 pub mod shown;
+pub mod steps;
 pub mod style;
 pub mod table;
 pub mod trouble;

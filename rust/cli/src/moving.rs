@@ -8,7 +8,7 @@ use crate::names::{is_whole, Names};
 use crate::replace::{replace, replaceable};
 use crate::shown;
 use crate::trouble::Trouble;
-use crate::words::counted;
+use crate::words::{counted, few};
 use gimmerskip::{Plan, Refusal, Tabled};
 use std::ffi::OsStr;
 
@@ -20,7 +20,9 @@ pub fn run(desk: &mut Desk, asked: &Move) -> Result<(), Trouble> {
         can_be_replaced(&asked.file)?;
     }
     let text = desk.input.plan(&asked.file)?;
-    let Some((plan, count)) = moved(desk, &text, &line, &device) else { return Ok(()) };
+    let Some(before) = plan(desk, &text) else { return Ok(()) };
+    let moved = moved(desk, &text, before.clone(), &line, &device);
+    let Some((plan, count)) = moved else { return Ok(()) };
     if !asked.in_place {
         desk.out.put(plan.text().as_bytes())?;
     } else if plan.text().as_bytes() != text.bytes {
@@ -28,6 +30,7 @@ pub fn run(desk: &mut Desk, asked: &Move) -> Result<(), Trouble> {
     }
     let sets = counted(count, "set");
     desk.say(&format!("{}: {sets} of claims changed\n", text.name));
+    say_what_is_taken_again(desk, &text.name, &before, &plan);
     say_if_without_order(desk, &text.name, &plan);
     Ok(())
 }
@@ -41,6 +44,25 @@ fn can_be_replaced(file: &OsStr) -> Result<(), Trouble> {
     replaceable(file)
 }
 
+/// Another device can make a take one of what its job holds, or make it no such take any more: of the moved line, and
+/// of those under it. Both are allowed; but whoever mistook the device may want to know.
+fn say_what_is_taken_again(desk: &mut Desk, name: &str, before: &Plan, after: &Plan) {
+    let again = [before, after].map(|plan| {
+        let holds = plan.holds();
+        let lines = 1..=plan.len() as u16;
+        lines.filter(|&line| holds.takes_again(line)).collect::<Vec<u16>>()
+    });
+    for (now, then, word) in [(1, 0, "now"), (0, 1, "no longer")] {
+        let lines = again[now].iter().copied().filter(|line| !again[then].contains(line));
+        let lines: Vec<u16> = lines.collect();
+        let (take, its) = if lines.len() == 1 { ("takes", "its") } else { ("take", "their") };
+        if !lines.is_empty() {
+            let lines = few("line", &lines);
+            desk.say(&format!("{name}: {lines} {word} {take} again what {its} job holds\n"));
+        }
+    }
+}
+
 /// A move is done whether or not there is an order afterwards; but whoever asked for it may want to know.
 fn say_if_without_order(desk: &mut Desk, name: &str, plan: &Plan) {
     let Err(refusal) = plan.verdict() else { return };
@@ -50,22 +72,29 @@ fn say_if_without_order(desk: &mut Desk, name: &str, plan: &Plan) {
     desk.say(&format!("{name}: the edited plan has no order: {head}\n"));
 }
 
+/// The plan before the move; or the words of a refusal are said.
+fn plan(desk: &mut Desk, text: &Text) -> Option<Plan> {
+    let plan = Plan::from_text(&text.bytes);
+    if let Err(refusal) = plan {
+        let refused = diagnosis::of_text(text, refusal, &desk.names);
+        desk.say_refusal(text, &refused);
+    }
+    plan.ok()
+}
+
 /// The plan after the move, and how many sets have changed; or the words of a refusal are said.
-fn moved(desk: &mut Desk, text: &Text, line: &Number, device: &Number) -> Option<(Plan, usize)> {
-    let plan = match Plan::from_text(&text.bytes) {
-        Ok(plan) => plan,
-        Err(refusal) => {
-            let refused = diagnosis::of_text(text, refusal, &desk.names);
-            desk.say_refusal(text, &refused);
-            return None;
-        }
-    };
+fn moved(
+    desk: &mut Desk,
+    text: &Text,
+    plan: Plan,
+    line: &Number,
+    device: &Number,
+) -> Option<(Plan, usize)> {
     let mut tabled = Tabled::new(plan);
     match tabled.move_claim(line.asked, device.asked) {
         Ok(count) => Some((tabled.into_plan(), count)),
         Err(refusal) => {
-            let (plan, names) = (tabled.plan(), &desk.names);
-            let refused = diagnosis::of_move(plan, line.asked, device.asked, refusal, names);
+            let refused = diagnosis::of_move(tabled.plan(), refusal);
             let given = match refusal {
                 Refusal::NoSuchDevice(_) => &device.given,
                 _ => &line.given,

@@ -5,6 +5,7 @@ use crate::diagnosis;
 use crate::input::Text;
 use crate::judged;
 use crate::names::Names;
+use crate::steps::Column;
 use crate::trouble::Trouble;
 use crate::words::{counted, held, listed};
 use gimmerskip::{entries, Order, Plan, Step, SCREEN_ROOM};
@@ -61,16 +62,15 @@ fn put_steps(desk: &mut Desk, text: &Text) -> Result<(), Trouble> {
 fn table(name: &str, plan: &Plan, order: &Order, names: &Names) -> String {
     let (lines, stay) = (counted(plan.len(), "line"), held(order.held));
     let mut out = format!("{name}: an order of {lines}, {stay}\n");
+    let column = Column::of(plan);
+    let mut put = |row: String| out.push_str(&format!("{}\n", row.trim_end()));
     if !plan.is_empty() {
-        let name = if names.is_empty() { "" } else { "       name" };
-        out.push_str(&format!("turn  line  job  step{name}\n"));
+        let name = if names.is_empty() { "" } else { "name" };
+        put(format!("turn  line  job  {}  {name}", column.head));
     }
     for (turn, (line, step)) in (1..).zip(steps(plan, order)) {
-        let words = format!("{} {}", step.verb, step.operand);
         let name = step.device().and_then(|device| names.name(device)).unwrap_or_default();
-        let row = format!("{turn:>4}  {line:>4}  {:>3}  {words:<9}  {name}", step.job);
-        out.push_str(row.trim_end());
-        out.push('\n');
+        put(format!("{turn:>4}  {line:>4}  {:>3}  {}  {name}", step.job, column.row(line)));
     }
     out.push_str(&kept(plan, names));
     out

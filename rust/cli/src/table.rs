@@ -3,6 +3,7 @@
 use crate::desk::Desk;
 use crate::diagnosis;
 use crate::names::Names;
+use crate::steps::Column;
 use crate::trouble::Trouble;
 use gimmerskip::{Plan, Tabled};
 use std::ffi::OsStr;
@@ -25,10 +26,11 @@ pub fn run(desk: &mut Desk, file: &OsStr) -> Result<(), Trouble> {
 
 /// The table with a line for each line of the plan.
 fn printed(tabled: &Tabled, names: &Names) -> String {
-    let mut out = "line  job  step       claims\n".to_string();
+    let steps = Column::of(tabled.plan());
+    let mut out = format!("line  job  {}  claims\n", steps.head);
     for (line, (step, set)) in (1..).zip(tabled.plan().steps().zip(tabled.table())) {
-        let words = format!("{} {}", step.verb, step.operand);
-        out.push_str(&format!("{line:>4}  {:>3}  {words:<9}  {}\n", step.job, claims(*set, names)));
+        let (words, claims) = (steps.row(line), claims(*set, names));
+        out.push_str(&format!("{line:>4}  {:>3}  {words}  {claims}\n", step.job));
     }
     out
 }

@@ -269,16 +269,6 @@ fn gives_without_takes() {
 }
 
 #[test]
-fn takes_of_what_is_held() {
-    let words = [
-        "line 2 takes device 0, which job 1 holds from line 1 on",
-        "  line 1 | 1 ",
-        "leave out line 2",
-    ];
-    fault("1 take 0; 1 take 0", 8, 2, &["0"], &words);
-}
-
-#[test]
 fn devices_with_two_lasting_takes() {
     let two = [
         "device 0 is taken and kept to the end in lines 2 and 3",
@@ -323,8 +313,8 @@ fn a_shorter_circle_is_told_too() {
         "device 0 leads back to itself, in a circle of 2 devices\n",
         "job 1 keeps device 0 from line 2 on; after that line 4 needs device 1 (in job 2, started after that)\n",
         "job 1 keeps device 1 from line 1 on; after that line 2 keeps device 0\n",
-        "What is kept to the end cannot be taken any more: so each of these devices would have to be kept\n\
-         before the next one is, and device 0 before itself.\n",
+        "What a job keeps to the end no other can take any more: so each of these devices would have to be\n\
+         kept before the next one is, and device 0 before itself.\n",
         "A shorter circle is there too: device 1 is needed behind the line that keeps it to the end.\n",
         "job 1 keeps device 1 from line 1 on; after that line 4 needs device 1 (in job 2",
         "put the start that leads to line 4 before line 1.\n",

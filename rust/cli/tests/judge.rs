@@ -191,9 +191,9 @@ No line can come any more: the mistake is in an earlier entry.
 
 #[test]
 fn a_plan_with_a_fault_is_refused_before_its_list() {
-    let ended = judged("1 take 0; 1 take 0", "x\n").ends(1);
-    assert_eq!(ended.text(), "refused\t8\t2\n");
-    assert!(ended.err.contains("p: refused 8 2: line 2 takes device 0"), "{}", ended.err);
+    let ended = judged("1 take 0; 1 give 1", "x\n").ends(1);
+    assert_eq!(ended.text(), "refused\t7\t2\n");
+    assert!(ended.err.contains("p: refused 7 2: line 2 gives device 1"), "{}", ended.err);
     assert!(!ended.err.contains("PLAN comes first"), "{}", ended.err);
     for list in ["1\n4\n", "order\t6\t2\n1\n"] {
         let folder = Folder::new();
@@ -311,16 +311,19 @@ fn compare(plan: &[Line], list: &[u16]) -> Option<Option<Rule>> {
 fn the_rule_that_is_named_is_broken() {
     let mut random = Random::new(2_028);
     let mut seen = [0; 6];
-    for round in 0..6_000 {
+    for round in 0..4_500 {
         let wish = wish(&mut random, if round % 40 == 0 { 300 } else { 40 }, 6, 6);
         let plan = plan(&mut random, wish);
         let mut list = match plain::verdict(&plan) {
+            // As the lines stand, a job often wants what another one holds.
+            _ if round % 3 == 0 => (1..=plan.len() as u16).collect(),
             Ok(order) if round % 2 == 0 => mixed(&mut random, &plan, &order.lines),
             _ => walked(&mut random, &plan),
         };
-        for _ in 0..3 {
+        for _ in 0..4 {
+            let compared = compare(&plan, &list);
             list = damaged(&mut random, plan.len(), &list);
-            if let Some(rule) = compare(&plan, &list) {
+            if let Some(rule) = compared {
                 seen[match rule {
                     None => 0,
                     Some(Rule::NoLine) => 1,

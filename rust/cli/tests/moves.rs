@@ -1,10 +1,10 @@
-//! `gimmerskip move`: the edited plan, refusals 8, 12 and 13 in words, and files replaced in place. (Refusal 14 cannot
-//! be met here: the table is always made anew.)
+//! `gimmerskip move`: the edited plan, refusals 12 and 13 in words, and files replaced in place. (Refusal 14 cannot be
+//! met here: the table is always made anew.)
 
 mod common;
 
 use common::{ended, fed, run, shell, text, without_rights, Folder};
-use gimmerskip::{Plan, Refusal};
+use gimmerskip::Plan;
 use second::random::{plan, some_move, wish, Random};
 use second::read;
 use std::fs::{self, Permissions};
@@ -67,24 +67,12 @@ fn refused(plan: &str, line: &str, device: &str, words: &[&str]) {
 fn moves_that_are_refused() {
     refused(
         RING,
-        "3",
-        "0",
-        &[
-            "refused 8 3: line 3 would take device 0, which job 1 holds from line 2 on\n",
-            "  line 3 | 1 ",
-        ],
-    );
-    refused(
-        RING,
-        "2",
-        "1",
-        &["refused 8 3: line 3 takes device 1, which job 1 would hold from line 2 on\n"],
-    );
-    refused(
-        RING,
         "4",
         "2",
-        &["refused 12 4: line 4 is a give, and only a take can be moved: its take is in line 3\n"],
+        &[
+            "refused 12 4: line 4 is a give, and only a take can be moved: its take is in line 3\n",
+            "  line 4 | 1 ",
+        ],
     );
     refused(RING, "1", "2", &["refused 12 1: line 1 is a start, and only a take can be moved\n"]);
     refused(RING, "0", "2", &["refused 12 0: there is no line 0: the plan has 7 lines\n"]);
@@ -92,10 +80,10 @@ fn moves_that_are_refused() {
     refused(RING, "66000", "2", &["refused 12 66000: there is no line 66000"]);
     refused(RING, "3", "32", &["refused 13 32: there is no device 32: devices are 0 to 31\n"]);
     refused(
-        "1 take 0; 1 take 0",
+        "1 take 0; 1 give 1",
         "1",
         "2",
-        &["refused 8 2: line 2 takes device 0, which job 1 holds from line 1 on"],
+        &["refused 7 2: line 2 gives device 1, which job 1 does not hold there"],
     );
     fed(&["move", "-", "1", "2"], "1 take 3\n").ends(1).says(&["refused 2 1: line 1 has spaces"]);
 }
@@ -134,9 +122,7 @@ fn random_moves_are_those_of_the_wrapper() {
                 let words = format!("refused {} {}: ", refusal.number(), refusal.place());
                 let ended = ended.ends(1).says(&[&words]);
                 // For each case there are words that were found, not the general ones.
-                let general =
-                    matches!(refusal, Refusal::TakeOfHeld(_)) && ended.err.contains("already");
-                assert!(!general, "{}", ended.err);
+                assert!(!ended.err.contains(&refusal.to_string()), "{}", ended.err);
             }
         }
     }
@@ -269,7 +255,7 @@ fn a_refused_move_touches_no_file() {
     let folder = Folder::new();
     let path = folder.file("ring.plan", text(RING));
     let before = fs::metadata(&path).expect("it is there");
-    run(&["move", "--in-place", &path, "3", "0"]).ends(1).says(&["refused 8 3"]);
+    run(&["move", "--in-place", &path, "4", "0"]).ends(1).says(&["refused 12 4"]);
     run(&["move", "--in-place", &path, "6", "0"]).ends(0).says(&["0 sets of claims changed"]);
     let after = fs::metadata(&path).expect("it is there");
     assert_eq!((after.ino(), after.mtime_nsec()), (before.ino(), before.mtime_nsec()));

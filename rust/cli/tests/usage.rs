@@ -83,7 +83,6 @@ fn names_are_used_in_all_words() {
         &text("1 take 0; 1 take 1; 1 give 0"),
         &["gives device 0 (pump), but job 1 took device 1 (dosing tank)"],
     );
-    say(&text("1 take 0; 1 take 0"), &["line 2 takes device 0 (pump)"]);
     say(&text("1 start 2; 1 take 0; 2 take 0"), &["device 0 (pump) is taken and kept"]);
     say(&text("1 take 0; 1 take 2"), &["holds device 0 (pump) from", "holds device 2 from"]);
     // Before the subcommand as well, and for every subcommand.

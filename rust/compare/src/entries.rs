@@ -11,7 +11,7 @@ use second::orders;
 use second::plain::{self, passes_over, SCREEN};
 use second::read::{check_packed, Handed, Lines};
 use second::tally::circle_class;
-use second::Refusal;
+use second::{shapes, Line, Refusal};
 use std::hint::black_box;
 
 /// What an entry left in its list, with its number, or its refusal.
@@ -169,16 +169,25 @@ fn sort(run: &mut Run, plan: &[u32], refusal: Option<&Refusal>) {
         return;
     };
     match refusal.map(|refusal| refusal.number) {
-        None => {
-            if passes_over(&plan) {
-                run.tally.meet("plan: accepted, (b) passes over a lower blocked device");
-            }
-            if plan.len() > 500 {
-                run.tally.meet("plan: accepted with over 500 lines");
-            }
-        }
+        None => sort_accepted(run, &plan),
         Some(10) => run.tally.meet(circle_class(&plan)),
         Some(_) => {}
+    }
+}
+
+/// Counts a plan that has an order.
+fn sort_accepted(run: &mut Run, plan: &[Line]) {
+    if passes_over(plan) {
+        run.tally.meet("plan: accepted, (b) passes over a lower blocked device");
+    }
+    if plan.len() > 500 {
+        run.tally.meet("plan: accepted with over 500 lines");
+    }
+    if !shapes::takes_again(plan) {
+        run.tally.meet("plan: accepted, nothing taken again");
+    }
+    for shape in shapes::of_plan(plan) {
+        run.tally.meet(&format!("plan: accepted, {shape}"));
     }
 }
 

@@ -1,6 +1,6 @@
 //! Orders from elsewhere: one call of the proved judge, held against the second program, for every
 //! list that a small plan can be given, and for random ones, legal and damaged, of plans up to the
-//! limits. The paragraphs are request 1 of document 02 and "Legal orders" of document 01.
+//! limits. The paragraphs are requests 1 and 2 of document 02 and "Legal orders" of document 01.
 
 use crate::asked::Asked;
 use crate::entries::{answer, lent_plan, stays};
@@ -10,14 +10,14 @@ use crate::run::{Answer, Run};
 use crate::wrapper::as_second;
 use gimmerskip::{raw, Plan};
 use second::damage::damaged_packed;
-use second::elsewhere::{damaged, mixed, walked};
+use second::elsewhere::{damaged, mixed, too_soon, walked};
 use second::judge::{self, Astray, Rule};
 use second::line::pack;
 use second::plain::verdict;
 use second::random::Random;
 use second::read::check_packed;
 use second::small::small_plans;
-use second::Line;
+use second::{shapes, Line};
 
 /// Every list of different lines is tried for plans of up to so many lines, legal orders and
 /// beginnings of orders among them.
@@ -25,14 +25,16 @@ const ARRANGED: usize = 5;
 /// Every list of any entries is tried for plans of up to so many.
 const ANY: usize = 3;
 
-/// What is wrong at the position of a refusal 15: the sentences of "Legal orders".
-pub const CLASSES: [&str; 6] = [
-    "judge: refusal 15, the number of no line",
-    "judge: refusal 15, a line that is done",
-    "judge: refusal 15, a job that is not started",
-    "judge: refusal 15, an earlier line is not done",
-    "judge: refusal 15, a device that is held",
-    "judge: refusal 15, the list stops early",
+/// What is wrong at the position of a refusal 15: the sentences of "Legal orders", and one case of a
+/// device that is held.
+pub const CLASSES: [&str; 7] = [
+    "refusal 15, the number of no line",
+    "refusal 15, a line that is done",
+    "refusal 15, a job that is not started",
+    "refusal 15, an earlier line is not done",
+    "refusal 15, a device that is held",
+    "refusal 15, the list stops early",
+    shapes::GIVEN_IN_PART,
 ];
 
 /// The class of a list that goes astray, by the first rule that is broken.
@@ -51,9 +53,14 @@ fn class(astray: &Astray) -> &'static str {
 fn sort(run: &mut Run, plan: &[u32], order: &[u16], wanted: &Answer) {
     run.meet("judge", wanted);
     let entries: Vec<usize> = order.iter().map(|&entry| entry.into()).collect();
-    let astray = check_packed(plan).ok().and_then(|plan| judge::astray(&plan, &entries));
-    if let Some(astray) = astray {
-        run.tally.meet(class(&astray));
+    let Ok(plan) = check_packed(plan) else {
+        return;
+    };
+    if let Some(astray) = judge::astray(&plan, &entries) {
+        run.tally.meet(&format!("judge: {}", class(&astray)));
+        if shapes::given_in_part(&plan, &entries, &astray) {
+            run.tally.meet(&format!("judge: {}", shapes::GIVEN_IN_PART));
+        }
     }
 }
 
@@ -109,14 +116,29 @@ pub fn some_order(random: &mut Random, plan: &[Line]) -> Vec<u16> {
     }
 }
 
-/// A list as it was made, and twice damaged.
+/// A list as it was made, with a take that comes too soon, and twice damaged.
 fn with_damage(run: &mut Run, plan: &[Line]) {
-    let packed = pack(plan);
     let mut list = some_order(&mut run.random, plan);
-    let _ = judge(run, &packed, &list);
+    judge_alike(run, plan, &list);
+    if let Some(list) = too_soon(&mut run.random, plan, &list) {
+        judge_alike(run, plan, &list);
+    }
     for _ in 0..2 {
         list = damaged(&mut run.random, plan.len(), &list);
-        let _ = judge(run, &packed, &list);
+        judge_alike(run, plan, &list);
+    }
+}
+
+/// Judges a list for a plan, and for the plan with actions where it takes again: to take again asks
+/// for nothing and keeps nobody from anything, so that the answer is the same.
+fn judge_alike(run: &mut Run, plan: &[Line], list: &[u16]) {
+    let packed = pack(plan);
+    let said = judge(run, &packed, list);
+    if shapes::takes_again(plan) {
+        let said_then = judge(run, &pack(&shapes::as_actions(plan)), list);
+        let asked = Asked::Order { plan: &packed, order: list };
+        let name = "actions for what takes again: the judge's same answer";
+        run.tally.compare(name, &asked, said, said_then);
     }
 }
 

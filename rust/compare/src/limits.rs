@@ -1,11 +1,15 @@
 //! Plans up to the limits, right and damaged, with lists of every length lent for them, and the
-//! round trips through reading and writing. The paragraphs are "The plan as text" and "Refusal
-//! numbers" of document 01.
+//! round trips through reading and writing; and plans that differ in what has no effect. The
+//! paragraphs are "The plan as text" and "Refusal numbers" of document 01, and request 2 of document
+//! 02.
 
 use crate::asked::Asked;
 use crate::entries;
 use crate::plans::{any_plan, forms, room, screen_room};
 use crate::run::Run;
+use second::line::pack;
+use second::read::check_packed;
+use second::shapes;
 
 /// Every entry but the move on plans of all sizes.
 pub fn plans(run: &mut Run) {
@@ -29,23 +33,37 @@ pub fn plans(run: &mut Run) {
         if run.random.once_in(3) {
             other_codes(run, &packed);
         }
+        if run.random.once_in(3) {
+            as_actions(run, &packed);
+        }
     }
 }
 
-/// The code of an action touches no device: with other codes a plan has the same table and the same
-/// verdict.
+/// The code of an action touches no device.
 fn other_codes(run: &mut Run, packed: &[u32]) {
     let mut recoded = packed.to_vec();
     for line in recoded.iter_mut().filter(|line| **line / 256 % 4 == 0) {
         *line = *line / 256 * 256 + run.random.below(256) as u32;
     }
-    let asked = Asked::Packed { plan: packed, room: packed.len() };
-    let table = entries::table(run, packed, packed.len());
-    let table_then = entries::table(run, &recoded, packed.len());
-    run.tally.compare("other codes: the same table", &asked, table, table_then);
-    let verdict = entries::verdict(run, packed, packed.len());
-    let verdict_then = entries::verdict(run, &recoded, packed.len());
-    run.tally.compare("other codes: the same verdict", &asked, verdict, verdict_then);
+    alike(run, "other codes", packed, &recoded);
+}
+
+/// To take again, and to give back what was taken so, has no more effect than an action.
+fn as_actions(run: &mut Run, packed: &[u32]) {
+    if let Some(plan) = check_packed(packed).ok().filter(|plan| shapes::takes_again(plan)) {
+        alike(run, "actions for what takes again", packed, &pack(&shapes::as_actions(&plan)));
+    }
+}
+
+/// The two plans have the same table and the same verdict.
+fn alike(run: &mut Run, what: &str, plan: &[u32], other: &[u32]) {
+    let asked = Asked::Packed { plan, room: plan.len() };
+    let table = entries::table(run, plan, plan.len());
+    let table_then = entries::table(run, other, plan.len());
+    run.tally.compare(&format!("{what}: the same table"), &asked, table, table_then);
+    let verdict = entries::verdict(run, plan, plan.len());
+    let verdict_then = entries::verdict(run, other, plan.len());
+    run.tally.compare(&format!("{what}: the same verdict"), &asked, verdict, verdict_then);
 }
 
 /// What was read is written as the same bytes; what was written is read as the same numbers.

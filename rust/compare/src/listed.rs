@@ -1,7 +1,7 @@
-//! The plans of "Plans with their verdicts" of document 01, starred and not, through every entry
-//! and the programs, with the answers that stand there; and their orders through the judge, who by
-//! request 1 of document 02 lets them pass. The second program is held against the same
-//! calls, as on any other plan.
+//! The plans of "Plans with their verdicts" of document 01, starred and not, and those listed for
+//! request 2 of document 02, through every entry and the programs, with the answers that stand
+//! there; and their orders through the judge, who by request 1 of document 02 lets them pass. The
+//! second program is held against the same calls, as on any other plan.
 
 use crate::asked::Asked;
 use crate::entries::{self, Filled};
@@ -10,7 +10,7 @@ use crate::moves::{moved, Kept};
 use crate::processes;
 use crate::program::Program;
 use crate::run::{Answer, Run};
-use second::listed::{all, packed, text, Listed, A, B};
+use second::listed::{all, packed, text, Listed, ListedMove, MOVES, TABLES};
 use second::plain::{Order, SCREEN};
 use second::random::Move;
 use second::Refusal;
@@ -46,7 +46,7 @@ fn through_entries(run: &mut Run, listed: &Listed) {
     let said = entries::write(run, &packed, text.len());
     let wanted = unless_faulty(listed, text.len(), text.clone());
     run.tally.compare(&format!("{name}: write"), &asked, wanted, said);
-    // The sets themselves are listed for A and B alone; the second program has them for all.
+    // The sets themselves are listed for a few plans alone; the second program has them for all.
     let said = entries::table(run, &packed, lines).map(|(count, _)| (count, ()));
     let wanted = unless_faulty(listed, lines, Vec::<u32>::new()).map(|(count, _)| (count, ()));
     run.tally.compare(&format!("{name}: table"), &asked, wanted, said);
@@ -57,8 +57,8 @@ fn through_entries(run: &mut Run, listed: &Listed) {
     run.tally.compare(&format!("{name}: screen"), &asked, printed(listed), said);
 }
 
-/// Each take of the plan moved to the device that it has: nothing changes. A plan without takes is
-/// asked for its first line.
+/// Each take of the plan, or some of very many, moved to the device that it has: nothing changes. A
+/// plan without takes is asked for its first line.
 fn through_move(run: &mut Run, listed: &Listed) {
     let plan = packed(&listed.plan);
     let lines = plan.len();
@@ -67,7 +67,7 @@ fn through_move(run: &mut Run, listed: &Listed) {
     let sets = entries::table(run, &plan, lines).map_or(vec![0; lines], |(_, sets)| sets);
     let mut kept = Kept { plan: plan.clone(), sets };
     let takes: Vec<usize> = (0..lines).filter(|&at| plan[at] / 256 % 4 == 1).collect();
-    for &at in &takes {
+    for &at in takes.iter().step_by(1 + takes.len() / 32) {
         let to = Move { line: at as u32 + 1, device: plan[at] % 256 };
         let wanted = unless_faulty::<u32>(listed, 0, Vec::new()).map(|(count, _)| count);
         let said = moved(run, &mut kept, to);
@@ -81,18 +81,30 @@ fn through_move(run: &mut Run, listed: &Listed) {
     }
 }
 
-/// A with its table, and B as it comes of moving A.
-fn from_a_to_b(run: &mut Run) {
-    let plan = packed(A);
-    let asked = Asked::Packed { plan: &plan, room: plan.len() };
-    let table = entries::table(run, &plan, plan.len());
-    let wanted = Ok((6, vec![3, 2, 0, 3, 2, 0]));
-    run.tally.compare("listed, A: the sets of the table", &asked, wanted, table);
-    let mut kept = Kept { plan: plan.clone(), sets: vec![3, 2, 0, 3, 2, 0] };
-    let said = moved(run, &mut kept, Move { line: 5, device: 2 });
-    let wanted = (Ok(3), packed(B), vec![7, 2, 0, 5, 4, 0]);
-    let name = "listed, B: it comes of moving A, with its table and count";
-    run.tally.compare(name, &asked, wanted, (said, kept.plan, kept.sets));
+/// The tables that are listed.
+fn tables(run: &mut Run) {
+    for (short, sets) in TABLES {
+        let plan = packed(short);
+        let asked = Asked::Packed { plan: &plan, room: plan.len() };
+        let said = entries::table(run, &plan, plan.len());
+        let wanted = Ok((plan.len() as u64, sets.to_vec()));
+        run.tally.compare("listed: the sets of the table", &asked, wanted, said);
+    }
+}
+
+/// A move that is listed, there and back.
+fn there_and_back(run: &mut Run, listed: &ListedMove) {
+    let ListedMove { plans, line, devices, changed } = *listed;
+    let [then, now] = plans.map(|(short, sets)| Kept { plan: packed(short), sets: sets.to_vec() });
+    let mut kept = then.clone();
+    for (device, wanted) in [(devices[1], now), (devices[0], then)] {
+        let before = kept.clone();
+        let said = moved(run, &mut kept, Move { line, device });
+        let asked = Asked::Move { plan: &before.plan, sets: &before.sets, line, device };
+        let wanted = (Ok(changed.into()), wanted.plan, wanted.sets);
+        let name = "listed: moved there and back, with table and count";
+        run.tally.compare(name, &asked, wanted, (said, kept.plan.clone(), kept.sets.clone()));
+    }
 }
 
 /// The listed order with what the judge has to say of it. A plan without one gets an empty list.
@@ -149,5 +161,8 @@ pub fn listed(run: &mut Run, order: Option<&Program>, judge: Option<&Program>) {
             through_judge_program(run, listed, program);
         }
     }
-    from_a_to_b(run);
+    tables(run);
+    for listed in &MOVES {
+        there_and_back(run, listed);
+    }
 }

@@ -1,18 +1,23 @@
 //! Moves of claims on plans and tables that are kept from call to call, with stale tables and
-//! damaged plans among them. The paragraph is "Moving a claim" of document 01.
+//! damaged plans among them, and every move of small plans. The paragraphs are "Moving a claim" of
+//! document 01 and request 2 of document 02.
 
 use crate::asked::Asked;
 use crate::entries::{self, answer};
 use crate::lent::Lent;
-use crate::plans::{any_plan, any_ring, long_plan, short_plan};
+use crate::plans::{any_plan, any_ring, deep_plan, long_plan, short_plan};
 use crate::run::{Answer, Run};
 use gimmerskip::raw;
-use second::damage::damaged_packed;
+use second::damage::{damaged_packed, stale_table};
 use second::line::pack;
 use second::plain::{self, edited, table};
 use second::random::{some_move, Move, Random};
 use second::read::check_packed;
-use second::Line;
+use second::small::small_plans;
+use second::{shapes, Line};
+
+/// Every move is tried for plans of up to so many lines.
+const SMALL: usize = 4;
 
 /// A plan with its table, lent together.
 #[derive(Clone)]
@@ -32,7 +37,7 @@ pub fn moved(run: &mut Run, kept: &mut Kept, asked_move: Move) -> Answer {
     let said = answer(raw::move_claim(plan.list_mut(), sets.list_mut(), line, device));
     let mut second = before.clone();
     let wanted = plain::move_claim(&mut second.plan, &mut second.sets, line, device).map(u64::from);
-    sort(run, &before, &wanted);
+    sort(run, &before, asked_move, wanted);
     let tally = &mut run.tally;
     tally.compare("move: the answer", &asked, wanted, said);
     let name = "move: what stands around plan and table stays";
@@ -54,22 +59,12 @@ pub fn moved(run: &mut Run, kept: &mut Kept, asked_move: Move) -> Answer {
 }
 
 /// Counts a move in its classes.
-fn sort(run: &mut Run, before: &Kept, wanted: &Answer) {
-    let plan = check_packed(&before.plan);
-    match (wanted, plan) {
-        (Err(refusal), Ok(_)) if refusal.number == 8 => {
-            run.tally.meet("move: calls");
-            run.tally.meet("move: refusal 8, of the edited plan");
+fn sort(run: &mut Run, before: &Kept, asked_move: Move, wanted: Answer) {
+    run.meet("move", &wanted);
+    if let Ok(plan) = check_packed(&before.plan) {
+        for shape in shapes::of_move(&plan, &before.sets, asked_move, wanted) {
+            run.tally.meet(&format!("move: {shape}"));
         }
-        (Ok(count), Ok(plan)) => {
-            run.meet("move", wanted);
-            run.tally.meet(match count {
-                _ if !before.sets.starts_with(&table(&plan)) => "move: accepted, stale off the way",
-                0 => "move: accepted, no set changed",
-                _ => "move: accepted, sets changed",
-            });
-        }
-        _ => run.meet("move", wanted),
     }
 }
 
@@ -101,21 +96,25 @@ fn accepted(run: &mut Run, before: &Kept, after: &Kept, asked_move: Move, count:
     }
 }
 
-/// A table that is not that of the plan: an older one, one with a wrong set or two, too short, or
-/// anything.
-fn spoilt(random: &mut Random, sets: &[u32], older: &[u32]) -> Vec<u32> {
-    let mut spoilt = sets.to_vec();
-    match random.below(8) {
+/// A table that is not that of the plan: an older one, one with a wrong set or two, one that is stale
+/// in a single set about the take to be moved, too short, or anything.
+fn spoilt(random: &mut Random, kept: &Kept, older: &[u32], to: Move) -> Vec<u32> {
+    let mut spoilt = kept.sets.clone();
+    match random.below(12) {
         0 => return older.to_vec(),
-        1 | 2 => spoilt.truncate(random.below(sets.len() + 1)),
+        1 | 2 => spoilt.truncate(random.below(spoilt.len() + 1)),
         3 => spoilt.fill_with(|| random.bits() as u32),
-        _ => {
+        4..=6 => {
             for _ in 0..1 + random.below(2) {
                 if !spoilt.is_empty() {
                     let place = random.below(spoilt.len());
                     spoilt[place] ^= 1 << random.below(32);
                 }
             }
+        }
+        _ => {
+            let plan = check_packed(&kept.plan).expect("a moved plan stays without a fault");
+            return stale_table(random, &plan, to, &spoilt);
         }
     }
     spoilt
@@ -132,8 +131,8 @@ fn keep_moving(run: &mut Run, plan: &[Line], moves: usize) {
     for _ in 0..moves {
         let asked = some_move(&mut run.random, &kept.plan);
         let sets = kept.sets.clone();
-        if run.random.once_in(4) {
-            let spoilt = spoilt(&mut run.random, &kept.sets, &older);
+        if run.random.once_in(3) {
+            let spoilt = spoilt(&mut run.random, &kept, &older, asked);
             let mut stale = Kept { plan: kept.plan.clone(), sets: spoilt };
             let _ = moved(run, &mut stale, asked);
         } else if moved(run, &mut kept, asked).is_ok() && kept.sets != sets {
@@ -154,8 +153,26 @@ fn move_damaged(run: &mut Run) {
     let _ = moved(run, &mut Kept { plan: damaged, sets }, asked);
 }
 
+/// Every line of every small plan moved to each of its two devices and to a third, with its own
+/// table and with each in which one of these devices stands wrongly in one set.
+fn all_moves(run: &mut Run) {
+    small_plans(SMALL, &mut |plan| {
+        let own = Kept { plan: pack(plan), sets: table(plan) };
+        for at in 0..3 * plan.len() as u32 {
+            let to = Move { line: at / 3 + 1, device: at % 3 };
+            let _ = moved(run, &mut own.clone(), to);
+            for wrong in 0..3 * plan.len() {
+                let mut stale = own.clone();
+                stale.sets[wrong / 3] ^= 1 << (wrong % 3);
+                let _ = moved(run, &mut stale, to);
+            }
+        }
+    });
+}
+
 /// All moves.
 pub fn moves(run: &mut Run) {
+    all_moves(run);
     for _ in 0..2_500 {
         let plan = short_plan(&mut run.random);
         keep_moving(run, &plan, 8);
@@ -167,6 +184,8 @@ pub fn moves(run: &mut Run) {
     }
     for _ in 0..30 {
         let plan = long_plan(&mut run.random);
-        keep_moving(run, &plan, 1_000);
+        keep_moving(run, &plan, 900);
+        let plan = deep_plan(&mut run.random);
+        keep_moving(run, &plan, 100);
     }
 }

@@ -5,19 +5,32 @@
 use second::damage::{damaged_packed, damaged_text, spelt};
 use second::line::{pack, LINES};
 use second::plain::SCREEN;
-use second::random::{plan, ring, wish, Cut, Random, Wish};
+use second::random::{deep_wish, plan, ring, share, take_again, wish, Cut, Random, Wish};
 use second::Line;
 
-/// A planted ring, whole or cut.
+/// A planted ring, whole or cut, in which devices may be taken again.
 pub fn any_ring(random: &mut Random) -> Vec<Line> {
     let length = 1 + random.below(6);
     let cut = random.one_of(&[Cut::Whole, Cut::Whole, Cut::LeftOut, Cut::GivenBack]);
-    ring(random, length, cut)
+    let mut plan = ring(random, length, cut);
+    for _ in 0..random.below(3) {
+        plan = take_again(random, &plan);
+    }
+    plan
+}
+
+/// A plan up to the limits in which a device is taken again and again.
+pub fn deep_plan(random: &mut Random) -> Vec<Line> {
+    let wish = deep_wish(random);
+    plan(random, wish)
 }
 
 /// A plan up to the limits. Most rise, for a long plan that does not rise holds a circle nearly
 /// always.
 pub fn long_plan(random: &mut Random) -> Vec<Line> {
+    if random.once_in(16) {
+        return deep_plan(random);
+    }
     let lines = if random.once_in(4) { LINES } else { 1 + random.below(LINES) };
     let wish = Wish {
         lines,
@@ -26,6 +39,7 @@ pub fn long_plan(random: &mut Random) -> Vec<Line> {
         single: !random.once_in(8),
         rising: !random.once_in(8),
         lasting: 2 + random.below(8),
+        again: share(random),
     };
     plan(random, wish)
 }

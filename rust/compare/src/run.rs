@@ -1,16 +1,18 @@
 //! The state of a run, and the classes of calls and plans that it has to meet. The classes are the
-//! numbers of "Refusal numbers" of document 01, and 15 of document 02, entry by entry, the shapes of
-//! plans on which "Claims and rows" and "The order handed out" turn, and the sentences of "Legal
-//! orders".
+//! numbers of "Refusal numbers" of document 01 without 8, and 15 of document 02, entry by entry, the
+//! shapes of plans on which "Claims and rows" and "The order handed out" turn, the sentences of "Legal
+//! orders", and the shapes of plans, moves and tables on which request 2 of document 02 turns.
 
 use crate::{judging, small, wrapper};
 use second::random::Random;
 use second::tally::{Tally, LEAST};
-use second::Refusal;
+use second::{shapes, Refusal};
 use std::collections::BTreeMap;
 
 /// The least number of calls of each entry.
 const CALLS: u64 = 20_000;
+/// The least number of moves with tables of each sort.
+const MOVES: u64 = 1_000;
 /// So many texts of each answer are kept for a program.
 const KEPT: usize = 240;
 
@@ -19,23 +21,19 @@ const KEPT: usize = 240;
 /// alone. The screens' entry has no list that could be too short: too little room is no refusal.
 const REFUSALS: [(&str, &[u32]); 10] = [
     ("line", &[1, 2, 3]),
-    ("read", &[1, 2, 3, 4, 5, 6, 7, 8, 11]),
-    ("write", &[2, 3, 4, 5, 6, 7, 8, 11]),
-    ("table", &[2, 3, 4, 5, 6, 7, 8, 11]),
-    ("verdict", &[2, 3, 4, 5, 6, 7, 8, 9, 10, 11]),
-    ("move", &[2, 3, 4, 5, 6, 7, 8, 11, 12, 13, 14]),
-    ("screen", &[1, 2, 3, 4, 5, 6, 7, 8, 9, 10]),
-    ("judge", &[2, 3, 4, 5, 6, 7, 8, 15]),
-    ("program order", &[1, 2, 3, 4, 5, 6, 7, 8, 9, 10]),
-    ("program judge", &[1, 2, 3, 4, 5, 6, 7, 8, 15]),
+    ("read", &[1, 2, 3, 4, 5, 6, 7, 11]),
+    ("write", &[2, 3, 4, 5, 6, 7, 11]),
+    ("table", &[2, 3, 4, 5, 6, 7, 11]),
+    ("verdict", &[2, 3, 4, 5, 6, 7, 9, 10, 11]),
+    ("move", &[2, 3, 4, 5, 6, 7, 11, 12, 13, 14]),
+    ("screen", &[1, 2, 3, 4, 5, 6, 7, 9, 10]),
+    ("judge", &[2, 3, 4, 5, 6, 7, 15]),
+    ("program order", &[1, 2, 3, 4, 5, 6, 7, 9, 10]),
+    ("program judge", &[1, 2, 3, 4, 5, 6, 7, 15]),
 ];
 
 /// The other classes.
-const OTHERS: [&str; 11] = [
-    "move: refusal 8, of the edited plan",
-    "move: accepted, sets changed",
-    "move: accepted, no set changed",
-    "move: accepted, stale off the way",
+const OTHERS: [&str; 8] = [
     "screen: too little room",
     "plan: shortest circle 1",
     "plan: shortest circle 2",
@@ -43,6 +41,7 @@ const OTHERS: [&str; 11] = [
     "plan: shortest circle 4 or more",
     "plan: accepted, (b) passes over a lower blocked device",
     "plan: accepted with over 500 lines",
+    "plan: accepted, nothing taken again",
 ];
 
 /// What an entry says: its number on success, or its refusal.
@@ -105,7 +104,10 @@ fn classes() -> Vec<(String, u64)> {
         classes.extend(numbers.iter().map(|number| (format!("{entry}: refusal {number}"), LEAST)));
     }
     classes.extend(OTHERS.map(|class| (class.to_string(), LEAST)));
-    classes.extend(judging::CLASSES.map(|class| (class.to_string(), LEAST)));
+    classes.extend(shapes::TAKEN_AGAIN.map(|shape| (format!("plan: accepted, {shape}"), LEAST)));
+    classes.extend(shapes::MOVED.map(|shape| (format!("move: {shape}"), LEAST)));
+    classes.extend(shapes::TABLES.map(|shape| (format!("move: {shape}"), MOVES)));
+    classes.extend(judging::CLASSES.map(|class| (format!("judge: {class}"), LEAST)));
     classes.push(small::all_class());
     classes.extend(wrapper::classes());
     classes

@@ -1,14 +1,15 @@
 //! The wrapper's own workings, which no proof covers: the steps of a plan, the lines of a text one by one, who holds
 //! what, the circles, a plan that keeps its table, and the printed order. They are held against the second program and
-//! against the proved entries. The paragraphs of document 01 are "Claims and rows", "The line reader" and "Packed".
+//! against the proved entries. The paragraphs of document 01 are "Claims and rows", "The line reader" and "Packed"; by
+//! request 2 of document 02 the first of them speaks of outermost takes.
 
 use crate::asked::Asked;
 use crate::plans::{any_plan, any_ring, forms, long_plan, short_plan};
 use crate::run::Run;
 use gimmerskip::{Arc, Holds, Plan, Step, Tabled};
 use second::line::{pack, DEVICES};
-use second::plain::{self, circle, gives, lasting, successors, Rows};
-use second::random::{some_move, Random};
+use second::plain::{self, circle, gives, lasting, outermost, successors, Rows};
+use second::random::{some_move, Move, Random};
 use second::read::{Handed, Lines};
 use second::tally::LEAST;
 use second::{Line, Refusal, Verb};
@@ -23,7 +24,7 @@ const PLANTED: &str = "wrapper: planted rings, of each length from 1 to 32";
 const SHORT: usize = 80;
 
 /// The classes besides.
-const CLASSES: [&str; 12] = [
+const CLASSES: [&str; 11] = [
     "wrapper: a shortest circle of 1 device",
     "wrapper: a shortest circle of 2 devices",
     "wrapper: a shortest circle of 3 devices",
@@ -33,7 +34,6 @@ const CLASSES: [&str; 12] = [
     "wrapper: no circle beside two lasting takes of a device",
     "wrapper: a text with a line refused",
     "wrapper: moved, accepted",
-    "wrapper: moved, refusal 8",
     "wrapper: moved, refusal 12",
     "wrapper: moved, refusal 13",
 ];
@@ -106,13 +106,12 @@ fn behind(lines: &[Line], at: usize) -> Vec<usize> {
     found
 }
 
-/// The arc from one device to another, by the successors: of the lasting takes the first that has a take of the other
-/// device behind it, and of those takes the first.
+/// The arc from one device to another, by the successors: of the lasting takes the first that has an outermost take of
+/// the other device behind it, and of those takes the first.
 fn arc(lines: &[Line], device: u8, needs: u8) -> Option<Arc> {
-    let lasting = lasting(lines);
+    let (lasting, outermost) = (lasting(lines), outermost(lines));
     let mut arcs = keepers(&lasting, device).filter_map(|at| {
-        let takes =
-            behind(lines, at).into_iter().filter(|&line| lines[line].takes() == Some(needs));
+        let takes = behind(lines, at).into_iter().filter(|&line| outermost[line] == Some(needs));
         let then = takes.min().map(number)?;
         Some(Arc { device, job: lines[at].job, line: number(at), then, needs })
     });
@@ -278,23 +277,26 @@ fn lines_of(run: &mut Run, text: &[u8], packed: &[u32]) {
     run.tally.compare("steps: those of packed numbers", &asked, wanted, said);
 }
 
-/// So many moves of a plan with its own table, beside a plan whose table is kept here.
+/// So many moves of a plan with its own table, beside a plan whose table is kept here, and the second program.
 fn moves(run: &mut Run, lines: &[Line], count: usize) {
     let mut plan = owned(lines);
     let mut table = plan.table();
     let mut tabled = Tabled::new(plan.clone());
     for _ in 0..count {
-        let to = some_move(&mut run.random, plan.packed());
+        let Move { line, device } = some_move(&mut run.random, plan.packed());
         let before = (plan.packed().to_vec(), table.clone());
-        let (line, device) = (to.line, to.device);
         let asked = Asked::Move { plan: &before.0, sets: &before.1, line, device };
+        let (mut second_plan, mut second_table) = before.clone();
+        let second = plain::move_claim(&mut second_plan, &mut second_table, line, device);
         let wanted = plan.move_claim(&mut table, line, device);
         let said = tabled.move_claim(line, device);
         let tally = &mut run.tally;
-        tally.meet(&match wanted {
+        tally.meet(&match second {
             Ok(_) => "wrapper: moved, accepted".to_string(),
-            Err(refusal) => format!("wrapper: moved, refusal {}", refusal.number()),
+            Err(refusal) => format!("wrapper: moved, refusal {}", refusal.number),
         });
+        let by_number = said.map(|count| count as u32).map_err(as_second);
+        tally.compare("tabled: the second program's answer to a move", &asked, second, by_number);
         tally.compare("tabled: the answer to a move", &asked, wanted, said);
         tally.compare("tabled: the plan", &asked, &plan, tabled.plan());
         tally.compare("tabled: the table", &asked, &table[..], tabled.table());
@@ -306,8 +308,8 @@ fn moves(run: &mut Run, lines: &[Line], count: usize) {
 }
 
 /// A planted ring: the devices as each leads to the next, and the plan. Each is kept by a job that needs the next one
-/// afterwards, itself or by a job started for it; a ring of one needs that, for a job may not take what it holds.
-/// Nothing else is kept, so that there is no other circle.
+/// afterwards, itself or by a job started for it; a ring of one needs that, for what a job takes again it does not wait
+/// for. Nothing else is kept, so that there is no other circle.
 fn planted(random: &mut Random, length: usize) -> (Vec<u8>, Vec<Line>) {
     let mut ring: Vec<u8> = (0..DEVICES as u8).collect();
     random.shuffle(&mut ring);

@@ -12,7 +12,7 @@ use crate::{raw, Refusal, SCREEN_ROOM};
 ///
 /// # Errors
 ///
-/// Refuses with 1 to 8 what is no plan, and then with 11 a list that is too short.
+/// Refuses with 1 to 7 what is no plan, and then with 11 a list that is too short.
 ///
 /// ```
 /// use gimmerskip::{entries, Refusal};
@@ -31,7 +31,7 @@ pub fn read(text: &[u8], plan: &mut [u32]) -> Result<usize, Refusal> {
 ///
 /// # Errors
 ///
-/// Refuses with 2 to 8 what is no plan, and then with 11 a buffer that is too short.
+/// Refuses with 2 to 7 what is no plan, and then with 11 a buffer that is too short.
 ///
 /// ```
 /// use gimmerskip::entries;
@@ -45,11 +45,12 @@ pub fn write(plan: &[u32], text: &mut [u8]) -> Result<usize, Refusal> {
 }
 
 /// Works out the table of claims: for each line the set of the devices that it or what comes after it takes, device d
-/// being bit d. The count is that of the lines, and the list needs as many sets.
+/// being bit d. What its job holds already a line does not claim. The count is that of the lines, and the list needs as
+/// many sets.
 ///
 /// # Errors
 ///
-/// Refuses with 2 to 8 what is no plan, and then with 11 a list that is too short.
+/// Refuses with 2 to 7 what is no plan, and then with 11 a list that is too short.
 ///
 /// ```
 /// use gimmerskip::entries;
@@ -67,7 +68,7 @@ pub fn table(plan: &[u32], sets: &mut [u32]) -> Result<usize, Refusal> {
 ///
 /// # Errors
 ///
-/// Refuses with 2 to 8 what is no plan, then with 11 a list that is too short, then with 9 or 10 a plan that has no
+/// Refuses with 2 to 7 what is no plan, then with 11 a list that is too short, then with 9 or 10 a plan that has no
 /// legal order.
 ///
 /// ```
@@ -86,7 +87,7 @@ pub fn verdict(plan: &[u32], order: &mut [u16]) -> Result<usize, Refusal> {
 ///
 /// # Errors
 ///
-/// Refuses with 2 to 8 what is no plan, and then with 15 a list that is no legal order. The place of a 15 is where the
+/// Refuses with 2 to 7 what is no plan, and then with 15 a list that is no legal order. The place of a 15 is where the
 /// list first goes wrong, counted from 1, and one past its end where it stops too soon: so the list itself is at fault
 /// up to its length, and something is missing behind it exactly if the place is `order.len() + 1`.
 ///
@@ -102,14 +103,15 @@ pub fn judge(plan: &[u32], order: &[u16]) -> Result<(), Refusal> {
 }
 
 /// Moves the claim of a line, counted from 1, to another device: the take there, and the give that matches it. The sets
-/// are the plan's table, from [`table`] or from earlier moves; those on the way back to line 1 are mended, and the
-/// count is that of the lines whose set is then another.
+/// are the plan's table, from [`table`] or from earlier moves. Mended are those on the way back to line 1, and those
+/// under the take, which stand between it and its give or, where it has none, behind it in its job: what is taken there
+/// may be taken again before the move and not after it, or the other way round. The count is that of the lines whose
+/// set is then another.
 ///
 /// # Errors
 ///
-/// Refuses with 2 to 8 what is no plan, then with 11 a table that is too short, then with 12 to 14, and last with 8
-/// where the job would hold the new device twice; the place is then the take that would be the second. A plan without a
-/// legal order can be moved as well.
+/// Refuses with 2 to 7 what is no plan, then with 11 a table that is too short, and then with 12 to 14. A claim may go
+/// to a device that its job holds, or come from one, and a plan without a legal order can be moved as well.
 ///
 /// ```
 /// use gimmerskip::entries;

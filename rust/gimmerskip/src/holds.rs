@@ -1,4 +1,5 @@
-//! Who holds what in a plan, and where it leads: mates, lasting takes, rows, and circles told line by line.
+//! Who holds what in a plan, and where it leads: mates, what is taken again, lasting takes, rows, and circles told line
+//! by line. A job holds a device from an outermost take on; what it takes again within changes nothing for others.
 //!
 //! The entries say whether a plan has an order; what is worked out here says why. It rests on the plan's table of
 //! claims, which is proved code's, and is else plain Rust, which the comparisons hold against the second program.
@@ -28,8 +29,7 @@ const DEVICES: usize = 32;
 #[derive(Clone, Debug, PartialEq, Eq)]
 pub struct Holds {
     steps: Vec<Step>,
-    /// For each line the other one of its pair: of a take its give, of a give its take.
-    pairs: Vec<Option<u16>>,
+    pairs: Pairs,
     rows: [u32; DEVICES],
 }
 
@@ -55,7 +55,7 @@ impl Holds {
     /// Works out what a plan holds.
     pub(crate) fn of_plan(plan: &Plan) -> Holds {
         let steps: Vec<Step> = plan.steps().collect();
-        let pairs = pairs(&steps);
+        let pairs = Pairs::of(&steps);
         let mut holds = Holds { steps, pairs, rows: [0; DEVICES] };
         let sets = plan.table();
         // A take is no start, so the line that follows in the job is all that comes next.
@@ -78,13 +78,21 @@ impl Holds {
         self.steps[usize::from(line) - 1].job
     }
 
-    /// The other line of a pair, if the line has this verb.
-    fn other(&self, line: u16, verb: Verb) -> Option<u16> {
-        self.step(line).filter(|step| step.verb == verb)?;
-        self.pairs[usize::from(line) - 1]
+    /// Whether a line has this verb.
+    fn is(&self, line: u16, verb: Verb) -> bool {
+        self.step(line).is_some_and(|step| step.verb == verb)
     }
 
-    /// The give that belongs to the take at this line: `None` if the take lasts, or the line is no take.
+    /// The other line of a pair, if the line has this verb.
+    fn other(&self, line: u16, verb: Verb) -> Option<u16> {
+        if !self.is(line, verb) {
+            return None;
+        }
+        self.pairs.other[usize::from(line) - 1]
+    }
+
+    /// The give that belongs to the take at this line: `None` if the take has none, or the line is no take. Gives match
+    /// the take made last, be it one that takes again or not.
     pub fn mate(&self, line: u16) -> Option<u16> {
         self.other(line, Verb::Take)
     }
@@ -94,9 +102,35 @@ impl Holds {
         self.other(line, Verb::Give)
     }
 
-    /// Whether this line is a lasting take, one without a give: its device stays held to the end.
+    /// The outermost take by which the job of this line holds the device that the line takes or gives: of an outermost
+    /// take the line itself, and `None` of a line that neither takes nor gives.
+    pub fn outermost(&self, line: u16) -> Option<u16> {
+        self.pairs.outermost.get(usize::from(line).checked_sub(1)?).copied()?
+    }
+
+    /// Whether this line takes again what its job holds there. Such a take waits for nobody, claims nothing and never
+    /// lasts.
+    ///
+    /// ```
+    /// let plan = gimmerskip::Plan::from_text("1\ttake\t3\n1\ttake\t3\n1\tgive\t3\n1\tgive\t3\n")?;
+    /// let holds = plan.holds();
+    /// assert!(!holds.takes_again(1) && holds.takes_again(2));
+    /// assert_eq!((holds.mate(1), holds.mate(2)), (Some(4), Some(3)));
+    /// assert!(!holds.frees(3) && holds.frees(4), "the outermost give is the one that frees");
+    /// # Ok::<(), gimmerskip::Refusal>(())
+    /// ```
+    pub fn takes_again(&self, line: u16) -> bool {
+        self.is(line, Verb::Take) && self.outermost(line) != Some(line)
+    }
+
+    /// Whether this line is an outermost give, with which the device is free: after any other its job still holds it.
+    pub fn frees(&self, line: u16) -> bool {
+        self.take_of(line).is_some_and(|take| !self.takes_again(take))
+    }
+
+    /// Whether this line is a lasting take, an outermost one without a give: its device stays held to the end.
     pub fn lasts(&self, line: u16) -> bool {
-        self.step(line).is_some_and(|step| step.verb == Verb::Take) && self.mate(line).is_none()
+        self.outermost(line) == Some(line) && self.mate(line).is_none()
     }
 
     /// The lasting takes of a device, going down the plan.
@@ -180,15 +214,15 @@ impl Holds {
         })
     }
 
-    /// The first line behind this one that takes the device: further down in the job, or in a job started there, and so
-    /// on. Jobs start later ones only, so that one way down the plan meets all of them.
+    /// The first line behind this one that takes the device, and not again: further down in the job, or in a job
+    /// started there, and so on. Jobs start later ones only, so that one way down the plan meets all of them.
     fn take_behind(&self, line: u16, device: u8) -> Option<u16> {
         let bit = |job: u8| 1_u64 << (job - 1);
         let mut behind = bit(self.job(line));
         for (at, step) in (1..).zip(&self.steps).skip(line.into()) {
             match step.verb {
                 _ if behind & bit(step.job) == 0 => {}
-                Verb::Take if step.operand == device => return Some(at),
+                Verb::Take if step.operand == device && !self.takes_again(at) => return Some(at),
                 Verb::Start => behind |= bit(step.operand),
                 _ => {}
             }
@@ -197,23 +231,59 @@ impl Holds {
     }
 }
 
-/// For each line the other one of its pair. A job gives what it took last and still holds, so the takes that wait for
-/// their gives make a stack. What earlier jobs left there lasts, and no give reaches down to it.
-fn pairs(steps: &[Step]) -> Vec<Option<u16>> {
-    let mut pairs = vec![None; steps.len()];
-    let mut held: Vec<usize> = Vec::new();
-    for (at, step) in steps.iter().enumerate() {
-        match step.verb {
-            Verb::Take => held.push(at),
-            Verb::Give => {
-                let take = held.pop().expect("a give of a plan has its take");
-                pairs[take] = Some(at as u16 + 1);
-                pairs[at] = Some(take as u16 + 1);
+/// What is known of the takes and gives, line by line.
+#[derive(Clone, Debug, PartialEq, Eq)]
+struct Pairs {
+    /// The other line of the pair: of a take its give, of a give its take.
+    other: Vec<Option<u16>>,
+    /// The outermost take by which the job holds the device.
+    outermost: Vec<Option<u16>>,
+}
+
+impl Pairs {
+    /// Goes through the jobs one after another: what a job leaves in hand at its end, no later one gives.
+    fn of(steps: &[Step]) -> Pairs {
+        let (other, outermost) = (vec![None; steps.len()], vec![None; steps.len()]);
+        let mut pairs = Pairs { other, outermost };
+        let mut line = 0;
+        for job in steps.chunk_by(|one, next| one.job == next.job) {
+            let mut in_hand = InHand { takes: Vec::new(), held: [None; DEVICES] };
+            for step in job {
+                line += 1;
+                match step.verb {
+                    Verb::Take => pairs.take(&mut in_hand, line, step.operand),
+                    Verb::Give => pairs.give(&mut in_hand, line, step.operand),
+                    Verb::Do | Verb::Start => {}
+                }
             }
-            Verb::Do | Verb::Start => {}
         }
+        pairs
     }
-    pairs
+
+    /// The job takes a device. Where it holds it already, the take that it holds it by stays the outermost.
+    fn take(&mut self, in_hand: &mut InHand, line: u16, device: u8) {
+        in_hand.takes.push(line);
+        let held = &mut in_hand.held[usize::from(device)];
+        self.outermost[usize::from(line) - 1] = Some(*held.get_or_insert(line));
+    }
+
+    /// The job gives what it took last.
+    fn give(&mut self, in_hand: &mut InHand, line: u16, device: u8) {
+        let take = in_hand.takes.pop().expect("a give of a plan has its take");
+        self.other[usize::from(take) - 1] = Some(line);
+        self.other[usize::from(line) - 1] = Some(take);
+        let held = &mut in_hand.held[usize::from(device)];
+        self.outermost[usize::from(line) - 1] = *held;
+        *held = held.filter(|&outermost| outermost != take);
+    }
+}
+
+/// What a job has in hand while its lines are gone through.
+struct InHand {
+    /// The takes whose gives have not come, the last one at the end.
+    takes: Vec<u16>,
+    /// For each device the outermost take by which the job holds it.
+    held: [Option<u16>; DEVICES],
 }
 
 /// The lowest device of a set that has one.

@@ -96,6 +96,25 @@
 //! # Ok::<(), gimmerskip::Refusal>(())
 //! ```
 //!
+//! # A device taken again
+//!
+//! A cleaning recipe stands in a job that has the pump already, and takes it too. That take waits for nobody and claims
+//! nothing, and its give does not free the pump: job 2 has to wait for line 5, or come before line 2.
+//!
+//! ```
+//! use gimmerskip::{Plan, Refusal};
+//!
+//! let plan = Plan::from_text(concat!(
+//!     "1\tstart\t2\n1\ttake\t0\n1\ttake\t0\n1\tgive\t0\n1\tgive\t0\n", //
+//!     "2\ttake\t0\n2\tgive\t0\n",
+//! ))?;
+//! assert_eq!(plan.table(), [1, 1, 0, 0, 0, 1, 0]);
+//! assert!(plan.holds().takes_again(3) && !plan.holds().frees(4));
+//! assert_eq!(plan.judge(&[1, 6, 7, 2, 3, 4, 5]), Ok(()));
+//! assert_eq!(plan.judge(&[1, 2, 3, 4, 6, 7, 5]), Err(Refusal::IllegalStep(5)));
+//! # Ok::<(), Refusal>(())
+//! ```
+//!
 //! # A text that is no plan
 //!
 //! ```

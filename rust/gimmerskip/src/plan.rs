@@ -42,7 +42,7 @@ impl Plan {
     ///
     /// # Errors
     ///
-    /// Refuses with 1 to 8 what is no plan; [`Refusal::in_text`] has the words for whoever wrote the text.
+    /// Refuses with 1 to 7 what is no plan; [`Refusal::in_text`] has the words for whoever wrote the text.
     ///
     /// ```
     /// use gimmerskip::{Plan, Refusal};
@@ -63,7 +63,7 @@ impl Plan {
     ///
     /// # Errors
     ///
-    /// Refuses with 2 to 8 what is no plan.
+    /// Refuses with 2 to 7 what is no plan.
     ///
     /// ```
     /// use gimmerskip::{Plan, Refusal};
@@ -119,7 +119,7 @@ impl Plan {
         Steps::of_plan(&self.lines)
     }
 
-    /// Who holds what: mates, lasting takes, rows and circles.
+    /// Who holds what: mates, what is taken again, lasting takes, rows and circles.
     ///
     /// # Panics
     ///
@@ -140,7 +140,7 @@ impl Plan {
         text[..count].iter().map(|&byte| char::from(byte)).collect()
     }
 
-    /// The table of claims, one set a line, device d being bit d.
+    /// The table of claims, one set a line, device d being bit d. What its job holds already a line does not claim.
     ///
     /// # Panics
     ///
@@ -183,21 +183,20 @@ impl Plan {
         entries::judge(&self.lines, order)
     }
 
-    /// Moves the claim of a line, counted from 1, to another device, and mends the plan's table along the way; the
-    /// count is that of the lines whose set is then another. The table is what [`Plan::table`] gave, kept up by earlier
-    /// moves; [`Tabled`](crate::Tabled) keeps both together.
+    /// Moves the claim of a line, counted from 1, to another device, and mends the plan's table along the way and under
+    /// the take; the count is that of the lines whose set is then another. The table is what [`Plan::table`] gave, kept
+    /// up by earlier moves; [`Tabled`](crate::Tabled) keeps both together.
     ///
     /// # Errors
     ///
-    /// Refuses with 11 to 14, and last with 8 where the job would hold the new device twice, the place being the take
-    /// that would be the second. Plan and table are then as they were.
+    /// Refuses with 11 to 14. Plan and table are then as they were.
     ///
     /// ```
     /// use gimmerskip::{Plan, Refusal};
     ///
     /// let mut plan = Plan::from_text("1\ttake\t3\n1\ttake\t5\n1\tgive\t5\n")?;
     /// let mut table = plan.table();
-    /// assert_eq!(plan.move_claim(&mut table, 2, 3), Err(Refusal::TakeOfHeld(2)));
+    /// assert_eq!(plan.move_claim(&mut table, 3, 4), Err(Refusal::NotATake(3)));
     /// assert_eq!(plan.move_claim(&mut table, 2, 4), Ok(2));
     /// assert_eq!(plan.text(), "1\ttake\t3\n1\ttake\t4\n1\tgive\t4\n");
     /// # Ok::<(), Refusal>(())

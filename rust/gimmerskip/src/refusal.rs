@@ -34,8 +34,6 @@ pub enum Refusal {
     NeverStarted(u32),
     /// 7: this line gives a device that is not the latest its job still holds.
     GiveWithoutTake(u32),
-    /// 8: this line takes a device that its job holds already.
-    TakeOfHeld(u32),
     /// 9: this device has more than one lasting take; it is the lowest such device.
     TwoLasting(u32),
     /// 10: this device leads back to itself; it is the lowest such device.
@@ -46,15 +44,17 @@ pub enum Refusal {
     NotATake(u32),
     /// 13: the device that was asked for, this one, is over 31.
     NoSuchDevice(u32),
-    /// 14: the table is stale at this line, of all such lines on the way the nearest to the one to be moved.
+    /// 14: the table is stale at this line. Of the lines whose sets the move may change it is the first such one: those
+    /// on the way from the moved line back to line 1 are tested first, then those under the take, going down.
     StaleTable(u32),
     /// 15: the list is no legal order of the plan: it goes wrong first at this position, counted from 1. Where the
     /// position is the list's length plus one, every entry is right so far, and the list stops too soon; the refusal
     /// does not know the length, so that its words leave both open.
     IllegalStep(u32),
-    /// None of the fifteen, kept as it came. The archives that this crate is made for never answer so; only others,
-    /// with rules that are not known here, could. It is no success, and under another number it would send its reader
-    /// to the wrong place: so it has a case of its own.
+    /// None of these, kept as it came: a number over 15, say, or 8, which is free since a job may take again what it
+    /// holds. The archives that this crate is made for never answer so; only others, with rules that are not known
+    /// here, could. It is no success, and under another number it would send its reader to the wrong place: so it has a
+    /// case of its own.
     Unlisted {
         /// The number in the answer.
         number: u32,
@@ -74,7 +74,6 @@ impl Refusal {
             (5, line) => Refusal::BadStart(line),
             (6, line) => Refusal::NeverStarted(line),
             (7, line) => Refusal::GiveWithoutTake(line),
-            (8, line) => Refusal::TakeOfHeld(line),
             (9, device) => Refusal::TwoLasting(device),
             (10, device) => Refusal::LeadsBack(device),
             (11, needed) => Refusal::ListTooShort(needed),
@@ -86,7 +85,7 @@ impl Refusal {
         }
     }
 
-    /// The number: 1 to 15, unless it is [`Refusal::Unlisted`].
+    /// The number: 1 to 7 or 9 to 15, unless it is [`Refusal::Unlisted`].
     pub fn number(self) -> u32 {
         match self {
             Refusal::TextTooLong => 1,
@@ -96,7 +95,6 @@ impl Refusal {
             Refusal::BadStart(_) => 5,
             Refusal::NeverStarted(_) => 6,
             Refusal::GiveWithoutTake(_) => 7,
-            Refusal::TakeOfHeld(_) => 8,
             Refusal::TwoLasting(_) => 9,
             Refusal::LeadsBack(_) => 10,
             Refusal::ListTooShort(_) => 11,
@@ -115,7 +113,7 @@ impl Refusal {
             TextTooLong => 0,
             TooManyLines => MAX_LINES as u32 + 1,
             Malformed(line) | JobOutOfSequence(line) | BadStart(line) | NeverStarted(line) => line,
-            GiveWithoutTake(line) | TakeOfHeld(line) | StaleTable(line) => line,
+            GiveWithoutTake(line) | StaleTable(line) => line,
             TwoLasting(device) | LeadsBack(device) => device,
             ListTooShort(needed) => needed,
             NotATake(asked) | NoSuchDevice(asked) => asked,
@@ -133,7 +131,7 @@ impl Refusal {
     /// let refusal = Plan::from_text("1\ttake\t3\n1 give 3\n").unwrap_err();
     /// assert_eq!(refusal.to_string(), "line 2 is no line that a plan can have");
     /// assert_eq!(refusal.in_text().to_string(), "line 2 is malformed, or its newline is missing");
-    /// let refusal = Refusal::TakeOfHeld(6);
+    /// let refusal = Refusal::GiveWithoutTake(6);
     /// assert_eq!(refusal.in_text().to_string(), refusal.to_string());
     /// ```
     pub fn in_text(self) -> impl fmt::Display + fmt::Debug + Copy {
@@ -155,7 +153,6 @@ impl Refusal {
             Refusal::GiveWithoutTake(_) => {
                 "gives a device that is not the latest its job still holds"
             }
-            Refusal::TakeOfHeld(_) => "takes a device that its job holds already",
             Refusal::NotATake(_) => "is no take of the plan, so it has no claim to move",
             Refusal::StaleTable(_) => {
                 "has a stale set: it does not follow from the plan and the sets after it"

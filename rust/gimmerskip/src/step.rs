@@ -19,9 +19,9 @@ const JOBS: RangeInclusive<u32> = 1..=64;
 pub enum Verb {
     /// An action of the controller's, which touches no device; the operand is the action, 0 to 255.
     Do,
-    /// The job takes a device; the operand is the device, 0 to 31.
+    /// The job takes a device, at times again; the operand is the device, 0 to 31.
     Take,
-    /// The job gives a device back; the operand is the device, 0 to 31.
+    /// The job gives back what it took last; the operand is the device, 0 to 31.
     Give,
     /// Another job is started; the operand is that job, 2 to 64.
     Start,
@@ -62,7 +62,8 @@ impl fmt::Display for Verb {
     }
 }
 
-/// One line of a plan. As text it has its three fields with a tab between, and no newline.
+/// One line of a plan. As text it has its three fields with a tab between, and no newline. Whether a take is of a
+/// device that its job holds already hangs on the lines before it: `Holds::takes_again` tells.
 ///
 /// ```
 /// use gimmerskip::{Step, Verb};

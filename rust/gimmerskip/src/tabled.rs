@@ -12,8 +12,11 @@ use std::vec::Vec;
 /// assert_eq!(tabled.table(), [1 << 3 | 1 << 5, 1 << 5, 0]);
 /// assert_eq!(tabled.move_claim(2, 4), Ok(2));
 /// assert_eq!(tabled.table(), [1 << 3 | 1 << 4, 1 << 4, 0]);
-/// assert_eq!(tabled.move_claim(2, 3), Err(Refusal::TakeOfHeld(2)));
-/// assert_eq!(tabled.into_plan().text(), "1\ttake\t3\n1\ttake\t4\n1\tgive\t4\n");
+/// assert_eq!(tabled.move_claim(3, 3), Err(Refusal::NotATake(3)));
+/// // The job holds device 3 at line 2, which takes it again then and claims nothing.
+/// assert_eq!(tabled.move_claim(2, 3), Ok(2));
+/// assert_eq!(tabled.table(), [1 << 3, 0, 0]);
+/// assert_eq!(tabled.into_plan().text(), "1\ttake\t3\n1\ttake\t3\n1\tgive\t3\n");
 /// # Ok::<(), Refusal>(())
 /// ```
 #[derive(Clone, Debug, Default, PartialEq, Eq, Hash)]
@@ -45,8 +48,7 @@ impl Tabled {
     ///
     /// # Errors
     ///
-    /// Refuses with 12 or 13, and last with 8 where the job would hold the new device twice, the place being the take
-    /// that would be the second. Plan and table are then as they were.
+    /// Refuses with 12 or 13. Plan and table are then as they were.
     pub fn move_claim(&mut self, line: u32, device: u32) -> Result<usize, Refusal> {
         self.plan.move_claim(&mut self.table, line, device)
     }

@@ -61,8 +61,8 @@ fn the_order_handed_out_is_judged_legal() {
 fn the_table_of_a_moved_plan_is_the_one_worked_out_afresh() {
     let mut moved = plan(A);
     let mut table = moved.table();
-    for (line, device, count) in [(5, 2, Ok(3)), (4, 31, Ok(2)), (2, 0, Ok(2)), (5, 31, Err(5))] {
-        let count = count.map_err(Refusal::TakeOfHeld);
+    for (line, device, count) in [(5, 2, Ok(3)), (4, 31, Ok(2)), (2, 0, Ok(2)), (6, 31, Err(6))] {
+        let count = count.map_err(Refusal::NotATake);
         assert_eq!(moved.move_claim(&mut table, line, device), count, "{line} to {device}");
         assert_eq!(table, moved.table());
     }

@@ -9,7 +9,7 @@ use gimmerskip::{entries, outcome, Plan, Refusal};
 use second::listed::{packed, A, F, G, H};
 
 /// Every refusal with its number, its place and its words.
-const WORDS: [(Refusal, u32, u32, &str); 16] = [
+const WORDS: [(Refusal, u32, u32, &str); 15] = [
     (Refusal::TextTooLong, 1, 0, "the text has more than 12288 bytes"),
     (Refusal::Malformed(3), 2, 3, "line 3 is no line that a plan can have"),
     (
@@ -38,7 +38,6 @@ const WORDS: [(Refusal, u32, u32, &str); 16] = [
         5,
         "line 5 gives a device that is not the latest its job still holds",
     ),
-    (Refusal::TakeOfHeld(6), 8, 6, "line 6 takes a device that its job holds already"),
     (
         Refusal::TwoLasting(31),
         9,
@@ -78,7 +77,8 @@ fn each_has_its_number_its_place_and_its_words() {
         assert_eq!(outcome(answer), Err(refusal));
     }
     for number in 1..=15 {
-        assert!(WORDS.iter().any(|row| row.1 == number), "{number} has its words");
+        let is_free = number == 8;
+        assert_eq!(WORDS.iter().any(|row| row.1 == number), !is_free, "{number}");
     }
 }
 
@@ -105,7 +105,7 @@ fn an_answer_below_the_refusals_is_a_count() {
 
 #[test]
 fn an_answer_of_no_known_number_is_kept_as_it_came() {
-    for (number, place) in [(16, 7), (u32::MAX, u32::MAX), (1, 1), (3, 1_024), (0, 4)] {
+    for (number, place) in [(16, 7), (8, 2), (u32::MAX, u32::MAX), (1, 1), (3, 1_024), (0, 4)] {
         let refusal = Refusal::new(number, place);
         assert_eq!(refusal, Refusal::Unlisted { number, place });
         assert_eq!((refusal.number(), refusal.place()), (number, place));
@@ -155,7 +155,7 @@ fn two_and_three_in_packed_lists() {
 }
 
 #[test]
-fn four_to_eight_in_texts_and_packed_lists() {
+fn four_to_seven_in_texts_and_packed_lists() {
     let cases = [
         ("2 do 0", Refusal::JobOutOfSequence(1)),
         ("1 start 2; 1 start 3; 3 do 0", Refusal::JobOutOfSequence(3)),
@@ -167,7 +167,6 @@ fn four_to_eight_in_texts_and_packed_lists() {
         ("1 give 0", Refusal::GiveWithoutTake(1)),
         ("1 take 0; 1 take 1; 1 give 0", Refusal::GiveWithoutTake(3)),
         ("1 start 2; 1 take 0; 2 give 0", Refusal::GiveWithoutTake(3)),
-        ("1 take 3; 1 take 3", Refusal::TakeOfHeld(2)),
         // The topmost fault is told; what only the end shows comes last, 5 before 6.
         ("1 start 9; 1 give 0; 7 do 0", Refusal::GiveWithoutTake(2)),
         ("1 do 0; 2 start 9; 2 do 0", Refusal::BadStart(2)),
@@ -206,15 +205,15 @@ fn eleven_needs_the_length_and_comes_before_the_verdict() {
 
 #[test]
 fn fifteen_comes_after_the_plans_faults() {
-    let twice = packed("1 take 3; 1 take 3");
-    assert_eq!(entries::judge(&twice, &[]), Err(Refusal::TakeOfHeld(2)));
+    let twice = packed("1 take 3; 1 give 3; 1 give 3");
+    assert_eq!(entries::judge(&twice, &[]), Err(Refusal::GiveWithoutTake(3)));
     assert_eq!(plan(A).judge(&[]), Err(Refusal::IllegalStep(1)));
     assert_eq!(plan(G).judge(&[1, 2, 3]), Err(Refusal::IllegalStep(3)), "9 is no bar");
     assert_eq!(plan(G).judge(&[1, 3]), Err(Refusal::IllegalStep(3)));
 }
 
 #[test]
-fn twelve_to_fourteen_and_eight_in_a_move() {
+fn twelve_to_fourteen_in_a_move() {
     let (before, sets) = (plan(A), plan(A).table());
     let refused = |sets: &[u32], line, device, refusal| {
         let (mut plan, mut table) = (before.clone(), sets.to_vec());
@@ -231,6 +230,4 @@ fn twelve_to_fourteen_and_eight_in_a_move() {
     refused(&[3, 2, 0, 2, 2, 0], 5, 2, Refusal::StaleTable(4));
     refused(&[2, 2, 0, 3, 2, 0], 5, 2, Refusal::StaleTable(1));
     refused(&[3, 3, 0, 3, 2, 0], 2, 2, Refusal::StaleTable(2));
-    refused(&sets, 5, 0, Refusal::TakeOfHeld(5));
-    refused(&sets, 4, 1, Refusal::TakeOfHeld(5));
 }

@@ -1,10 +1,12 @@
-//! Damage done to texts and packed lists, so that refusals come from plans that are nearly right.
+//! Damage done to texts, packed lists and tables, so that refusals come from what is nearly right.
 //!
-//! Reads, of document 01: "The plan as text" and the cases 2 to 8 of "Refusal numbers", for what
-//! can go wrong; whether a piece of damage makes a fault is left to the readings.
+//! Reads, of document 01: "The plan as text", the cases 2 to 7 of "Refusal numbers", and the stale
+//! sets of "Moving a claim", for what can go wrong; whether a piece of damage makes a fault is left
+//! to the readings.
 
-use crate::line::{Line, Verb, LINES};
-use crate::random::Random;
+use crate::line::{Line, Verb, DEVICES, LINES};
+use crate::plain::{gives, under, way};
+use crate::random::{Move, Random};
 use crate::read::write;
 
 /// Damages a text: one byte or one line goes, comes, or changes its place.
@@ -52,7 +54,7 @@ pub fn damaged_packed(random: &mut Random, plan: &[u32]) -> Vec<u32> {
         8 => put(random, &mut list, 2),
         9 => put(random, &mut list, 1),
         10 => unstart(random, &mut list),
-        11 => take_again(random, &mut list),
+        11 => repeat_take(random, &mut list),
         _ => list[at] = list[at].wrapping_add(1_024),
     }
     list
@@ -94,8 +96,9 @@ fn unstart(random: &mut Random, list: &mut [u32]) {
     }
 }
 
-/// Repeats a take somewhere below in its job, where the device may still be held.
-fn take_again(random: &mut Random, list: &mut Vec<u32>) {
+/// Repeats a take somewhere below in its job. The device may still be held there, and is then taken
+/// again; gives below may come to be of another device than the take made last.
+fn repeat_take(random: &mut Random, list: &mut Vec<u32>) {
     let takes = of_kind(list, 1);
     if !takes.is_empty() {
         let at = random.one_of(&takes);
@@ -103,6 +106,31 @@ fn take_again(random: &mut Random, list: &mut Vec<u32>) {
         let below = list[at..].iter().take_while(|&&number| number / 1_024 == job).count();
         list.insert(at + 1 + random.below(below), list[at]);
     }
+}
+
+/// Makes one set of a table stale, and no other: a device is put into it that is not there, and into
+/// those of all lines that lead to it. Its line is any, or, where a take is to be moved, on the way of
+/// that take, under it, or from its give on.
+pub fn stale_table(random: &mut Random, plan: &[Line], to: Move, sets: &[u32]) -> Vec<u32> {
+    let asked = (to.line as usize).checked_sub(1);
+    let take = asked.filter(|&at| plan.get(at).is_some_and(|line| line.takes().is_some()));
+    let lines = match (take, random.below(4)) {
+        (Some(take), 0) => way(plan, take),
+        (Some(take), 1) => under(plan, take),
+        (Some(take), 2) => (gives(plan)[take].unwrap_or(plan.len())..plan.len()).collect(),
+        _ => (0..plan.len()).collect(),
+    };
+    let mut stale = sets.to_vec();
+    if !lines.is_empty() {
+        let line = random.one_of(&lines);
+        let absent = |device: &u32| sets[line] >> device & 1 == 0;
+        let absent: Vec<u32> = (0..DEVICES).filter(absent).collect();
+        let device = if absent.is_empty() { 0 } else { 1 << random.one_of(&absent) };
+        for on in way(plan, line) {
+            stale[on] |= device;
+        }
+    }
+    stale
 }
 
 /// A packed list as a text, line by line. What is the number of no line is spelt all the same,

@@ -1,11 +1,12 @@
 //! Orders from elsewhere for the comparisons: some that are legal and not those handed out, and some
 //! with damage done to them.
 //!
-//! Reads, of document 02: request 1. Whether a list is legal is left to the readings; only
+//! Reads, of document 02: requests 1 and 2. Whether a list is legal is left to the readings; only
 //! [`mixed`] keeps a legal one legal.
 
 use crate::line::{Line, Verb};
 use crate::orders;
+use crate::plain::{depths, gives, way};
 use crate::random::Random;
 
 /// A list that goes on, by random choice, as long as some line may come. Where what it takes to the
@@ -37,6 +38,34 @@ fn may_change(plan: &[Line], first: u16, second: u16) -> bool {
     let [first, second] = [first, second].map(|entry| plan[usize::from(entry) - 1]);
     let gives = matches!(first.verb, Verb::Give(device) if second.takes() == Some(device));
     first.job != second.job && first.verb != Verb::Start(second.job) && !gives
+}
+
+/// A list in which a take comes too soon: right behind a give of the device by another job, which
+/// took it more than once and has not given it back as often. The take's own job has come up to it by
+/// then. There is none where the list has no such place.
+pub fn too_soon(random: &mut Random, plan: &[Line], order: &[u16]) -> Option<Vec<u16>> {
+    let (depths, gives) = (depths(plan), gives(plan));
+    let inner = (0..plan.len()).filter(|&take| depths[take] > Some(0));
+    let inner_gives: Vec<usize> = inner.filter_map(|take| gives[take]).collect();
+    let place = |line: usize| order.iter().position(|&entry| usize::from(entry) == line + 1);
+    let mut found = Vec::new();
+    for give in inner_gives {
+        let Some(behind) = place(give) else { continue };
+        let Line { job, verb } = plan[give];
+        let wants = |take: usize| {
+            let takes = plan[take].takes() == Some(verb.operand()) && plan[take].job != job;
+            let come_up = |before: usize| place(before).is_some_and(|place| place < behind);
+            takes && way(plan, take).get(1).is_some_and(|&before| come_up(before))
+        };
+        let takes = (0..plan.len()).filter(|&take| wants(take));
+        found.extend(takes.map(|take| (behind, take as u16 + 1)));
+    }
+    if found.is_empty() {
+        return None;
+    }
+    let (behind, take) = random.one_of(&found);
+    let rest = order[behind + 1..].iter().filter(|&&entry| entry != take);
+    Some(order[..=behind].iter().chain([&take]).chain(rest).copied().collect())
 }
 
 /// An entry that may stand anywhere: a line of so many, or a number that no plan's line has or that

@@ -1,8 +1,8 @@
 //! The judge of orders from elsewhere: each entry is asked every rule anew.
 //!
-//! Reads, of document 02: request 1, and of document 01: "Legal orders". From one entry to the next
-//! nothing is kept but which lines are done. Line numbers and positions count from 1; 0 stands for
-//! an entry that is never legal.
+//! Reads, of document 02: requests 1 and 2, and of document 01: "Legal orders". From one entry to the
+//! next nothing is kept but which lines are done. Line numbers and positions count from 1; 0 stands
+//! for an entry that is never legal.
 
 use crate::line::{Line, Refusal, Verb};
 use crate::read::{check_packed, read};
@@ -18,7 +18,7 @@ pub enum Rule {
     NotStarted(usize),
     /// This line stands before it in its job, and is not done.
     Earlier(usize),
-    /// It takes a device that was taken at this line, which is done, and not given back.
+    /// It takes a device that another job took at this line, which is done, and did not give back.
     Held(usize),
 }
 
@@ -39,11 +39,17 @@ pub fn broken(plan: &[Line], done: &[bool], entry: usize) -> Vec<Rule> {
     broken.extend(starts.into_iter().map(Rule::NotStarted));
     let earlier = undone(&|other| plan[other].job == job && other < at);
     broken.extend(earlier.into_iter().map(Rule::Earlier));
-    let device = plan[at].takes();
-    let keeps = |take: usize| device.is_some() && plan[take].takes() == device && done[take];
-    let held = (0..plan.len()).filter(|&take| keeps(take) && !is_given(plan, done, take));
+    let held = (0..plan.len()).filter(|&take| is_in_the_way(plan, done, take, at));
     broken.extend(held.map(|take| Rule::Held(take + 1)));
     broken
+}
+
+/// Whether a take that is done keeps this line from coming: the line takes the same device in another
+/// job, and the give of the take is not done. What its own job holds a job may take again.
+fn is_in_the_way(plan: &[Line], done: &[bool], take: usize, at: usize) -> bool {
+    let device = plan[at].takes();
+    let same_device = device.is_some() && plan[take].takes() == device;
+    same_device && plan[take].job != plan[at].job && done[take] && !is_given(plan, done, take)
 }
 
 /// Whether the give of a take is done. A give is that of the take made last in its job, so that the

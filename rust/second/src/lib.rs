@@ -12,7 +12,7 @@
 //! [`judge`], which do not call each other either; the run `readings` is the only place where their
 //! answers meet. [`random`] makes the plans for it, [`damage`] spoils them, [`small`] brings every
 //! small one, [`listed`] those of document 01 with their answers, [`elsewhere`] makes and spoils
-//! orders, and [`tally`] counts what was seen.
+//! orders, [`shapes`] tells what a plan takes again, and [`tally`] counts what was seen.
 
 #![forbid(unsafe_code)]
 #![warn(missing_docs)]
@@ -26,6 +26,7 @@ pub mod orders;
 pub mod plain;
 pub mod random;
 pub mod read;
+pub mod shapes;
 pub mod small;
 pub mod tally;
 

@@ -1,7 +1,7 @@
 //! A line of a plan as plain data, its packed number, and a refusal.
 //!
 //! Reads, of document 01: the table of verbs and the packed form under "The plan as text", and
-//! the shape of a refusal under "Refusal numbers"; of document 02: request 1, its refusal.
+//! the shape of a refusal under "Refusal numbers"; of document 02: requests 1 and 2, for 15 and 8.
 
 /// The highest job.
 pub const JOBS: u32 = 64;
@@ -100,7 +100,7 @@ pub fn pack(plan: &[Line]) -> Vec<u32> {
 /// A refusal: its number and its place.
 #[derive(Clone, Copy, Debug, PartialEq, Eq, Hash)]
 pub struct Refusal {
-    /// 1 to 15.
+    /// 1 to 15 without 8, which is not given any more.
     pub number: u32,
     /// A line, a device, a length, a position or nought, by the number. It is wide enough for any
     /// length.

@@ -1,7 +1,8 @@
 //! The first reading, part two: all orders, tried one step after another.
 //!
-//! Reads, of document 01: "Legal orders", and nothing else. Claims, rows and circles are unknown
-//! here on purpose: what this file finds is what the other reading is held against.
+//! Reads, of document 01: "Legal orders", and of document 02: request 2, what it says of devices that
+//! are free. Claims, rows and circles are unknown here on purpose: what this file finds is what the
+//! other reading is held against.
 //!
 //! The plans are well-formed; line numbers count from 1 outside and from nought inside.
 
@@ -28,17 +29,41 @@ impl<'a> Plan<'a> {
     }
 }
 
+/// A device as a monitor: a job comes in as often as it likes, and others when it has left as often.
+#[derive(Clone, Copy, Default)]
+struct Monitor {
+    /// The job that was in last.
+    job: u8,
+    /// How often that job has taken the device and not given it back; not at all if it is free.
+    inside: usize,
+}
+
+impl Monitor {
+    fn lets_in(self, job: u8) -> bool {
+        self.inside == 0 || self.job == job
+    }
+
+    fn enter(&mut self, job: u8) {
+        *self = Monitor { job, inside: self.inside + 1 };
+    }
+
+    fn leave(&mut self) {
+        self.inside -= 1;
+    }
+}
+
 /// An order as far as it has come.
 struct Course {
     done: Vec<bool>,
-    /// The job that holds each device. A give can only return what its own job holds, for it
-    /// follows its take in every order that keeps to the jobs' line order.
-    holder: [Option<u8>; DEVICES as usize],
+    /// The devices. Only the job inside can leave: a give follows its take in every order that
+    /// keeps to the jobs' line order.
+    devices: [Monitor; DEVICES as usize],
 }
 
 impl Course {
     fn new(plan: &Plan) -> Course {
-        Course { done: vec![false; plan.lines.len()], holder: [None; DEVICES as usize] }
+        let devices = [Monitor::default(); DEVICES as usize];
+        Course { done: vec![false; plan.lines.len()], devices }
     }
 
     /// Whether the line may come next. One line before it is enough to look at: that one has
@@ -47,29 +72,30 @@ impl Course {
         if self.done[at] || plan.before[at].is_some_and(|before| !self.done[before]) {
             return false;
         }
-        match plan.lines[at].verb {
-            Verb::Take(device) => self.holder[usize::from(device)].is_none(),
+        let Line { job, verb } = plan.lines[at];
+        match verb {
+            Verb::Take(device) => self.devices[usize::from(device)].lets_in(job),
             _ => true,
         }
     }
 
     fn come(&mut self, plan: &Plan, at: usize) {
-        let line = plan.lines[at];
+        let Line { job, verb } = plan.lines[at];
         self.done[at] = true;
-        match line.verb {
-            Verb::Take(device) => self.holder[usize::from(device)] = Some(line.job),
-            Verb::Give(device) => self.holder[usize::from(device)] = None,
+        match verb {
+            Verb::Take(device) => self.devices[usize::from(device)].enter(job),
+            Verb::Give(device) => self.devices[usize::from(device)].leave(),
             _ => {}
         }
     }
 
     /// Undoes the line that came last.
     fn go_back(&mut self, plan: &Plan, at: usize) {
-        let line = plan.lines[at];
+        let Line { job, verb } = plan.lines[at];
         self.done[at] = false;
-        match line.verb {
-            Verb::Take(device) => self.holder[usize::from(device)] = None,
-            Verb::Give(device) => self.holder[usize::from(device)] = Some(line.job),
+        match verb {
+            Verb::Take(device) => self.devices[usize::from(device)].leave(),
+            Verb::Give(device) => self.devices[usize::from(device)].enter(job),
             _ => {}
         }
     }
@@ -89,7 +115,7 @@ pub fn held_after(plan: &[Line], order: &[usize]) -> Option<u32> {
     if course.done.contains(&false) {
         return None;
     }
-    Some(course.holder.iter().flatten().count() as u32)
+    Some(course.devices.iter().filter(|device| device.inside > 0).count() as u32)
 }
 
 /// How many entries from the front may come, one after another.

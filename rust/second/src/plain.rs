@@ -1,8 +1,9 @@
 //! The second reading: claims, rows, the verdict and the order handed out, in plain words.
 //!
 //! Reads, of document 01: "Claims and rows", "The order handed out", and of "Refusal numbers" the
-//! cases 9 and 10. The move stands in `plain/moving.rs`, the entries with lent lists and what is
-//! printed in `plain/lent.rs`; both are reached from here.
+//! cases 9 and 10; of document 02: request 2, by which these speak of outermost takes alone. The
+//! move stands in `plain/moving.rs`, the entries with lent lists and what is printed in
+//! `plain/lent.rs`; both are reached from here.
 //!
 //! It knows nothing of trying orders. The plans given as lines are well-formed; places count from
 //! nought inside and from 1 outside.
@@ -11,7 +12,7 @@ mod lent;
 mod moving;
 
 pub use lent::{printed, read_into, screen, table_into, verdict_into, write_into, SCREEN};
-pub use moving::{edited, move_claim, way};
+pub use moving::{edited, move_claim, stale, under, way};
 
 use crate::line::{Line, Refusal, Verb, DEVICES};
 use std::collections::BTreeMap;
@@ -47,43 +48,76 @@ pub fn successors(plan: &[Line], at: usize) -> Vec<usize> {
     after
 }
 
-/// What a line claims by itself.
-fn own_claim(line: Line) -> u32 {
-    line.takes().map_or(0, only)
+/// For each take how often its job has taken the device before and not given it back; lines that are
+/// no takes have no number.
+pub fn depths(plan: &[Line]) -> Vec<Option<usize>> {
+    let mut job = 0;
+    let mut open = [0; DEVICES as usize];
+    let depth = |line: &Line| {
+        if line.job != job {
+            (job, open) = (line.job, [0; DEVICES as usize]);
+        }
+        match line.verb {
+            Verb::Take(device) => {
+                open[usize::from(device)] += 1;
+                Some(open[usize::from(device)] - 1)
+            }
+            Verb::Give(device) => {
+                open[usize::from(device)] -= 1;
+                None
+            }
+            Verb::Do(_) | Verb::Start(_) => None,
+        }
+    };
+    plan.iter().map(depth).collect()
 }
 
-/// A line's own claim joined with the sets that are stored for its successors.
-fn joined(plan: &[Line], sets: &[u32], at: usize) -> u32 {
-    let after = successors(plan, at);
-    after.iter().fold(own_claim(plan[at]), |set, &next| set | sets[next])
+/// For each line the device it takes, if it is an outermost take: one of a device that its job does
+/// not hold there.
+pub fn outermost(plan: &[Line]) -> Vec<Option<u8>> {
+    let lines = plan.iter().zip(depths(plan));
+    lines.map(|(line, depth)| line.takes().filter(|_| depth == Some(0))).collect()
+}
+
+/// What is claimed at a line, where these are the outermost takes, joined with the sets that are
+/// stored for its successors.
+fn joined(plan: &[Line], outermost: &[Option<u8>], sets: &[u32], at: usize) -> u32 {
+    let own = outermost[at].map_or(0, only);
+    successors(plan, at).into_iter().fold(own, |set, next| set | sets[next])
 }
 
 /// The claim set of each line.
 pub fn table(plan: &[Line]) -> Vec<u32> {
+    let outermost = outermost(plan);
     let mut sets = vec![0; plan.len()];
     // Successors stand further down, also those in a started job, for its number is higher.
     for at in (0..plan.len()).rev() {
-        sets[at] = joined(plan, &sets, at);
+        sets[at] = joined(plan, &outermost, &sets, at);
     }
     sets
 }
 
-/// For each take the line of its give. A job cannot take what it holds, so the give is the next
-/// one of that device in the job. Lines that are no takes, and lasting takes, have none.
+/// For each take the line of its give, whether it is an outermost one or not: a give is that of the
+/// take made last of those that wait for theirs. Other lines, and takes never given back, have none.
 pub fn gives(plan: &[Line]) -> Vec<Option<usize>> {
-    let give = |at: usize| {
-        let device = plan[at].takes()?;
-        let mut rest = (at..plan.len()).take_while(|&later| plan[later].job == plan[at].job);
-        rest.find(|&later| plan[later].verb == Verb::Give(device))
-    };
-    (0..plan.len()).map(give).collect()
+    let mut gives = vec![None; plan.len()];
+    let mut waiting = Vec::new();
+    for (at, line) in plan.iter().enumerate() {
+        match line.verb {
+            Verb::Take(_) => waiting.push(at),
+            // What an earlier job never gives back stays at the bottom, where no give reaches.
+            Verb::Give(_) => gives[waiting.pop().expect("a give has its take")] = Some(at),
+            Verb::Do(_) | Verb::Start(_) => {}
+        }
+    }
+    gives
 }
 
-/// For each line the device it takes to the end, if it is a lasting take.
+/// For each line the device it takes to the end, if it is a lasting take: one that is outermost and
+/// has no give.
 pub fn lasting(plan: &[Line]) -> Vec<Option<u8>> {
-    let gives = gives(plan);
-    let device = |at: usize| plan[at].takes().filter(|_| gives[at].is_none());
-    (0..plan.len()).map(device).collect()
+    let lines = outermost(plan).into_iter().zip(gives(plan));
+    lines.map(|(device, give)| device.filter(|_| give.is_none())).collect()
 }
 
 /// The rows.
@@ -160,6 +194,7 @@ pub fn passes_over(plan: &[Line]) -> bool {
 struct Course<'a> {
     plan: &'a [Line],
     gives: Vec<Option<usize>>,
+    outermost: Vec<Option<u8>>,
     lasting: Vec<Option<u8>>,
     /// The next line of each started job that has one, lowest job first.
     standing: BTreeMap<u8, usize>,
@@ -175,6 +210,7 @@ impl<'a> Course<'a> {
         let mut course = Course {
             plan,
             gives: gives(plan),
+            outermost: outermost(plan),
             lasting: lasting(plan),
             standing: plan.first().map(|line| (line.job, 0)).into_iter().collect(),
             done: vec![false; plan.len()],
@@ -186,13 +222,14 @@ impl<'a> Course<'a> {
     }
 
     /// (a): the lowest started job that does not stand at a lasting take goes on, through a whole
-    /// pair where its next line opens one.
+    /// pair where its next line is an outermost take. One that takes again is a line like any other.
     fn go_on(&mut self) -> bool {
         let mut next = self.standing.values();
         let Some(&at) = next.find(|&&at| self.lasting[at].is_none()) else {
             return false;
         };
-        for line in at..=self.gives[at].unwrap_or(at) {
+        let give = self.gives[at].filter(|_| self.outermost[at].is_some());
+        for line in at..=give.unwrap_or(at) {
             self.step(line);
         }
         true
@@ -214,11 +251,11 @@ impl<'a> Course<'a> {
         true
     }
 
-    /// Whether no other undone line takes the device that this line takes.
+    /// Whether no other undone line takes the device that this line takes; to take it again counts
+    /// for nothing.
     fn is_free(&self, at: usize) -> bool {
-        let verb = self.plan[at].verb;
-        let other = |line: usize| line != at && !self.done[line] && self.plan[line].verb == verb;
-        !(0..self.plan.len()).any(other)
+        let takes = |line: usize| self.outermost[line] == self.outermost[at];
+        !(0..self.plan.len()).any(|line| line != at && !self.done[line] && takes(line))
     }
 
     /// Does one line.

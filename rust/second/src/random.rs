@@ -1,11 +1,11 @@
 //! Plans for the comparisons: a small seeded generator, random well-formed plans, planted rings,
-//! whole and cut, and moves.
+//! whole and cut, takes put into plans where the device is held, and moves.
 //!
-//! Reads, of document 01: "Rules of a well-formed plan", so that everything made here keeps them.
-//! What a ring is for is told by "Claims and rows": random plans alone hardly ever hold a circle
-//! of three devices or more.
+//! Reads, of document 01: "Rules of a well-formed plan", so that everything made here keeps them,
+//! and of document 02: request 2, for what may be taken again. What a ring is for is told by "Claims
+//! and rows": random plans alone hardly ever hold a circle of three devices or more.
 
-use crate::line::{Line, Verb, DEVICES};
+use crate::line::{Line, Verb, DEVICES, LINES};
 
 /// The generator known as splitmix64: the same seed gives the same plans on every machine.
 #[derive(Clone, Debug)]
@@ -120,8 +120,11 @@ pub struct Wish {
     /// Whether what comes after a lasting take is to keep clear of the devices of lasting takes
     /// before it, which rules out circles. With `single` it makes plans that are accepted.
     pub rising: bool,
-    /// A step is a lasting take about once in so many times, where it can be.
+    /// A step is a take without a give about once in so many times, where it can be.
     pub lasting: usize,
+    /// So many of a hundred takes, where the job holds something, are of what it holds; with 0
+    /// nothing is taken again.
+    pub again: usize,
 }
 
 /// A random well-formed plan.
@@ -205,7 +208,8 @@ impl Maker<'_> {
         making.steps
     }
 
-    /// The next step. So many lines are spare beside the gives and starts that are owed.
+    /// The next step. So many lines are spare beside the gives and starts that are owed. A take
+    /// without a give can stand only where none is owed, whether it takes again or not.
     fn step(&mut self, making: &mut Making, spare: usize) -> Step {
         let lasts = making.open.is_empty() && self.random.once_in(self.wish.lasting);
         if spare >= 1 && lasts {
@@ -239,8 +243,17 @@ impl Maker<'_> {
         making.open.pop().map(Step::Give)
     }
 
-    /// A device the job may take now, for a pair or for a lasting take.
+    /// A device the job may take now, for a pair or for a take without a give.
     fn device(&mut self, making: &mut Making, lasting: bool) -> Option<u8> {
+        let held = [&making.open[..], &making.kept].concat();
+        if !held.is_empty() && self.random.below(100) < self.wish.again {
+            return Some(self.random.one_of(&held));
+        }
+        self.other_device(making, lasting)
+    }
+
+    /// A device the job does not hold, for a pair or for a lasting take.
+    fn other_device(&mut self, making: &mut Making, lasting: bool) -> Option<u8> {
         let count = self.devices.len();
         if making.floor >= count {
             return None;
@@ -272,6 +285,26 @@ pub fn wish(random: &mut Random, most_lines: usize, most_jobs: usize, devices: u
         single: !random.once_in(8),
         rising: false,
         lasting: 1 + random.below(4),
+        again: share(random),
+    }
+}
+
+/// How many of a hundred takes, where the job holds something, are to be of what it holds: none in a
+/// quarter of all plans, and so that of all takes it comes to about a fifth.
+pub fn share(random: &mut Random) -> usize {
+    random.one_of(&[0, 20, 40, 60])
+}
+
+/// A wish for a plan of a job or two in which a device is taken more often than a byte can count.
+pub fn deep_wish(random: &mut Random) -> Wish {
+    Wish {
+        lines: LINES - random.below(64),
+        jobs: 1 + usize::from(random.once_in(8)),
+        devices: 1 + random.below(3),
+        single: true,
+        rising: true,
+        lasting: 2 + random.below(8),
+        again: 97,
     }
 }
 
@@ -288,8 +321,8 @@ pub enum Cut {
 
 /// A plan with a planted ring of so many jobs, each with a lasting take of its own device and a
 /// wish for that of the next. Devices and jobs have random names, and lines of no weight stand
-/// between. A wish may be that of a job started for it; for a ring of one it has to be, for a job
-/// may not take again what it holds.
+/// between. A wish may be that of a job started for it; for a ring of one it has to be, for what a
+/// job takes again it does not wish for.
 pub fn ring(random: &mut Random, length: usize, cut: Cut) -> Vec<Line> {
     let mut names = random.devices(length + 3);
     let noise = names.split_off(length);
@@ -377,6 +410,45 @@ fn make_noise(random: &mut Random, jobs: &mut [Vec<Step>], devices: &[u8]) {
             _ => {}
         }
     }
+}
+
+/// Puts a take into a plan, at some place where its job holds the device, and mostly its give, with
+/// any lines between that can be. The plan goes as it came where no job holds anything.
+pub fn take_again(random: &mut Random, plan: &[Line]) -> Vec<Line> {
+    let open = open_takes(plan);
+    let places: Vec<usize> = (0..plan.len()).filter(|&at| !open[at].is_empty()).collect();
+    let mut lines = plan.to_vec();
+    if places.is_empty() {
+        return lines;
+    }
+    let above = random.one_of(&places);
+    let Line { job, verb } = plan[random.one_of(&open[above])];
+    // Up to here nothing that is held above is given back; a pair may close where nothing more is.
+    let below = (above..plan.len()).take_while(|&at| open[at].starts_with(&open[above]));
+    let below: Vec<usize> = below.collect();
+    let ends: Vec<usize> = below.iter().copied().filter(|&at| open[at] == open[above]).collect();
+    let given_back = plan.get(above + below.len()).is_some_and(|next| next.job == job);
+    if given_back || !random.once_in(4) {
+        let give = Line { job, verb: Verb::Give(verb.operand()) };
+        lines.insert(random.one_of(&ends) + 1, give);
+    }
+    lines.insert(above + 1, Line { job, verb });
+    lines
+}
+
+/// After each line the takes of its job that are not given back, the one made last at the end.
+fn open_takes(plan: &[Line]) -> Vec<Vec<usize>> {
+    let mut open: Vec<usize> = Vec::new();
+    let after = |(at, line): (usize, &Line)| {
+        open.retain(|&take| plan[take].job == line.job);
+        match line.verb {
+            Verb::Take(_) => open.push(at),
+            Verb::Give(_) => drop(open.pop()),
+            Verb::Do(_) | Verb::Start(_) => {}
+        }
+        open.clone()
+    };
+    plan.iter().enumerate().map(after).collect()
 }
 
 /// A move: what is asked of a plan.

@@ -1,7 +1,8 @@
 //! The first reading, part one: which texts and packed lists are plans.
 //!
 //! Reads, of document 01: "The plan as text", "Rules of a well-formed plan", and of "Refusal
-//! numbers" the cases 1 to 8 with their places and their order.
+//! numbers" the cases 1 to 7 with their places and their order; of document 02: request 2, by which
+//! a job may take again what it holds, and which leaves no case 8.
 
 use crate::line::{Line, Refusal, Verb, LINES};
 
@@ -103,7 +104,8 @@ fn number(digits: &[u8]) -> Option<u32> {
 #[derive(Clone, Debug, Default)]
 pub struct Rules {
     lines: Vec<Line>,
-    /// The devices the present job holds, the one taken last at the end.
+    /// The devices the present job holds, the one taken last at the end. What was taken again stands
+    /// here once for each of its takes.
     held: Vec<u8>,
 }
 
@@ -132,12 +134,7 @@ impl Rules {
                 }
                 self.held.pop();
             }
-            Verb::Take(device) => {
-                if self.held.contains(&device) {
-                    return Err(Refusal::at(8, place));
-                }
-                self.held.push(device);
-            }
+            Verb::Take(device) => self.held.push(device),
         }
         self.lines.push(line);
         Ok(())

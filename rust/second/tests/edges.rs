@@ -1,4 +1,4 @@
-//! Refusals 1 to 11 at their edges, each with its place, and which of two comes first.
+//! Refusals 1 to 11 without 8 at their edges, each with its place, and which of two comes first.
 
 mod common;
 
@@ -196,12 +196,26 @@ fn seven_is_a_give_of_what_was_not_taken_last() {
 }
 
 #[test]
-fn eight_is_a_take_of_what_the_job_holds() {
-    refused("1 take 3; 1 take 3", 8, 2);
-    refused("1 take 3; 1 take 4; 1 give 4; 1 take 3", 8, 4);
-    refused("1 take 3; 1 take 3; rubbish", 8, 2);
-    assert!(read(&text("1 take 3; 1 give 3; 1 take 3")).is_ok());
-    assert!(read(&text("1 take 3; 1 start 2; 2 take 3")).is_ok());
+fn seven_goes_by_the_take_made_last_also_where_it_takes_again() {
+    refused("1 take 0; 1 take 1; 1 take 0; 1 give 1", 7, 4);
+    refused("1 take 0; 1 take 0; 1 give 0; 1 give 0; 1 give 0", 7, 5);
+    refused("1 take 0; 1 take 1; 1 take 0; 1 give 0; 1 give 0", 7, 5);
+    refused("1 take 3; 1 take 3; 1 start 2; 2 give 3", 7, 4);
+    assert!(read(&text("1 take 0; 1 take 1; 1 take 0; 1 give 0; 1 give 1")).is_ok());
+}
+
+#[test]
+fn eight_is_not_given() {
+    for short in [
+        "1 take 3; 1 take 3",
+        "1 take 3; 1 take 4; 1 give 4; 1 take 3",
+        "1 take 3; 1 give 3; 1 take 3; 1 take 3; 1 take 3",
+        "1 take 3; 1 start 2; 1 take 3; 2 take 3",
+    ] {
+        assert!(read(&text(short)).is_ok(), "{short}");
+    }
+    refused("1 take 3; 1 take 3; rubbish", 2, 3);
+    refused("1 take 3; 1 take 3; 3 do 0", 4, 3);
 }
 
 #[test]

@@ -1,10 +1,10 @@
-//! Orders from elsewhere: the sentences of request 1 of document 02, case by case.
+//! Orders from elsewhere: the sentences of requests 1 and 2 of document 02, case by case.
 
 mod common;
 
 use common::{packed, plan, refusal};
 use second::judge::{broken, judge, printed, Rule};
-use second::listed::{all, text, A, C, D, E};
+use second::listed::{all, text, A, ACROSS, C, D, E, KEPT};
 use second::{elsewhere, orders, plain, random};
 
 /// The plan takes this list for a legal order.
@@ -83,7 +83,36 @@ fn the_plans_faults_come_first() {
     assert_eq!(judge(&[0], &[9]), Err(refusal(2, 1)));
     assert_eq!(judge(&[1_024; 1_025], &[]), Err(refusal(3, 1_025)));
     assert_eq!(judge(&[2_048], &[1]), Err(refusal(4, 1)));
-    assert_eq!(judge(&second::listed::packed("1 take 3; 1 take 3"), &[]), Err(refusal(8, 2)));
+    assert_eq!(judge(&second::listed::packed("1 give 3; 1 do 0"), &[]), Err(refusal(7, 1)));
+}
+
+#[test]
+fn a_job_takes_again_without_a_free_device() {
+    legal("1 take 3; 1 take 3", &[1, 2]);
+    astray("1 take 3; 1 take 3", &[2, 1], 1);
+    let two = "1 start 2; 1 take 0; 1 take 0; 1 give 0; 1 give 0; 2 take 0; 2 take 0; 2 give 0";
+    legal(two, &[1, 2, 3, 4, 5, 6, 7, 8]);
+    astray(two, &[1, 6, 7, 2, 8, 3, 4, 5], 4);
+}
+
+#[test]
+fn a_device_is_free_after_the_outermost_give() {
+    let nested = "1 start 2; 1 take 0; 1 take 0; 1 give 0; 1 give 0; 2 take 0; 2 give 0";
+    legal(nested, &[1, 2, 3, 4, 5, 6, 7]);
+    legal(nested, &[1, 6, 7, 2, 3, 4, 5]);
+    astray(nested, &[1, 2, 6, 3, 4, 5, 7], 3);
+    astray(nested, &[1, 2, 3, 6, 4, 5, 7], 4);
+    astray(nested, &[1, 2, 3, 4, 6, 5, 7], 5);
+    astray(KEPT, &[1, 2, 3, 4, 5, 6, 7], 6);
+    legal(ACROSS, &[1, 8, 9, 2, 3, 4, 5, 6, 7]);
+    for given in 3..=6 {
+        let early = [&[1, 2, 3, 4, 5, 6][..given], &[8]].concat();
+        astray(ACROSS, &early, given as u64 + 1);
+    }
+    let three = "1 start 2; 1 take 0; 1 take 0; 1 take 0; 1 give 0; 1 give 0; 1 give 0; 2 take 0";
+    astray(three, &[1, 2, 3, 4, 5, 8, 6, 7], 6);
+    astray(three, &[1, 2, 3, 4, 5, 6, 8, 7], 7);
+    legal(three, &[1, 2, 3, 4, 5, 6, 7, 8]);
 }
 
 #[test]
@@ -120,6 +149,11 @@ fn a_device_is_held_up_to_its_own_give() {
     assert_eq!(held(twice, 5, 6), []);
     let lasting = "1 start 2; 1 take 0; 1 take 1; 1 give 1; 1 do 7; 2 take 0";
     assert_eq!(held(lasting, 5, 6), [Rule::Held(2)]);
+    let again = "1 start 2; 1 take 0; 1 take 0; 1 give 0; 1 give 0; 2 take 0";
+    assert_eq!(held(again, 2, 3), [], "the job itself holds it");
+    assert_eq!(held(again, 3, 6), [Rule::Held(2), Rule::Held(3)]);
+    assert_eq!(held(again, 4, 6), [Rule::Held(2)], "the give done is that of line 3");
+    assert_eq!(held(again, 5, 6), []);
 }
 
 /// What is printed for A with this behind it.

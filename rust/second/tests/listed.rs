@@ -1,10 +1,11 @@
-//! The plans of document 01 with their verdicts, starred and not, and what is printed for them.
+//! The plans of document 01 with their verdicts, starred and not, those that take again by request 2
+//! of document 02, and what is printed for them.
 
 mod common;
 
 use common::{packed, plan, refusal};
 use second::line::pack;
-use second::listed::{all, text, A, B, C, D, E, F, G, H};
+use second::listed::{all, text, ListedMove, A, B, C, D, E, F, G, H, MOVES, TABLES};
 use second::plain::{self, move_claim, printed, screen, table, verdict, SCREEN};
 use second::read::{check_packed, read};
 use second::{orders, Line, Verb};
@@ -29,19 +30,27 @@ fn answered(names: &[&str]) {
 }
 
 #[test]
-fn a_has_its_order_and_table() {
+fn a_has_its_order() {
     answered(&["A"]);
-    assert_eq!(table(&plan(A)), [3, 2, 0, 3, 2, 0]);
 }
 
 #[test]
-fn b_is_a_moved() {
-    let mut moved = packed(A);
-    let mut sets = table(&plan(A));
-    assert_eq!(move_claim(&mut moved, &mut sets, 5, 2), Ok(3));
-    assert_eq!(moved, packed(B));
-    assert_eq!(sets, [7, 2, 0, 5, 4, 0]);
-    assert_eq!(sets, table(&plan(B)));
+fn the_tables_are_those_listed() {
+    for (short, sets) in TABLES {
+        assert_eq!(table(&plan(short)), sets, "{short}");
+    }
+}
+
+#[test]
+fn b_is_a_moved_and_all_listed_moves_go_there_and_back() {
+    for ListedMove { plans: [then, now], line, devices, changed } in MOVES {
+        let mut moved = (packed(then.0), then.1.to_vec());
+        for (device, (short, sets)) in [(devices[1], now), (devices[0], then)] {
+            let count = move_claim(&mut moved.0, &mut moved.1, line, device);
+            assert_eq!(count, Ok(changed), "{short}");
+            assert_eq!(moved, (packed(short), sets.to_vec()), "{short}");
+        }
+    }
     answered(&["B"]);
 }
 
@@ -79,8 +88,17 @@ fn job_64_is_the_last() {
 }
 
 #[test]
-fn a_job_may_not_take_what_it_holds() {
-    answered(&["take twice"]);
+fn a_job_may_take_again_what_it_holds() {
+    answered(&["take twice", "a pair inside a pair"]);
+    answered(&["taken again across another", "taken again under its lasting take"]);
+}
+
+#[test]
+fn a_device_is_taken_as_deep_as_a_plan_has_lines() {
+    answered(&["taken 1,024 times", "taken and given 512 times"]);
+    let deepest = plan(&["1 take 3"; 1_024].join("; "));
+    assert_eq!(table(&deepest)[..3], [8, 0, 0]);
+    assert_eq!(plain::gives(&deepest), [None; 1_024]);
 }
 
 #[test]
@@ -95,7 +113,7 @@ fn the_program_prints_a() {
 
 #[test]
 fn the_screens_get_the_same_bytes() {
-    for short in [A, B, C, D, E, F, G, H, "", "1 take 32"] {
+    for short in [A, B, C, D, E, F, G, H, "", "1 take 32", "1 take 3; 1 take 3"] {
         let text = text(short);
         for length in [SCREEN, SCREEN + 1, 9_000] {
             let mut out = vec![0xa5; length];

@@ -1,32 +1,13 @@
-//! Moves: what is refused and in which order, what is rewritten, and what is counted.
+//! Moves: what is refused and in which order, what is rewritten, and what is counted. Those of takes
+//! inside others of the same device stand in `again.rs`.
 
 mod common;
 
-use common::{packed, plan, refusal};
+use common::{both, moved, packed, plan, refusal};
 use second::line::pack;
 use second::listed::{A, F, G};
-use second::plain::{move_claim, table, way};
+use second::plain::{table, way};
 use second::read::check_packed;
-use second::Refusal;
-
-/// Moves on copies of the lists. A refusal must leave both alone.
-fn moved(plan: &[u32], sets: &[u32], line: u32, device: u32) -> Result<Lists, Refusal> {
-    let (mut new_plan, mut new_sets) = (plan.to_vec(), sets.to_vec());
-    match move_claim(&mut new_plan, &mut new_sets, line, device) {
-        Ok(changed) => Ok((new_plan, new_sets, changed)),
-        Err(refusal) => {
-            assert_eq!((&new_plan[..], &new_sets[..]), (plan, sets));
-            Err(refusal)
-        }
-    }
-}
-
-type Lists = (Vec<u32>, Vec<u32>, u32);
-
-/// A plan with its own table.
-fn both(short: &str) -> (Vec<u32>, Vec<u32>) {
-    (packed(short), table(&plan(short)))
-}
 
 #[test]
 fn the_way_goes_up_through_the_starts() {
@@ -77,23 +58,18 @@ fn refusals_come_in_their_order() {
     assert_eq!(moved(&plan, &sets, 0, 99), Err(refusal(12, 0)));
     assert_eq!(moved(&plan, &[0; 6], 2, 99), Err(refusal(13, 99)));
     assert_eq!(moved(&plan, &[0; 6], 2, 1), Err(refusal(14, 2)));
-    let (plan, mut sets) = both("1 take 3; 1 take 4");
-    assert_eq!(moved(&plan, &sets, 2, 3), Err(refusal(8, 2)));
-    sets[0] = 1;
-    assert_eq!(moved(&plan, &sets, 2, 3), Err(refusal(14, 1)));
 }
 
 #[test]
-fn the_plan_is_tested_first_by_all_of_2_to_8() {
+fn the_plan_is_tested_first_by_all_of_2_to_7() {
     let line = |job: u32, kind: u32, operand: u32| job * 1_024 + kind * 256 + operand;
-    let cases: [(&[u32], u32, u64); 7] = [
+    let cases: [(&[u32], u32, u64); 6] = [
         (&[line(1, 1, 32)], 2, 1),
         (&[line(1, 0, 0); 1_025], 3, 1_025),
         (&[line(2, 0, 0)], 4, 1),
         (&[line(1, 3, 2)], 5, 1),
         (&[line(1, 0, 0), line(2, 0, 0)], 6, 2),
         (&[line(1, 2, 0)], 7, 1),
-        (&[line(1, 1, 0), line(1, 1, 0)], 8, 2),
     ];
     for (plan, number, place) in cases {
         assert_eq!(moved(plan, &[], 1, 0), Err(refusal(number, place)));
@@ -150,18 +126,6 @@ fn a_set_that_agrees_with_its_neighbours_is_not_stale() {
     let (_, new_sets, changed) = moved(&plan, &extra, 5, 2).expect("accepted");
     let wanted: Vec<u32> = [7, 2, 0, 5, 4, 0].iter().map(|set| set | 1 << 20).collect();
     assert_eq!((new_sets, changed), (wanted, 3));
-}
-
-#[test]
-fn eight_names_the_line_of_the_edited_plan() {
-    // The moved line comes after the take, before it, and outside its pair.
-    let (plan, sets) = both("1 take 3; 1 take 4; 1 give 4; 1 give 3; 1 take 5");
-    assert_eq!(moved(&plan, &sets, 2, 3), Err(refusal(8, 2)));
-    assert_eq!(moved(&plan, &sets, 1, 4), Err(refusal(8, 2)));
-    assert!(moved(&plan, &sets, 5, 3).is_ok());
-    assert!(moved(&plan, &sets, 1, 5).is_ok());
-    let (plan, sets) = both("1 take 0; 1 do 0; 1 take 1; 1 give 1; 1 take 1");
-    assert_eq!(moved(&plan, &sets, 1, 1), Err(refusal(8, 3)));
 }
 
 #[test]

@@ -29,13 +29,12 @@ fn fault(list: &[Line], at: usize) -> Option<u32> {
         _ => job == list[at - 1].job || job == list[at - 1].job + 1,
     };
     let own = match list[at].verb {
-        Verb::Do(_) => None,
+        Verb::Do(_) | Verb::Take(_) => None,
         Verb::Start(other) => {
             let again = list[..at].iter().any(|line| line.verb == Verb::Start(other));
             (other <= job || again).then_some(5)
         }
         Verb::Give(device) => (held(list, at).last() != Some(&device)).then_some(7),
-        Verb::Take(device) => held(list, at).contains(&device).then_some(8),
     };
     if in_sequence {
         own
@@ -87,7 +86,7 @@ fn every_list_of_up_to_four_lines_is_judged_alike() {
     verbs.extend((2..=4).map(Verb::Start));
     let of_job = |job: u8| verbs.iter().map(move |&verb| Line { job, verb });
     let alphabet: Vec<Line> = (1..=4).flat_map(of_job).collect();
-    assert_eq!(compare(&mut Vec::new(), &alphabet, 4), 366);
+    assert_eq!(compare(&mut Vec::new(), &alphabet, 4), 522);
 }
 
 #[test]

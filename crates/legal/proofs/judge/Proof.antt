@@ -11,24 +11,24 @@ use Rattle.legal.proofs.Outcome.{scanned, faulty, legal, illegal}
 use Rattle.legal.proofs.judge.Statement.{statement}
 use Rattle.legal.proofs.judge.Tie as tie
 
--- 2 to 8
+-- 2 to 7
 returns : tie.Need-returns
 returns c =
     let at-scan = c .before .before .before in
-    let a = at-scan .before .before .before .before .before .args in
+    let a = at-scan .before .before .before .before .before .before .args in
     let r = c .before .r .given .0 .0 in
     faulty (a .plan .now) (a .order .now) r
     (told (fault devices (a .plan .now)) r (sym (c .before .r .given .1) ∙ at-scan .scan .ensures .answers))
 
 -- where the plan has no fault
-abbrev at-scan : tie.After-first2 → tie.After-scan
-at-scan c = c .before .before .before
+abbrev at-scan : tie.After-again2 → tie.After-scan
+at-scan c = c .before .before .before .before
 
-abbrev start : tie.After-first2 → tie.Start
-start c = at-scan c .before .before .before .before .before
+abbrev start : tie.After-again2 → tie.Start
+start c = at-scan c .before .before .before .before .before .before
 
-no-fault : (c : tie.After-first2) → fault devices (start c .args .plan .now) ≡ none
-no-fault c = untold _ (sym (c .before .enum-told .given .1) ∙ at-scan c .scan .ensures .answers)
+no-fault : (c : tie.After-again2) → fault devices (start c .args .plan .now) ≡ none
+no-fault c = untold _ (sym (c .before .before .enum-told .given .1) ∙ at-scan c .scan .ensures .answers)
 
 legal-steps-requires : tie.Need-legal-steps-requires
 legal-steps-requires c κs = scanned (at-scan c .scan .ensures) (no-fault c)
@@ -41,7 +41,7 @@ returns-2 c =
     legal (a .plan .now) (a .order .now) (no-fault here) (c .before .legal-steps .result)
     (c .before .legal-steps .ensures) (c .if1 .taken)
 
-position-fits : tie.Need-cast-t16
+position-fits : tie.Need-cast-t19
 position-fits c =
     let here = c .before .before in
     omega (

@@ -1,6 +1,5 @@
 -- `legal::legal_steps` meets its contract: with k entries passed, the list of next lines and the set tell of their
 -- lines, and the whole answer is that of the entries left.
-use mathlib.Core.Bool.{true}
 use mathlib.Core.Path.{_≡_, sym, _∙_}
 use mathlib.Core.List.{List}
 use Prim.Native.Nat.{ℕ, suc, _-_, _<_, _≤_}
@@ -8,84 +7,97 @@ use native.Mathlib.Omega.{arith}
 use lib.ListN.{length, getD}
 use borrow.Author.Needs.{needs}
 use borrow.Author.Tests.{not-true, not-false}
+use Rattle.model.specs.Board.{devices}
 use Rattle.model.specs.Line.{maxLines}
 use Rattle.model.specs.Sets.{empty}
-use Rattle.legal.specs.Steps.{isNext}
+use Rattle.model.specs.WellFormed.{WellFormed}
+use Rattle.legal.proofs.Entries.{numbered, Names, named, counted-line}
 use Rattle.legal.proofs.Standing.{atFirst}
-use Rattle.legal.proofs.Loop.{Following, formed, follows-first, all-passed, stops-here, its-line, follows-on}
+use Rattle.legal.proofs.Loop.{Following, formed, follows-first, all-passed, no-number, no-step, follows-on}
 use Rattle.legal.proofs.legal_steps.Statement.{statement}
 use Rattle.legal.proofs.legal_steps.Tie as tie
 
 abbrev Inv-loop : tie.InvT-loop
-Inv-loop plan first order next₀ held₀ k₀ next held k = Following plan first order next held k
+Inv-loop plan first again order next₀ held₀ k₀ next held k = Following plan first order next held k
 
 abbrev μ-loop : tie.MeasureT-loop
-μ-loop plan first order next₀ held₀ k₀ next held k = length order - k
+μ-loop plan first again order next₀ held₀ k₀ next held k = length order - k
 
 loop-holds : tie.Need-loop-holds Inv-loop μ-loop
 unfolding atFirst empty
-loop-holds c = let start = c .before .before in follows-first (start .args .order .now) (start .pre)
+loop-holds c = let start = c .before .before in follows-first (start .args .order .now) (start .pre .0)
 
-is-next-requires : tie.Need-is-next-requires Inv-loop μ-loop
-is-next-requires c κs = c .before .before .before .loop .inv .listed .sound
+-- where an entry is tested
+abbrev start : tie.After-shared-slice-known3 Inv-loop μ-loop → tie.Start Inv-loop μ-loop
+start c = c .before .before .before .before .before
 
--- where an entry was tested
-abbrev in-loop : tie.After-is-next Inv-loop μ-loop → tie.In-loop Inv-loop μ-loop
-in-loop c = c .before .before .before
+abbrev plan : tie.After-shared-slice-known3 Inv-loop μ-loop → List ℕ
+plan c = start c .args .plan .now
 
-abbrev at-loop : tie.After-is-next Inv-loop μ-loop → tie.At-loop Inv-loop μ-loop
-at-loop c = in-loop c .before
+abbrev entry : tie.After-shared-slice-known3 Inv-loop μ-loop → ℕ
+entry c = getD (start c .args .order .now) (c .before .before .loop .k) 0
 
-abbrev plan : tie.After-is-next Inv-loop μ-loop → List ℕ
-plan c = at-loop c .before .before .before .args .plan .now
-
-abbrev entry : tie.After-is-next Inv-loop μ-loop → ℕ
-entry c = getD (at-loop c .before .before .before .args .order .now) (at-loop c .loop .k) 0
-
-tested : (c : tie.After-is-next Inv-loop μ-loop)
-    → isNext (plan c) (at-loop c .loop .next) (at-loop c .loop .held) (entry c) ≡ c .is-next .result
-tested c = sym (c .is-next .ensures)
-
--- it is no legal step
+-- it is no line's number
 returns : tie.Need-returns Inv-loop μ-loop
 returns c =
-    let here = c .before in
-    stops-here (at-loop here .loop .inv) (in-loop here .loop-test .taken)
-    (tested here ∙ not-true (here .is-next .result) (c .if1 .taken))
+    let here = c .before in no-number (here .before .before .loop .inv) (here .before .loop-test .taken) (c .if1 .taken)
 
--- it is one
-legal : (c : tie.Else1 Inv-loop μ-loop)
-    → isNext (plan (c .before)) (at-loop (c .before) .loop .next) (at-loop (c .before) .loop .held) (entry (c .before))
-    ≡ true
-legal c = tested (c .before) ∙ not-false (c .before .is-next .result) (c .if1 .left)
+-- it is one, and so at most 1,024
+number : (c : tie.Else1 Inv-loop μ-loop)
+    → (entry (c .before) ≡ suc (entry (c .before) - 1)) × (entry (c .before) - 1 < length (plan (c .before)))
+number c = numbered (entry (c .before)) (length (plan (c .before))) (c .if1 .left)
 
--- the number of a line, and so at most 1,024
-number : (c : tie.Else1 Inv-loop μ-loop) → entry (c .before) ≡ suc (entry (c .before) - 1)
-number c = its-line (at-loop (c .before) .loop .inv) (in-loop (c .before) .loop-test .taken) (legal c) .0
-
-line : (c : tie.Else1 Inv-loop μ-loop) → entry (c .before) - 1 < length (plan (c .before))
-line c = its-line (at-loop (c .before) .loop .inv) (in-loop (c .before) .loop-test .taken) (legal c) .1
+well : (c : tie.Else1 Inv-loop μ-loop) → WellFormed devices (plan (c .before))
+well c = formed (start (c .before) .pre .0)
 
 small : (c : tie.Else1 Inv-loop μ-loop) → entry (c .before) ≤ maxLines
-small c = omega (arith, number c, line c, formed (at-loop (c .before) .loop .inv .listed) .few)
+small c = omega (arith, number c .0, number c .1, well c .few)
+
+-- what the line counts as
+abbrev at-entry : tie.After-plain Inv-loop μ-loop → tie.Else1 Inv-loop μ-loop
+at-entry c = c .before .before .before
+
+counted : (c : tie.After-plain Inv-loop μ-loop)
+    → Names (plan (at-entry c .before)) (entry (at-entry c .before)) (c .plain .result)
+counted c =
+    let here = at-entry c in
+    named (well here) (entry (here .before)) (c .plain .result) (start (here .before) .pre .1) (here .if1 .left)
+    (c .plain .ensures)
+
+is-next-requires : tie.Need-is-next-requires Inv-loop μ-loop
+is-next-requires c κs =
+    let line = c .before in
+    let here = at-entry line in
+    counted-line (well here) (entry (here .before)) (line .plain .result) (counted line)
+
+-- it is no legal step
+returns-2 : tie.Need-returns-2 Inv-loop μ-loop
+returns-2 c =
+    let line = c .before .before .before in
+    let test = at-entry line .before .before in
+    no-step (test .before .loop .inv) (test .loop-test .taken) (counted line)
+    (sym (c .before .is-next .ensures) ∙ not-true (c .before .is-next .result) (c .if2 .taken))
 
 pass-requires : tie.Need-pass-requires Inv-loop μ-loop
 pass-requires c κs =
-    let here = c .before .before in
-    let test = here .before in
-    (formed (at-loop test .loop .inv .listed) .lines (entry test - 1) (line here), small here)
+    let line = c .before .before .before .before in
+    let here = at-entry line in
+    (counted-line (well here) (entry (here .before)) (line .plain .result) (counted line), small here)
 
 -- it is done
 loop-again : tie.Need-loop-again Inv-loop μ-loop
 loop-again c =
-    let here = c .before .before .before .before in
-    let test = here .before in
-    follows-on (at-loop test .loop .inv) (in-loop test .loop-test .taken) (legal here)
-    (c .before .pass .ensures) (c .held-after .ensures)
+    let passed = c .before in
+    let tested = passed .before .before .before in
+    let line = tested .before .before in
+    let test = at-entry line .before .before in
+    follows-on (test .before .loop .inv) (test .loop-test .taken) (counted line)
+    (sym (tested .is-next .ensures) ∙ not-false (tested .is-next .result) (passed .before .before .if2 .left))
+    (passed .pass .ensures) (c .held-after .ensures)
 
 -- no entry is left
-returns-2 : tie.Need-returns-2 Inv-loop μ-loop
-returns-2 c = all-passed (c .before .loop .inv) (c .loop-test .left)
+returns-3 : tie.Need-returns-3 Inv-loop μ-loop
+returns-3 c = all-passed (c .before .loop .inv) (c .loop-test .left)
 
 pub legal-steps-spec : {M : Type 1} → statement M
 legal-steps-spec =
@@ -97,16 +109,20 @@ legal-steps-spec =
     loop-holds
     (λ c. search needs)
     (λ c. search needs)
-    is-next-requires
+    (λ c. omega (arith, c .shared-slice-known3 .given (c .before .before .loop .k)))
     returns
+    (λ c. omega (arith, number c .0))
     (λ c. omega (arith, small c))
-    (λ c. omega (arith, number c))
-    (λ c. omega (arith, small c))
-    (λ c. line (c .before))
-    (λ c. omega (arith, small (c .before .before)))
+    (λ c. number (c .before) .1)
+    (λ c. omega (arith, number (c .before) .0))
+    (λ c. omega (arith, small (c .before), number (c .before) .0))
+    (λ c κs. search needs)
+    (λ c. omega (arith, small (at-entry c)))
+    is-next-requires
+    returns-2
     pass-requires
     (λ c κs. search needs)
     (λ c. search needs)
     (λ c. search needs)
     loop-again
-    returns-2)
+    returns-3)

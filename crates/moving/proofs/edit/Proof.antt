@@ -2,11 +2,11 @@
 use Prim.Native.Nat.{ℕ}
 use mathlib.Core.List.{List}
 use mathlib.Core.Option.{none, some}
-use mathlib.Core.Path.{_≡_}
+use mathlib.Core.Path.{_≡_, sym, _∙_}
 use borrow.Author.Needs.{needs}
 use Rattle.model.specs.Mate.{mate}
 use Rattle.model.specs.Move.{withDevice, alsoMate, edited}
-use Rattle.moving.proofs.Answers.{found-some, found-none}
+use Rattle.moving.proofs.Answers.{span-given, span-kept}
 use Rattle.moving.proofs.edit.Statement.{statement}
 use Rattle.moving.proofs.edit.Tie as tie
 
@@ -22,26 +22,25 @@ module _ (p q : List ℕ) (i e : ℕ) (given : q ≡ withDevice p e i) where
 -- a take with a mate
 returns : tie.Need-returns
 returns c =
-    let with-pair = c .before .before .before .before .before in
-    let at-mate = with-pair .before .before .before .before .before .before in
-    let a = at-mate .before .before .before .args in
-    with-mate (a .plan .now) _ (a .i) _ (with-pair .before .before .before .before .give-device .ensures) _ _
-    (found-some (mate (a .plan .now) (a .i)) _ _ (with-pair .pair .given .1) (at-mate .mate .ensures))
+    let g = c .before .before .before .before .before .before .before .before .before in
+    let s = g .before .before .before in
+    with-mate (s .args .plan .now) _ (s .args .i) _ (g .give-device .ensures) _ _
+    (span-given (s .args .plan .now) (s .args .i) _
+    (sym (c .before .before .before .before .before .span .given .1) ∙ s .pre))
     (c .before .before .give-device2 .ensures)
 
 -- a lasting take
 returns-2 : tie.Need-returns-2
 returns-2 c =
-    let at-mate = c .before .before .before .before .before .before in
-    let a = at-mate .before .before .before .args in
-    alone (a .plan .now) _ (a .i) _ (c .before .before .before .before .give-device .ensures)
-    (found-none (mate (a .plan .now) (a .i)) _ (c .enum-told .given .1) (at-mate .mate .ensures))
+    let g = c .before .before .before .before in
+    let s = g .before .before .before in
+    alone (s .args .plan .now) _ (s .args .i) _ (g .give-device .ensures)
+    (span-kept (s .args .plan .now) (s .args .i) _ (sym (c .enum-told .given .1) ∙ s .pre))
 
 pub edit-spec : {M : Type 1} → statement M
 edit-spec =
     tie.close
     (tie.spec
-    (λ c κs. search needs)
     (λ c κs. search needs)
     (λ c. search needs)
     (λ c κs. search needs)

@@ -1,10 +1,13 @@
 -- `moving::tested` meets its contract: the scan refuses, or the tests after it answer.
-use mathlib.Core.Option.{none, Option·none-ne-some}
+use mathlib.Core.Option.{Option, none, Option·none-ne-some}
 use mathlib.Core.Path.{_≡_, sym, _∙_, ap}
 use borrow.Author.Needs.{needs}
 use Rattle.model.specs.WellFormed.{fault}
 use Rattle.model.specs.Board.{devices}
-use Rattle.plan.specs.Checked.{checked}
+use Rattle.model.specs.Move.{askedAt}
+use Rattle.model.specs.declared.Refusal.{Refusal}
+use Rattle.mates.specs.Span.{spanOf}
+use Rattle.moving.specs.Tested.{testedBy}
 use Rattle.way.specs.Known.{Scanned}
 use Rattle.moving.proofs.Answers.{refused-some, refused-none}
 use Rattle.moving.proofs.Refusing.{by-fault, by-asked}
@@ -14,31 +17,36 @@ use Rattle.moving.proofs.tested.Tie as tie
 
 -- where the scan does not refuse: the function's entry, and what is known
 abbrev entry : tie.After-enum-told → tie.Start
-entry c = c .before .before .before .before .before .before .before
+entry c = c .before .before .before .before .before .before .before .before
 
 no-fault : (c : tie.After-enum-told) → fault devices (entry c .args .plan .now) ≡ none
 no-fault c = refused-none _ _ (c .enum-told .given .1) (c .before .before .scan .ensures .answers)
 
 scanned : (c : tie.After-enum-told)
     → Scanned (entry c .args .plan .now) (c .before .before .scan .last .1 .0) (c .before .before .scan .last .1 .1 .0)
-scanned c = is-scanned (entry c .args .plan .now) _ _ _ _ _ (c .before .before .scan .ensures) (no-fault c)
+    (c .before .before .scan .last .1 .1 .1 .0)
+scanned c = is-scanned (entry c .args .plan .now) _ _ _ _ _ _ _ (c .before .before .scan .ensures) (no-fault c)
 
 returns : tie.Need-returns
 returns c =
     let at-scan = c .before .before .before in
-    let a = at-scan .before .before .before .before .before .args in
+    let a = at-scan .before .before .before .before .before .before .args in
     let r = c .before .r .given .0 .0 in
     let e = by-fault devices (a .plan .now) (a .sets .now) (a .line) (a .device) r
     (refused-some _ r _ (c .before .r .given .1) (at-scan .scan .ensures .answers)) in
-    record { answers = ap checked (sym e); scans = λ f. absurd (Option·none-ne-some r (sym f ∙ e)) }
+    record {
+      answers = ap (λ (o : Option Refusal). testedBy o (spanOf (a .plan .now) (askedAt (a .line))))
+          (sym e);
+      scans = λ f. absurd (Option·none-ne-some r (sym f ∙ e));
+    }
 
 returns-2 : tie.Need-returns-2
 returns-2 c =
-    let passed = c .before .before .before .before .before in
+    let passed = c .before .before .before .before in
     let a = entry passed .args in
     record {
-      answers = by-asked devices (a .plan .now) (a .sets .now) (a .line) (a .device) (no-fault passed) _
-          (c .asked .ensures);
+      answers = by-asked devices (a .plan .now) (a .sets .now) (a .line) (a .device)
+          (spanOf (a .plan .now) (askedAt (a .line))) (no-fault passed) _ (c .asked .ensures);
       scans = λ f. scanned passed;
     }
 
@@ -50,5 +58,5 @@ tested-spec =
     (λ c. search needs)
     returns
     (λ c. search needs)
-    (λ c κs. scanned (c .before .before .before .before))
+    (λ c κs. scanned (c .before .before .before))
     returns-2)

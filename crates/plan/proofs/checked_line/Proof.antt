@@ -1,18 +1,16 @@
 -- `plan::checked_line` meets its contract: the first three tests are `misplaced`, and `rule` does the rest.
-use mathlib.Core.Bool.{true}
+use mathlib.Core.Bool.{Bool, true, false, cond}
 use mathlib.Core.Option.{none}
 use mathlib.Core.Path.{_≡_, sym, _∙_}
-use Prim.Native.Nat.{_<_}
+use Prim.Native.Nat.{ℕ, _≤_, _<_}
 use native.Mathlib.Omega.{arith}
 use lib.Dec.{eqb}
 use lib.ListN.{set}
 use Rattle.model.specs.Board.{devices}
 use Rattle.model.specs.Line.{isLine, maxLines}
-use Rattle.model.specs.Sets.{empty}
 use Rattle.theory.proofs.Line.{line-parts}
 use Rattle.plan.specs.Walk.{placeFault, heldIn, nextBy}
 use Rattle.plan.proofs.Answers.{told, untold}
-use Rattle.plan.proofs.Stacks.{held-or-none}
 use Rattle.plan.proofs.Steps.{in-place, stops, goes-on, walking}
 use borrow.Author.Needs.{needs}
 use Rattle.plan.proofs.checked_line.Statement.{statement}
@@ -57,34 +55,38 @@ cast-choose c = omega (arith, few (c .before) .0)
 element-write-first : tie.Need-element-write-first
 element-write-first c = element-copy-out-choose (c .before .before)
 
+no-deeper : (depth i : ℕ) (b : Bool) → depth ≤ i → cond b depth 0 ≤ i
+no-deeper depth i true h = h
+no-deeper depth i false h = omega arith
+
 rule-requires : tie.Need-rule-requires
-unfolding empty
 rule-requires c κs =
-    let j = c .before .before .before .before .before .before in
+    let j = c .before .before .before .before .before in
     let s = j .before .before .before .before in
     let a = s .args in (
       few j .0,
+      rw (c .before .before .choose2 .ensures)
+          (no-deeper (a .depth) (a .i) (eqb (j .job .result) (a .prev)) (s .pre .0)),
       few j .1,
-      rw (c .before .before .before .choose2 .ensures, c .before .before .choose3 .ensures)
-          (held-or-none (a .depth) (a .held) (a .stack .now) (s .pre .holding) (eqb (j .job .result) (a .prev))),
-      s .pre .starter-long,
+      s .pre .1 .stacked,
+      s .pre .1 .starter-long,
     )
 
 returns-2 : tie.Need-returns-2
 returns-2 c =
     let f = c .rule in
-    let v = c .before .before .before .before .before in
+    let v = c .before .before .before .before in
     let j = v .before .before in
     let s = j .before .before .before .before in
     let a = s .args in
     let first = set (a .first .now) (j .job .result) (v .choose .result) in (
       goes-on devices (a .n) (a .i) (a .prev) (a .first .now) (a .starter .now)
-          (nextBy (f .result) (f .last .1 .1 .1 .1 .0) first (f .last .1 .1 .1 .1 .1 .0)) (a .depth)
-          (c .before .before .before .before .choose2 .result) (j .job .result) (v .choose .result) (a .stack .now)
-          (placed j) (j .job .ensures) (v .choose .ensures) (c .before .before .before .before .choose2 .ensures)
+          (nextBy (f .result) (f .last .1 .1 .1 .0) first (f .last .1 .1 .1 .1 .0)) (a .depth)
+          (c .before .before .before .choose2 .result) (j .job .result) (v .choose .result) (a .stack .now)
+          (placed j) (j .job .ensures) (v .choose .ensures) (c .before .before .before .choose2 .ensures)
           (f .ensures .0 first),
-      walking (f .result) (f .last .1 .1 .1 .1 .0) (a .first .now) (f .last .1 .1 .1 .1 .1 .0) (j .job .result)
-          (v .choose .result) (f .ensures .1 .0) (s .pre .first-long) (f .ensures .1 .1),
+      walking (a .i) (f .result) (f .last .1 .1 .1 .0) (a .first .now) (f .last .1 .1 .1 .1 .0) (j .job .result)
+          (v .choose .result) (f .ensures .1 .0) (s .pre .1 .first-long) (f .ensures .1 .1),
     )
 
 pub checked-line-spec : {M : Type 1} → statement M
@@ -104,7 +106,6 @@ checked-line-spec =
     (λ c κs. search needs)
     (λ c. search needs)
     element-write-first
-    (λ c κs. search needs)
     (λ c κs. search needs)
     rule-requires
     returns-2)

@@ -44,7 +44,7 @@ element-copy-out-if2 c =
     omega (
       arith,
       c .before .operand .ensures,
-      start-operand devices (s .args .n) (s .pre .1)
+      start-operand devices (s .args .n) (s .pre .2)
           (eqb-true (kind (s .args .n)) 3 (sym (f .is-start .ensures) ∙ c .before .before .if1 .taken)),
     )
 
@@ -62,7 +62,7 @@ returns c =
       begun (a .i) (a .n) (heldIn (a .depth) (a .stack .now)) (a .starter .now)
           (sym (f .is-start .ensures) ∙ o .before .if1 .taken)
           (rw (c .before .before .job .ensures, o .operand .ensures) at (c .if2 .taken)),
-      (s .pre .2, length-set (a .starter .now) (operand (a .n)) (a .i + 1) ∙ s .pre .3),
+      ((omega (arith, s .pre .1), s .pre .3), length-set (a .starter .now) (operand (a .n)) (a .i + 1) ∙ s .pre .4),
     )
 
 -- one that is not
@@ -75,18 +75,18 @@ returns-2 c =
       not-begun (a .i) (a .n) (heldIn (a .depth) (a .stack .now)) (a .starter .now)
           (sym (f .is-start .ensures) ∙ o .before .if1 .taken)
           (rw (c .before .before .job .ensures, o .operand .ensures) at (c .if2 .left)),
-      (tt, s .pre .3),
+      (tt, s .pre .4),
     )
 
 held-after-requires : tie.Need-held-after-requires
 held-after-requires c κs =
     let s = c .before .before .before in
-    (s .pre .0, s .pre .1, sym (c .before .before .is-start .ensures) ∙ c .before .if1 .left, s .pre .2)
+    (s .pre .0, s .pre .1, s .pre .2, sym (c .before .before .is-start .ensures) ∙ c .before .if1 .left, s .pre .3)
 
 -- another verb
 returns-3 : tie.Need-returns-3
 returns-3 c = let s = c .before .before .before .before in
-    (λ first. c .held-after .ensures .0 first (s .args .starter .now), (c .held-after .ensures .1, s .pre .3))
+    (λ first. c .held-after .ensures .0 first (s .args .starter .now), (c .held-after .ensures .1, s .pre .4))
 
 pub rule-spec : {M : Type 1} → statement M
 rule-spec =

@@ -6,15 +6,15 @@ use Rattle.plan.proofs.scan.Tie as tie
 
 returns : tie.Need-returns
 returns c =
-    let a = c .before .before .before .before .before .before .before .args in
+    let a = c .before .before .before .before .before .before .before .before .args in
     let r = c .before .r .given in
-    scan-refused (a .plan .now) (a .first .now) (a .starter .now) _ _ (r .0 .0)
+    scan-refused (a .plan .now) (a .first .now) (a .starter .now) (a .again .now) _ _ _ (r .0 .0)
     (rw (r .1) at (c .before .before .before .whole .ensures))
 
 returns-2 : tie.Need-returns-2
 returns-2 c =
-    let a = c .before .before .before .before .before .before .args in
-    scan-fine (a .plan .now) (a .first .now) (a .starter .now) _ _
+    let a = c .before .before .before .before .before .before .before .args in
+    scan-fine (a .plan .now) (a .first .now) (a .starter .now) (a .again .now) _ _ _
     (rw (c .enum-told .given .1) at (c .before .before .whole .ensures))
 
 pub scan-spec : {M : Type 1} → statement M

@@ -1,61 +1,104 @@
--- `plan::walk` meets its contract, by the laws of `Walks`.
+-- `plan::walk` meets its contract, by the laws of `Walks` and of `Notes`.
 use Prim.Native.Nat.{ℕ, _≤_, _-_}
+use mathlib.Core.Bool.{true}
 use mathlib.Core.Path.{_≡_, refl}
+use native.Mathlib.Omega.{arith}
 use lib.ListN.{length}
 use Rattle.model.specs.Sets.{empty}
-use Rattle.plan.proofs.Walks.{At, at-start, at-end, at-refusal, at-next}
+use Rattle.plan.proofs.Walks.{At, at-start, at-end, at-refusal, at-line, at-next}
+use Rattle.plan.proofs.Flags.{all-flagged}
+use Rattle.plan.proofs.Notes.{Notes, notes-start, notes-next}
 use borrow.Author.Needs.{needs}
 use Rattle.plan.proofs.walk.Statement.{statement}
 use Rattle.plan.proofs.walk.Tie as tie
 
 abbrev Inv-loop : tie.InvT-loop
-Inv-loop plan first₀ starter₀ stack₀ depth₀ held₀ prev₀ i₀ first starter stack depth held prev i =
-    At plan i prev depth held stack first starter
+Inv-loop plan noting first₀ starter₀ again₀ stack₀ added₀ depth₀ held₀ prev₀ i₀
+    first starter again stack added depth held prev i =
+    At plan i prev depth stack first starter × (noting ≡ true → Notes plan i depth held stack added again)
 
 abbrev μ-loop : tie.MeasureT-loop
-μ-loop plan first₀ starter₀ stack₀ depth₀ held₀ prev₀ i₀ first starter stack depth held prev i = length plan - i
+μ-loop plan noting first₀ starter₀ again₀ stack₀ added₀ depth₀ held₀ prev₀ i₀
+    first starter again stack added depth held prev i =
+    length plan - i
 
 loop-holds : tie.Need-loop-holds Inv-loop μ-loop
 unfolding empty
-loop-holds c = let s = c .before in
-    at-start (s .args .plan .now) _ (s .args .first .now) (s .args .starter .now) refl refl (s .pre .0) (s .pre .1)
+loop-holds c = let s = c .before in (
+  at-start (s .args .plan .now) _ (s .args .first .now) (s .args .starter .now)
+      (record { long = refl; floor = refl }) (s .pre .0) (s .pre .1),
+  λ t. notes-start (s .args .plan .now) _ _ (s .args .again .now) refl (s .pre .2),
+)
 
 checked-line-requires : tie.Need-checked-line-requires Inv-loop μ-loop
 checked-line-requires c κs =
-    let s = c .before .before .before .before .before .loop .inv in record {
-      holding = s .holding;
-      first-long = s .stands .tables .first-long;
-      starter-long = s .stands .tables .starter-long;
-    }
+    let s = c .before .before .before .before .before .loop .inv .0 in (
+      s .deep,
+      record {
+        stacked = s .stacked;
+        first-long = s .stands .tables .first-long;
+        starter-long = s .stands .tables .starter-long;
+      },
+    )
 
 -- a refusal
 returns : tie.Need-returns Inv-loop μ-loop
 returns c =
     let f = c .before .before .before .checked-line in
     let l = c .before .before .before .before .before .before .before .before .before in
-    let r = c .before .r .given in
-    at-refusal (l .before .before .args .plan .now) (l .loop .i) (l .loop .prev) (l .loop .depth) (l .loop .held)
-    (l .loop .stack) (l .loop .first) (l .loop .starter) (l .loop .inv) (search needs) (f .result)
-    (f .last .1 .1 .1 .1 .1 .0) (f .last .1 .1 .1 .1 .1 .1 .0) (f .last .1 .1 .1 .1 .1 .1 .1 .0) (f .ensures .0)
-    (r .0 .0) (r .1) _ _
+    let r = c .before .r .given in (
+      at-refusal (l .before .before .args .plan .now) (l .loop .i) (l .loop .prev) (l .loop .depth) (l .loop .stack)
+          (l .loop .first) (l .loop .starter) (l .loop .inv .0) (search needs) (f .result) (f .last .1 .1 .1 .1 .0)
+          (f .last .1 .1 .1 .1 .1 .0) (f .last .1 .1 .1 .1 .1 .1 .0) (f .ensures .0) (r .0 .0) (r .1) _ _,
+      λ t z. let w : _≡_ {A = ℕ} 0 1 = cc in absurd (omega arith),
+    )
+
+note-if-requires : tie.Need-note-if-requires Inv-loop μ-loop
+note-if-requires c κs t =
+    let f = c .before .before .before .before .before .checked-line in
+    let l = c .before .before .before .before .before .before .before .before .before .before .before in
+    let d = c .before .before .before .d .given in
+    let a = l .loop .inv .0 in
+    let w = l .loop .inv .1 t in (
+      at-line (l .before .before .args .plan .now) (l .loop .i) (l .loop .prev) (l .loop .depth) (l .loop .stack)
+          (l .loop .first) (l .loop .starter) a (search needs) (f .result) (f .last .1 .1 .1 .1 .0)
+          (f .last .1 .1 .1 .1 .1 .0) (f .last .1 .1 .1 .1 .1 .1 .0) (f .ensures .0) (d .0 .0) (d .1),
+      a .deep,
+      w .noted .long,
+      w .flagged .long,
+    )
 
 loop-again : tie.Need-loop-again Inv-loop μ-loop
 loop-again c =
-    let f = c .before .before .before .before .checked-line in
-    let l = c .before .before .before .before .before .before .before .before .before .before in
-    let d = c .before .before .d .given in
-    rw (c .job .ensures)
-    (at-next (l .before .before .args .plan .now) (l .loop .i) (l .loop .prev) (l .loop .depth) (l .loop .held)
-    (l .loop .stack) (l .loop .first) (l .loop .starter) (l .loop .inv) (search needs) (f .result)
-    (f .last .1 .1 .1 .1 .1 .0) (f .last .1 .1 .1 .1 .1 .1 .0) (f .last .1 .1 .1 .1 .1 .1 .1 .0) (f .ensures .0)
-    (d .0 .0) (d .0 .1 .0) (d .1) (f .ensures .1))
+    let k = c .before .note-if in
+    let f = c .before .before .before .before .before .before .before .checked-line in
+    let t = c .before .before .before .before .before .before .before .before .before .before .before .before in
+    let l = t .before in
+    let d = c .before .before .before .before .before .d .given in
+    let p = l .before .before .args .plan .now in
+    rw (c .job .ensures) (
+      at-next p (l .loop .i) (l .loop .prev) (l .loop .depth) (l .loop .stack) (l .loop .first) (l .loop .starter)
+          (l .loop .inv .0) (t .loop-test .taken) (f .result) (f .last .1 .1 .1 .1 .0) (f .last .1 .1 .1 .1 .1 .0)
+          (f .last .1 .1 .1 .1 .1 .1 .0) (f .ensures .0) (d .0 .0) (d .1) (f .ensures .1),
+      λ t. let g = k .ensures t in
+          rw (g .holds, g .adds, g .flags)
+          (notes-next p (l .loop .i) (l .loop .prev) (l .loop .depth) (l .loop .held) (l .loop .stack)
+          (l .loop .first) (l .loop .starter) (l .loop .added) (l .loop .again) (l .loop .inv .0) (l .loop .inv .1 t) (f .result)
+          (f .last .1 .1 .1 .1 .0) (f .last .1 .1 .1 .1 .1 .0) (f .last .1 .1 .1 .1 .1 .1 .0) (f .ensures .0)
+          (d .0 .0) (d .1)),
+    )
 
 -- the end
 returns-2 : tie.Need-returns-2 Inv-loop μ-loop
 returns-2 c =
     let l = c .before in
-    at-end (l .before .before .args .plan .now) (l .loop .i) (l .loop .prev) (l .loop .depth) (l .loop .held)
-    (l .loop .stack) (l .loop .first) (l .loop .starter) (l .loop .inv) (c .loop-test .left)
+    let s = l .loop .inv in
+    let e : l .loop .i ≡ length (l .before .before .args .plan .now) =
+    omega (arith, s .0 .at-most, c .loop-test .left) in (
+      at-end (l .before .before .args .plan .now) (l .loop .i) (l .loop .prev) (l .loop .depth) (l .loop .stack)
+          (l .loop .first) (l .loop .starter) (s .0) (c .loop-test .left),
+      λ t z. all-flagged (l .before .before .args .plan .now) (l .loop .again) (rw e at (s .1 t .flagged)),
+    )
 
 pub walk-spec : {M : Type 1} → statement M
 walk-spec =
@@ -70,6 +113,7 @@ walk-spec =
     (λ c. search needs)
     returns
     (λ c. search needs)
+    note-if-requires
     (λ c κs. search needs)
     (λ c. search needs)
     (λ c. search needs)

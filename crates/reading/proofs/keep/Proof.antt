@@ -6,7 +6,7 @@ use Rattle.reading.proofs.Outcomes.{keeps-fault, keeps-short, keeps-all
 use Rattle.reading.proofs.keep.Statement.{statement}
 use Rattle.reading.proofs.keep.Tie as tie
 
--- 2 to 8
+-- 2 to 7
 returns : tie.Need-returns
 returns c =
     let f = c .before .before .before in

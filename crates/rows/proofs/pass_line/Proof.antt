@@ -28,13 +28,14 @@ wanted-before-requires c κs =
     rw (at-choose .choose .ensures)
     (few (eqb (at-choose .before .before .job .result) (old .job)) (old .wanted) maxLines (start .pre))
 
-passed-on : (old : Passed) (l : ℕ) {j after o one wanted held again twice : ℕ} {takes : Bool} → j ≡ job l
-    → after ≡ cond (eqb j (old .job)) (old .wanted) 0 → takes ≡ isTake l → o ≡ operand l
+passed-on : (old : Passed) (l plain : ℕ) {j after o one wanted held again twice : ℕ} {takes : Bool} → j ≡ job l
+    → after ≡ cond (eqb j (old .job)) (old .wanted) 0 → takes ≡ isTake plain → o ≡ operand l
     → one ≡ cond (takes && eqb after 0) (onlyOf devices o) empty → wanted ≡ wantedBefore l after
     → held ≡ union one (old .held) → again ≡ both (old .held) one → twice ≡ union again (old .twice)
     → PassedOn (record { job = j; wanted = wanted; lasts = takes && eqb after 0; held = held; twice = twice }) old l
+    plain
 unfolding wantedAfter
-passed-on old l ej ea et eo e ew eh eb e2 =
+passed-on old l plain ej ea et eo e ew eh eb e2 =
     record { jobIs = ej; wantedIs = cc; lastsIs = cc; heldIs = cc; twiceIs = cc }
 
 returns : tie.Need-returns
@@ -43,7 +44,7 @@ returns c =
     let at-one = at-union .before .before in
     let at-choose = at-one .before .before .before in
     let a = at-choose .before .before .before .args in
-    passed-on (a .passed) (a .l) (at-choose .before .before .job .ensures) (at-choose .choose .ensures)
+    passed-on (a .passed) (a .l) (a .plain) (at-choose .before .before .job .ensures) (at-choose .choose .ensures)
     (at-one .before .before .is-take .ensures) (at-one .before .operand .ensures) (at-one .only-if .ensures)
     (at-union .before .wanted-before .ensures) (at-union .union .ensures) (c .before .both .ensures)
     (c .union2 .ensures)

@@ -13,7 +13,7 @@ use Rattle.verdict.proofs.Outcome.{short, without-order, ordered}
 use Rattle.verdict.proofs.decide.Statement.{statement}
 use Rattle.verdict.proofs.decide.Tie as tie
 
-length-fits : tie.Need-cast-t13
+length-fits : tie.Need-cast-t14
 length-fits c = omega (arith, few (c .before .before .before .pre .marked))
 
 -- 11
@@ -62,7 +62,7 @@ hand-out-requires : tie.Need-hand-out-requires
 hand-out-requires c κs =
     let here = c .before .before in
     let pre = start here .pre in
-    ((pre .marked, pre .listed), (orderly (c .before), room here .if1 .left))
+    ((pre .marked, pre .listed, pre .againsAre), (orderly (c .before), room here .if1 .left))
 
 returns-4 : tie.Need-returns-4
 returns-4 c =

@@ -8,13 +8,13 @@ use Rattle.verdict.proofs.verdict.Tie as tie
 
 decide-requires : tie.Need-decide-requires
 decide-requires c κs =
-    holds-made (c .before .before .before .before .before .before .before .holds .ensures)
-    (c .before .before .before .before .before .held .given .1)
+    holds-made (c .before .before .before .before .before .before .before .before .holds .ensures)
+    (c .before .before .before .before .before .before .held .given .1)
 
 returns : tie.Need-returns
 returns c =
     let holds = c .before .before .before in
-    let a = holds .before .before .before .before .before .before .args in
+    let a = holds .before .before .before .before .before .before .before .args in
     faulty (a .plan .now) (a .order .now) (c .before .r .given .0 .0)
     (holds-refused (holds .holds .ensures) (c .before .r .given .1))
 

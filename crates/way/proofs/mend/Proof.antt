@@ -16,7 +16,7 @@ as-number false = refl
 returns : tie.Need-returns
 unfolding staleBy
 returns c =
-    let a = c .before .before .before .before .before .before .args in
+    let a = c .before .before .before .before .before .before .before .args in
     let s = c .before .rejoined .result in
     rw (← c .before .rejoined .ensures) (refl, as-number (not (eqb (getD (a .sets .now) (a .i) 0) s)))
 

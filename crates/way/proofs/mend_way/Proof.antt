@@ -7,15 +7,17 @@ use Rattle.way.proofs.mend_way.Statement.{statement}
 use Rattle.way.proofs.mend_way.Tie as tie
 
 abbrev Inv-loop : tie.InvT-loop
-Inv-loop plan sets₀ i first starter count₀ next₀ sets count next = Mending plan first starter sets₀ i sets count next
+Inv-loop plan again sets₀ i first starter count₀ next₀ sets count next =
+    Mending plan again first starter sets₀ i sets count next
 
 abbrev μ-loop : tie.MeasureT-loop
-μ-loop plan sets₀ i first starter count₀ next₀ sets count next = next
+μ-loop plan again sets₀ i first starter count₀ next₀ sets count next = next
 
 loop-holds : tie.Need-loop-holds Inv-loop μ-loop
 loop-holds c =
-    let a = c .before .before .before .before .before .before .args in
-    rw (c .begin .ensures) (mend-start (a .plan .now) (a .first .now) (a .starter .now) (a .sets .now) (a .i))
+    let a = c .before .before .before .before .before .before .before .args in
+    rw (c .begin .ensures)
+    (mend-start (a .plan .now) (a .again .now) (a .first .now) (a .starter .now) (a .sets .now) (a .i))
 
 add-count : tie.Need-add-count Inv-loop μ-loop
 add-count c =

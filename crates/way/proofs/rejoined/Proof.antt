@@ -7,7 +7,15 @@ use Rattle.way.proofs.rejoined.Tie as tie
 
 returns : tie.Need-returns
 unfolding rejoinedBy
-returns c = rw (← c .before .before .next-set .ensures, ← c .before .begun-set .ensures) (c .joined .ensures)
+returns c =
+    let p = c .before .before .before in
+    rw (
+      ← p .before .flagged .ensures,
+      ← p .plain .ensures,
+      ← c .before .before .next-set .ensures,
+      ← c .before .begun-set .ensures,
+    )
+    (c .joined .ensures)
 
 pub rejoined-spec : {M : Type 1} → statement M
 rejoined-spec =
@@ -15,6 +23,8 @@ rejoined-spec =
     (tie.spec
     (λ c. search needs)
     (λ c. search needs)
+    (λ c κs. search needs)
+    (λ c κs. search needs)
     (λ c κs. search needs)
     (λ c κs. search needs)
     (λ c κs. search needs)

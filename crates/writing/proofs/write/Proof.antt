@@ -26,7 +26,7 @@ no-fault c =
     untold (fault devices (entry c .args .plan .now))
     (sym (c .enum-told .given .1) ∙ c .before .before .fault .ensures)
 
--- 2 to 8
+-- 2 to 7
 returns : tie.Need-returns
 returns c =
     let a = c .before .before .before .before .before .before .args in

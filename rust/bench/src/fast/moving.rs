@@ -1,11 +1,13 @@
 //! Moving a claim.
 
-use super::scan::{scan, Jobs};
-use super::{device, job, kind, operand, refusal, GIVE, START, TAKE};
+use super::claims::own;
+use super::scan::{scan, Flags, Jobs, CLAIMS};
+use super::{job, kind, operand, refusal, GIVE, LINES, START, TAKE};
 
 /// The claim of a line, counted from 1, moved to a device: the number of sets that changed.
 pub fn move_claim(plan: &mut [u32], sets: &mut [u32], line: u32, device: u32) -> u64 {
-    let jobs = match scan(plan) {
+    let mut flags = [0; LINES];
+    let jobs = match scan(plan, &mut flags) {
         Ok(jobs) => jobs,
         Err(refusal) => return refusal,
     };
@@ -19,18 +21,19 @@ pub fn move_claim(plan: &mut [u32], sets: &mut [u32], line: u32, device: u32) ->
     if device > 31 {
         return refusal(13, device as usize);
     }
-    if let Some(stale) = stale_line(plan, sets, &jobs, at) {
-        return refusal(14, stale + 1);
-    }
-    let give = match give_of(plan, at, device) {
-        Ok(give) => give,
-        Err(again) => return refusal(8, again + 1),
+    let until = match test_sets(plan, &flags, sets, &jobs, at) {
+        Ok(until) => until,
+        Err(stale) => return refusal(14, stale + 1),
     };
-    plan[at] = with_device(plan[at], device);
-    if let Some(give) = give {
-        plan[give] = with_device(plan[give], device);
+    if operand(plan[at]) == device as usize {
+        return 0;
     }
-    rewrite(plan, sets, &jobs, at)
+    mark(plan, &mut flags, at, until, device);
+    plan[at] = with_device(plan[at], device);
+    if until < plan.len() && job(plan[until]) == job(plan[at]) {
+        plan[until] = with_device(plan[until], device);
+    }
+    rewrite(plan, &flags, sets, &jobs, until - 1)
 }
 
 /// A take or give with another device.
@@ -49,70 +52,89 @@ fn before(plan: &[u32], jobs: &Jobs, at: usize) -> Option<usize> {
 }
 
 /// What a line takes and what is stored for its successors, in one set.
-fn joined(plan: &[u32], sets: &[u32], jobs: &Jobs, at: usize) -> u32 {
+#[inline]
+fn joined(plan: &[u32], flags: &Flags, sets: &[u32], jobs: &Jobs, at: usize) -> u32 {
     let line = plan[at];
     let next = match plan.get(at + 1) {
         Some(&next) if job(next) == job(line) => sets[at + 1],
         _ => 0,
     };
-    match kind(line) {
-        TAKE => next | device(line),
-        START => next | sets[jobs.first[operand(line)] - 1],
-        _ => next,
-    }
+    let begun = if kind(line) == START { sets[jobs.first[operand(line)] - 1] } else { 0 };
+    own(line, flags[at]) | next | begun
 }
 
-/// The nearest stale line, going back along the way.
-fn stale_line(plan: &[u32], sets: &[u32], jobs: &Jobs, from: usize) -> Option<usize> {
+/// Tests the sets that a move may change, back along the way and then down the lines under the take: the stale one, or
+/// where the lines under the take end, which is at its give or behind its job.
+fn test_sets(
+    plan: &[u32],
+    flags: &Flags,
+    sets: &[u32],
+    jobs: &Jobs,
+    from: usize,
+) -> Result<usize, usize> {
+    let is_stale = |at: usize| sets[at] != joined(plan, flags, sets, jobs, at);
     let mut on_way = Some(from);
     while let Some(at) = on_way {
-        if sets[at] != joined(plan, sets, jobs, at) {
-            return Some(at);
+        if is_stale(at) {
+            return Err(at);
         }
         on_way = before(plan, jobs, at);
     }
-    None
-}
-
-/// Whether the job of a line holds the device there: going back in the job, the nearest line that takes or gives the
-/// device decides.
-fn holds(plan: &[u32], at: usize, device: u32) -> bool {
-    let of_job = plan[..at].iter().rev().take_while(|&&line| job(line) == job(plan[at]));
-    let mut of_device = of_job.filter(|&&line| operand(line) == device as usize);
-    let nearest = of_device.find(|&&line| kind(line) == TAKE || kind(line) == GIVE);
-    nearest.is_some_and(|&line| kind(line) == TAKE)
-}
-
-/// The give of the take, if it has one; or, where the edited plan takes a device that its job holds, that line.
-fn give_of(plan: &[u32], at: usize, device: u32) -> Result<Option<usize>, usize> {
-    if holds(plan, at, device) {
-        return Err(at);
-    }
-    let old = operand(plan[at]);
-    for (later, &line) in plan.iter().enumerate().skip(at + 1) {
-        if job(line) != job(plan[at]) {
-            break;
-        }
+    let mut open = 0;
+    for (at, &line) in plan.iter().enumerate().skip(from + 1) {
         match kind(line) {
-            // A job cannot take what it holds, so the next give of the old device is the take's.
-            GIVE if operand(line) == old => return Ok(Some(later)),
-            TAKE if operand(line) == device as usize => return Err(later),
+            _ if job(line) != job(plan[from]) => return Ok(at),
+            GIVE if open == 0 => return Ok(at),
+            GIVE => open -= 1,
+            TAKE => open += 1,
+            _ => {}
+        }
+        if is_stale(at) {
+            return Err(at);
+        }
+    }
+    Ok(plan.len())
+}
+
+/// Whether the job of a line holds a device before it: going back in the job, the nearest line that has a flag and
+/// names the device decides.
+fn holds(plan: &[u32], flags: &Flags, at: usize, device: usize) -> bool {
+    let before = plan[..at].iter().zip(flags).rev();
+    let mut of_job = before.take_while(|(&line, _)| job(line) == job(plan[at]));
+    let nearest = of_job.find(|(&line, &flag)| flag != 0 && operand(line) == device);
+    nearest.is_some_and(|(_, &flag)| flag == CLAIMS)
+}
+
+/// Sets the flags of the moved take and of the takes under it anew; those of gives are not asked for any more. Of the
+/// old device, if it is not held from before, those are outermost now that have no other around them; of the new one
+/// none is.
+fn mark(plan: &[u32], flags: &mut Flags, at: usize, until: usize, device: u32) {
+    let (old, new) = (operand(plan[at]), device as usize);
+    let old_held = flags[at] == 0;
+    let new_held = holds(plan, flags, at, new);
+    flags[at] = u8::from(!new_held) * CLAIMS;
+    let mut open = u32::from(old_held);
+    for (&line, flag) in plan.iter().zip(flags).take(until).skip(at + 1) {
+        match kind(line) {
+            TAKE if operand(line) == old => {
+                *flag = u8::from(open == 0) * CLAIMS;
+                open += 1;
+            }
+            GIVE if operand(line) == old => open -= 1,
+            TAKE if operand(line) == new => *flag = 0,
             _ => {}
         }
     }
-    Ok(None)
 }
 
-/// Joins the sets on the way anew: how many are another than before.
-fn rewrite(plan: &[u32], sets: &mut [u32], jobs: &Jobs, from: usize) -> u64 {
+/// Joins the sets anew, from a line back along the way: how many are another than before.
+fn rewrite(plan: &[u32], flags: &Flags, sets: &mut [u32], jobs: &Jobs, from: usize) -> u64 {
     let mut changed = 0;
     let mut on_way = Some(from);
     while let Some(at) = on_way {
-        let set = joined(plan, sets, jobs, at);
-        if sets[at] != set {
-            sets[at] = set;
-            changed += 1;
-        }
+        let set = joined(plan, flags, sets, jobs, at);
+        changed += u64::from(sets[at] != set);
+        sets[at] = set;
         on_way = before(plan, jobs, at);
     }
     changed

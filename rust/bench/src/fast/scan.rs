@@ -1,4 +1,4 @@
-//! The tests of a plan, line by line as they come and then at its end (refusals 2 to 8).
+//! The tests of a plan, line by line as they come and then at its end (refusals 2 to 7).
 
 use super::{device, job, kind, only_job, operand, refusal, GIVE, LINES, START, TAKE};
 
@@ -8,12 +8,20 @@ pub struct Jobs {
     pub starter: [usize; 65],
 }
 
+/// What each line does to a device, a flag a line: 0 where nothing changes for other jobs.
+pub type Flags = [u8; LINES];
+
+/// The flag of an outermost take: it claims its device, and holds it from there on.
+pub const CLAIMS: u8 = 1;
+/// The flag of an outermost give: it frees its device.
+pub const FREES: u8 = 2;
+
 /// Where the tests stand. What they note in arrays is kept apart, so that this stays in registers.
 #[derive(Default)]
 pub struct Present {
     /// The job of the latest line, 0 before the first.
     job: usize,
-    /// The devices that it holds, and how many they are.
+    /// The devices that it holds, and how many of its takes wait for their gives.
     held: u32,
     depth: usize,
     /// The jobs that have lines, and those that were started.
@@ -23,10 +31,15 @@ pub struct Present {
 
 /// What is noted of the lines so far.
 pub struct Noted {
-    /// The devices that the present job holds, in the order of its takes, from place 1 on.
-    stack: [u32; 33],
+    /// The devices of the takes that wait, in their order, from place 1 on; those taken again have the mark.
+    stack: [u8; LINES + 1],
     jobs: Jobs,
 }
+
+/// The mark of a device that was taken again.
+const AGAIN: u8 = 128;
+/// What stands below all takes: no device.
+const NONE: u8 = 127;
 
 /// Is the number a line's?
 fn is_line(line: u32) -> bool {
@@ -40,14 +53,16 @@ fn is_line(line: u32) -> bool {
 
 impl Noted {
     pub fn new() -> Noted {
-        Noted { stack: [0; 33], jobs: Jobs { first: [0; 65], starter: [0; 65] } }
+        let jobs = Jobs { first: [0; 65], starter: [0; 65] };
+        Noted { stack: [NONE; LINES + 1], jobs }
     }
 }
 
 impl Present {
-    /// Tests one more line, counted from 1.
-    #[inline]
-    pub fn line(&mut self, noted: &mut Noted, line: u32, place: usize) -> Result<(), u64> {
+    /// Tests one more line, counted from 1: its flag. It stands in three loops, and called from them it would take a
+    /// third longer.
+    #[inline(always)]
+    pub fn line(&mut self, noted: &mut Noted, line: u32, place: usize) -> Result<u8, u64> {
         if !is_line(line) {
             return Err(refusal(2, place));
         }
@@ -59,17 +74,11 @@ impl Present {
             noted.jobs.first[job(line)] = place;
         }
         match kind(line) {
-            TAKE if self.held & device(line) != 0 => return Err(refusal(8, place)),
-            TAKE => {
-                self.held |= device(line);
-                self.depth += 1;
-                noted.stack[self.depth] = device(line);
+            TAKE => return Ok(self.take(noted, line)),
+            GIVE if noted.stack[self.depth] & !AGAIN != operand(line) as u8 => {
+                return Err(refusal(7, place));
             }
-            GIVE if noted.stack[self.depth] != device(line) => return Err(refusal(7, place)),
-            GIVE => {
-                self.held ^= device(line);
-                self.depth -= 1;
-            }
+            GIVE => return Ok(self.give(noted, line)),
             START if operand(line) <= self.job => return Err(refusal(5, place)),
             START if self.started & only_job(operand(line)) != 0 => return Err(refusal(5, place)),
             START => {
@@ -78,7 +87,26 @@ impl Present {
             }
             _ => {}
         }
-        Ok(())
+        Ok(0)
+    }
+
+    /// A take, which goes onto the stack: its flag.
+    #[inline(always)]
+    fn take(&mut self, noted: &mut Noted, line: u32) -> u8 {
+        let again = self.held & device(line) != 0;
+        self.held |= device(line);
+        self.depth += 1;
+        noted.stack[self.depth] = operand(line) as u8 | (u8::from(again) * AGAIN);
+        u8::from(!again) * CLAIMS
+    }
+
+    /// A give of what is on top of the stack: its flag. Only an outermost one frees the device.
+    #[inline(always)]
+    fn give(&mut self, noted: &mut Noted, line: u32) -> u8 {
+        let outermost = noted.stack[self.depth] < AGAIN;
+        self.held ^= u32::from(outermost) << operand(line);
+        self.depth -= 1;
+        u8::from(outermost) * FREES
     }
 
     /// The first line of a job, which holds nothing yet.
@@ -106,15 +134,26 @@ impl Present {
     }
 }
 
-/// Tests a packed plan.
-pub fn scan(plan: &[u32]) -> Result<Jobs, u64> {
+/// Tests a packed plan. Each line's flag is handed on, with its place from 0: who does not keep it does not pay for it.
+#[inline]
+fn walk(plan: &[u32], mut keep: impl FnMut(usize, u8)) -> Result<Jobs, u64> {
     let (mut present, mut noted) = (Present::default(), Noted::new());
-    for (at, &line) in plan.iter().enumerate() {
-        if at == LINES {
-            return Err(refusal(3, LINES + 1));
-        }
-        present.line(&mut noted, line, at + 1)?;
+    for (at, &line) in plan.iter().take(LINES).enumerate() {
+        keep(at, present.line(&mut noted, line, at + 1)?);
+    }
+    if plan.len() > LINES {
+        return Err(refusal(3, LINES + 1));
     }
     present.end(&noted)?;
     Ok(noted.jobs)
+}
+
+/// Tests a packed plan.
+pub fn test(plan: &[u32]) -> Result<(), u64> {
+    walk(plan, |_, _| {}).map(|_| ())
+}
+
+/// Tests a packed plan, and notes the flags of its lines.
+pub fn scan(plan: &[u32], flags: &mut Flags) -> Result<Jobs, u64> {
+    walk(plan, |at, flag| flags[at] = flag)
 }

@@ -1,6 +1,6 @@
 //! Reading and writing plans as text.
 
-use super::scan::{scan, Noted, Present};
+use super::scan::{test, Noted, Present};
 use super::{job, kind, operand, refusal, DO, GIVE, LINES, START, TAKE};
 
 /// The most bytes of a text.
@@ -83,7 +83,7 @@ fn number_at(text: &[u8], end: u8) -> Option<(u32, &[u8])> {
 
 /// A packed plan into text: the number of bytes.
 pub fn write(plan: &[u32], text: &mut [u8]) -> u64 {
-    if let Err(refusal) = scan(plan) {
+    if let Err(refusal) = test(plan) {
         return refusal;
     }
     let mut made = [0; BYTES];

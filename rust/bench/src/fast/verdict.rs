@@ -1,6 +1,7 @@
 //! The verdict: rows, circles, and the order handed out.
 
-use super::scan::{scan, Jobs};
+use super::claims::own;
+use super::scan::{scan, Flags, Jobs, CLAIMS};
 use super::{device, job, kind, only_job, operand, refusal, GIVE, LINES, START, TAKE};
 
 /// What a walk back over a plan finds.
@@ -11,20 +12,21 @@ struct Found {
     held: u32,
     twice: u32,
     rows: [u32; 32],
-    /// How many lines take each device.
+    /// How many lines take each device, those not counted that take it again.
     takes: [u32; 32],
 }
 
 /// The verdict on a plan, with its order: the number of devices still held.
 pub fn verdict(plan: &[u32], order: &mut [u16]) -> u64 {
-    let jobs = match scan(plan) {
+    let mut flags = [0; LINES];
+    let jobs = match scan(plan, &mut flags) {
         Ok(jobs) => jobs,
         Err(refusal) => return refusal,
     };
     let Some(order) = order.get_mut(..plan.len()) else {
         return refusal(11, plan.len());
     };
-    let found = walk_back(plan);
+    let found = walk_back(plan, &flags);
     if found.twice != 0 {
         return refusal(9, found.twice.trailing_zeros() as usize);
     }
@@ -32,28 +34,28 @@ pub fn verdict(plan: &[u32], order: &mut [u16]) -> u64 {
     if back != 0 {
         return refusal(10, back.trailing_zeros() as usize);
     }
-    hand_out(plan, &jobs, &found, order);
+    hand_out(plan, &flags, &jobs, &found, order);
     found.held.count_ones().into()
 }
 
-/// Goes back over a plan without a fault. A take lasts if no give wants it; each give has its take in its own job, so
-/// none is wanted where a job begins.
-fn walk_back(plan: &[u32]) -> Found {
+/// Goes back over a plan without a fault. An outermost take lasts if no give wants it; each give has its take in its
+/// own job, so none is wanted where a job begins.
+fn walk_back(plan: &[u32], flags: &Flags) -> Found {
     let mut found =
         Found { lasting: [false; LINES], held: 0, twice: 0, rows: [0; 32], takes: [0; 32] };
     let mut first = [0; 65];
     let mut wanted = 0;
-    for (at, &line) in plan.iter().enumerate().rev() {
+    for (at, (&line, &flag)) in plan.iter().zip(flags).enumerate().rev() {
         let next = first[job(line)];
         match kind(line) {
             TAKE => {
-                if wanted == 0 {
-                    found.last(line, at, next);
-                } else {
+                if wanted > 0 {
                     wanted -= 1;
+                } else if flag == CLAIMS {
+                    found.last(line, at, next);
                 }
-                found.takes[operand(line)] += 1;
-                first[job(line)] = next | device(line);
+                found.takes[operand(line)] += u32::from(flag & CLAIMS);
+                first[job(line)] = next | own(line, flag);
             }
             GIVE => wanted += 1,
             START => first[job(line)] = next | first[operand(line)],
@@ -104,7 +106,7 @@ struct Places {
 }
 
 /// The order of a plan that has one.
-fn hand_out(plan: &[u32], jobs: &Jobs, found: &Found, order: &mut [u16]) {
+fn hand_out(plan: &[u32], flags: &Flags, jobs: &Jobs, found: &Found, order: &mut [u16]) {
     let mut takes = found.takes;
     let scarce = (0..32).fold(0, |scarce, device| scarce | u32::from(takes[device] <= 1) << device);
     let mut waiting = Waiting { ready: 0, standing: 0, scarce };
@@ -121,7 +123,7 @@ fn hand_out(plan: &[u32], jobs: &Jobs, found: &Found, order: &mut [u16]) {
         let line = plan[at];
         match kind(line) {
             TAKE => {
-                takes[operand(line)] -= 1;
+                takes[operand(line)] -= u32::from(flags[at] & CLAIMS);
                 if takes[operand(line)] <= 1 {
                     waiting.scarce |= device(line);
                 }

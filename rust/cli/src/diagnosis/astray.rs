@@ -1,7 +1,7 @@
 //! Refusal 15: where a list of line numbers leaves the legal orders of its plan, and by which rule.
 
 use super::entry::wrong_form;
-use super::{plain_line, pointed_line, Concerned, Diagnosis, Field, Found};
+use super::{inner, plain_line, pointed_line, Concerned, Diagnosis, Field, Found};
 use crate::list::{List, Written};
 use crate::names::Names;
 use crate::shown;
@@ -87,13 +87,16 @@ impl Astray<'_> {
         self.lines(earlier).first().copied()
     }
 
-    /// The take by which the device of a take is held: it is done, and its give is not.
-    fn holder(&self, step: Step) -> Option<u16> {
-        let device = step.device().filter(|_| step.verb == Verb::Take)?;
-        let keeps = |line, other: Step| {
-            let given = self.holds.mate(line).is_some_and(|give| self.turn(give).is_some());
-            let takes = other.verb == Verb::Take && other.operand == device;
-            takes && self.turn(line).is_some() && !given
+    /// The outermost take by which the device of a take is held: it is done, and its give is not. What its own job
+    /// holds a take need not wait for.
+    fn holder(&self, line: u16, step: Step) -> Option<u16> {
+        if step.verb != Verb::Take || self.holds.takes_again(line) {
+            return None;
+        }
+        let keeps = |other, take: Step| {
+            let given = self.holds.mate(other).is_some_and(|give| self.turn(give).is_some());
+            let takes = self.holds.outermost(other) == Some(other) && take.operand == step.operand;
+            takes && self.turn(other).is_some() && !given
         };
         self.lines(keeps).first().copied()
     }
@@ -101,7 +104,7 @@ impl Astray<'_> {
     /// Whether a line could come at the position.
     fn can_come(&self, line: u16, step: Step) -> bool {
         let waits = self.start(step.job).is_some() || self.earlier(line, step.job).is_some();
-        self.turn(line).is_none() && !waits && self.holder(step).is_none()
+        self.turn(line).is_none() && !waits && self.holder(line, step).is_none()
     }
 
     /// What the next step could be at the position. It may lead nowhere all the same.
@@ -185,7 +188,7 @@ impl Astray<'_> {
 
     /// The line takes what is held.
     fn of_held(&self, line: u16, step: Step) -> Option<Found> {
-        let holder = self.holder(step)?;
+        let holder = self.holder(line, step)?;
         let (job, device) = (self.plan.step(holder)?.job, self.names.words(step.operand));
         let words = format!(
             "line {line}: it takes {device}, but job {job} holds that from line {holder} on"
@@ -195,6 +198,8 @@ impl Astray<'_> {
             Some(give) => format!("Job {job} gives it back at line {give}, which is not done."),
             None => format!("Job {job} never gives it back."),
         });
+        let is_done = |give: u16| self.turn(give).is_some();
+        found.said.extend(inner::told(self.holds, holder, &device, is_done));
         Some(found)
     }
 

@@ -1,4 +1,4 @@
-//! Refusals 4 to 8: lines that are right by themselves, but not after the others.
+//! Refusals 4 to 7: lines that are right by themselves, but not after the others.
 
 use super::{plain_line, pointed_line, steps, Field, Found};
 use crate::names::Names;
@@ -13,7 +13,7 @@ struct Place<'a> {
     names: &'a Names,
 }
 
-/// What is wrong with the line at the place of a refusal from 4 to 8.
+/// What is wrong with the line at the place of a refusal from 4 to 7.
 pub fn of_line(text: &[u8], refusal: Refusal, names: &Names) -> Option<Found> {
     let place = Place { text, steps: steps(text), number: refusal.place() as usize, names };
     match refusal {
@@ -21,18 +21,29 @@ pub fn of_line(text: &[u8], refusal: Refusal, names: &Names) -> Option<Found> {
         Refusal::BadStart(_) => place.bad_start(),
         Refusal::NeverStarted(_) => place.never_started(),
         Refusal::GiveWithoutTake(_) => place.give_without_take(),
-        Refusal::TakeOfHeld(_) => place.take_of_held(),
         _ => None,
     }
 }
 
-/// What a job still holds before a line of it, with the lines of the takes, the latest last.
-pub fn in_hand(steps: &[Step], number: usize) -> Vec<(u8, usize)> {
-    let mut held: Vec<(u8, usize)> = Vec::new();
+/// A take whose give has not come.
+struct Taken {
+    device: u8,
+    line: usize,
+    /// Whether the job held the device already.
+    again: bool,
+}
+
+/// What a job has in hand before a line of it, the latest take last.
+fn in_hand(steps: &[Step], number: usize) -> Vec<Taken> {
+    let mut held: Vec<Taken> = Vec::new();
     let Some(here) = number.checked_sub(1).and_then(|at| steps.get(at)) else { return held };
     for (line, step) in (1..number).zip(steps).filter(|(_, step)| step.job == here.job) {
         match step.verb {
-            Verb::Take => held.push((step.operand, line)),
+            Verb::Take => {
+                let device = step.operand;
+                let again = held.iter().any(|taken| taken.device == device);
+                held.push(Taken { device, line, again });
+            }
             Verb::Give => drop(held.pop()),
             _ => {}
         }
@@ -162,8 +173,8 @@ impl Place<'_> {
         let held = in_hand(&self.steps, self.number);
         match held.last() {
             None => self.nothing_in_hand(step),
-            Some(&(last, line)) => {
-                let mut found = self.not_the_latest(step, last, line, &held)?;
+            Some(last) => {
+                let mut found = self.not_the_latest(step, last, &held)?;
                 found.said.insert(0, self.holding(step.job, &held));
                 Some(found)
             }
@@ -180,18 +191,13 @@ impl Place<'_> {
     }
 
     /// A give of what the job took before the latest, or does not hold.
-    fn not_the_latest(
-        &self,
-        step: Step,
-        last: u8,
-        line: usize,
-        held: &[(u8, usize)],
-    ) -> Option<Found> {
+    fn not_the_latest(&self, step: Step, last: &Taken, held: &[Taken]) -> Option<Found> {
         let (number, job, device) = (self.number, step.job, self.names.words(step.operand));
-        let last = self.names.words(last);
-        if held.iter().any(|&(held, _)| held == step.operand) {
+        let (line, again) = (last.line, if last.again { " again" } else { "" });
+        let last = self.names.words(last.device);
+        if held.iter().any(|taken| taken.device == step.operand) {
             let head = format!(
-                "line {number} gives {device}, but job {job} took {last} after it, in line {line}"
+                "line {number} gives {device}, but job {job} took {last}{again} after it, in line {line}"
             );
             let mend = format!("give {last} back first: what was taken last is given first");
             return Some(Found { mend, ..self.found(head, Some(line), Field::Operand)? });
@@ -202,12 +208,12 @@ impl Place<'_> {
         Some(Found { said, mend, ..self.found(head, Some(line), Field::Operand)? })
     }
 
-    /// What a job has in hand, in words.
-    fn holding(&self, job: u8, held: &[(u8, usize)]) -> String {
-        let words = |&(device, line): &(u8, usize)| {
-            format!("{} from line {line} on", self.names.words(device))
+    /// What a job holds, in words: each device once, from its outermost take on.
+    fn holding(&self, job: u8, held: &[Taken]) -> String {
+        let words = |taken: &Taken| {
+            format!("{} from line {} on", self.names.words(taken.device), taken.line)
         };
-        let words: Vec<String> = held.iter().map(words).collect();
+        let words: Vec<String> = held.iter().filter(|taken| !taken.again).map(words).collect();
         format!("There job {job} holds {}.", listed(&words))
     }
 
@@ -220,18 +226,5 @@ impl Place<'_> {
     /// That the job gave the device back earlier.
     fn gave(&self, step: Step, line: usize) -> String {
         format!("Job {} gave {} back in line {line}.", step.job, self.names.words(step.operand))
-    }
-
-    /// 8.
-    fn take_of_held(&self) -> Option<Found> {
-        let (number, step) = (self.number, self.step()?);
-        let (job, device) = (step.job, self.names.words(step.operand));
-        let held = in_hand(&self.steps, number);
-        let &(_, line) = held.iter().find(|&&(held, _)| held == step.operand)?;
-        let head =
-            format!("line {number} takes {device}, which job {job} holds from line {line} on");
-        let found = self.found(head, Some(line), Field::Operand)?;
-        let mend = format!("leave out line {number}, and the give that belongs to it, if any");
-        Some(Found { mend, ..found })
     }
 }

@@ -1,7 +1,7 @@
 //! Refusals 9 and 10: plans that are right as written, but have no order.
 
 use super::tried::Trial;
-use super::{plan, pointed_line, Field, Found};
+use super::{inner, plan, pointed_line, Field, Found};
 use crate::names::{Names, DEVICES};
 use crate::words::listed;
 use gimmerskip::{Arc, Holds, Plan};
@@ -20,9 +20,11 @@ pub fn two_lasting(text: &[u8], device: u32, names: &Names) -> Option<Found> {
         0..=6 => format!("lines {}", listed(&takes)),
         count => format!("{count} lines, the first two being {} and {}", takes[0], takes[1]),
     };
-    let said = takes.iter().filter_map(|&line| {
-        let job = plan.step(line)?.job;
-        Some(format!("Job {job} takes {words} in line {line} and never gives it back."))
+    let said = takes.iter().flat_map(|&line| {
+        let keeps = plan.step(line).map(|take| {
+            format!("Job {} takes {words} in line {line} and never gives it back.", take.job)
+        });
+        keeps.into_iter().chain(inner::told(&holds, line, &words, |_| true))
     });
     let shown = takes.iter().map(|&line| pointed_line(text, line.into(), Field::Operand));
     let jobs = if takes.len() == 2 { "one of the two jobs" } else { "all but one of these jobs" };
@@ -88,12 +90,15 @@ impl Told<'_> {
         said.push(String::new());
         said.push(match circle {
             [first, _, ..] => format!(
-                "What is kept to the end cannot be taken any more: so each of these devices would have to be kept\n\
-                 before the next one is, and {} before itself.",
+                "What a job keeps to the end no other can take any more: so each of these devices would have to be\n\
+                 kept before the next one is, and {} before itself.",
                 self.names.words(first.device)
             ),
-            _ => "What is kept to the end cannot be taken once more.".to_string(),
+            _ => "What a job keeps to the end no other can take any more.".to_string(),
         });
+        said.extend(circle.iter().filter_map(|arc| {
+            inner::told(self.holds, arc.line, &self.names.words(arc.device), |_| true)
+        }));
         said
     }
 

@@ -71,15 +71,17 @@ impl Trial<'_> {
         steps.find(|(_, step)| is_start(step)).map(|(line, _)| line)
     }
 
-    /// Gives, after its job's last line, of what a lasting take keeps and of all that the job took after it and keeps
-    /// too: what was taken last is given first.
+    /// Gives, after its job's last line, of what a lasting take keeps and of all that the job took after it, be it
+    /// again, and did not give: what was taken last is given first.
     fn given_back(&self, line: u16) -> Option<String> {
         let job = self.plan.step(line)?.job;
         let in_job = (1..).zip(self.plan.steps()).filter(|(_, step)| step.job == job);
         let of_job: Vec<(u16, Step)> = in_job.collect();
         let last = usize::from(of_job.last()?.0);
-        let kept = of_job.iter().rev().filter(|(at, _)| *at >= line && self.holds.lasts(*at));
-        let gives: Vec<Step> = kept.map(|(_, take)| Step { verb: Verb::Give, ..*take }).collect();
+        let taken = of_job.iter().rev().filter(|(at, step)| {
+            *at >= line && step.verb == Verb::Take && self.holds.mate(*at).is_none()
+        });
+        let gives: Vec<Step> = taken.map(|(_, take)| Step { verb: Verb::Give, ..*take }).collect();
         let devices: Vec<String> =
             gives.iter().map(|give| self.names.words(give.operand)).collect();
         let mut lines = self.plan.packed().to_vec();

@@ -4,7 +4,8 @@
 //! (claims, rows, the order handed out, the move), on random plans, on planted rings, and on every
 //! small plan. The paragraphs concerned are "Legal orders" against "Claims and rows" and "The
 //! order handed out", and "Moving a claim" against working out the edited plan afresh; and, of
-//! document 02, request 1 against orders followed step by step.
+//! document 02, request 1 against orders followed step by step, and request 2 against plans that have
+//! actions where others take again.
 //!
 //! Prints its seed, the number of plans by class, and each check with its number of comparisons. A
 //! difference is printed with its plan and both answers. The seed is taken from the environment
@@ -19,11 +20,12 @@ mod lists;
 #[path = "readings/moves.rs"]
 mod moves;
 
-use by_hand::{claims_by_hand, order_by_hand, refusal_by_hand};
+use by_hand::ByHand;
 use second::line::{pack, LINES};
 use second::plain::{passes_over, table, verdict, Order};
-use second::random::{plan, ring, wish, Cut, Random, Wish};
+use second::random::{deep_wish, plan, ring, share, take_again, wish, Cut, Random, Wish};
 use second::read::{check_packed, read, write};
+use second::shapes::{self, takes_again};
 use second::small::{how_many, small_plans};
 use second::tally::{circle_class, seeded, Tally, LEAST};
 use second::{orders, Line, Refusal};
@@ -36,20 +38,19 @@ const SMALL: usize = 6;
 const ALL_SMALL: &str = "plan: small, each there is";
 
 /// The other classes of plans, moves and orders that have to be met.
-const CLASSES: [&str; 19] = [
+const CLASSES: [&str; 18] = [
     "plan: accepted",
+    "plan: accepted, nothing taken again",
     "plan: refusal 9",
+    "plan: refusal 9, a device taken again",
     "plan: refusal 10",
+    "plan: refusal 10, a device taken again",
     "plan: shortest circle 1",
     "plan: shortest circle 2",
     "plan: shortest circle 3",
     "plan: shortest circle 4 or more",
     "plan: (b) passes over a lower blocked device",
     "plan: accepted with over 500 lines",
-    "move: accepted, sets changed",
-    "move: accepted, no set changed",
-    "move: accepted, stale off the way",
-    "move: refusal 8",
     "move: refusal 11",
     "move: refusal 12",
     "move: refusal 13",
@@ -58,23 +59,46 @@ const CLASSES: [&str; 19] = [
     "order: refusal 15",
 ];
 
+/// All classes, each with the least number that has to be met.
+fn classes() -> impl Iterator<Item = (String, u64)> {
+    let plans = shapes::TAKEN_AGAIN.map(|shape| format!("plan: accepted, {shape}"));
+    let moves =
+        shapes::MOVED.into_iter().chain(shapes::TABLES).map(|shape| format!("move: {shape}"));
+    let order = format!("order: {}", shapes::GIVEN_IN_PART);
+    let some = CLASSES.map(str::to_string).into_iter().chain(plans).chain(moves).chain([order]);
+    some.map(|class| (class, LEAST)).chain([(ALL_SMALL.to_string(), how_many(SMALL))])
+}
+
 /// Counts the plan in its classes.
 fn sort(tally: &mut Tally, plan: &[Line], verdict: &Result<Order, Refusal>) {
     match verdict {
-        Ok(_) => {
-            tally.meet("plan: accepted");
-            if passes_over(plan) {
-                tally.meet("plan: (b) passes over a lower blocked device");
+        Ok(_) => sort_accepted(tally, plan),
+        Err(Refusal { number, .. }) => {
+            tally.meet(&format!("plan: refusal {number}"));
+            if takes_again(plan) {
+                tally.meet(&format!("plan: refusal {number}, a device taken again"));
             }
-            if plan.len() > 500 {
-                tally.meet("plan: accepted with over 500 lines");
+            if *number == 10 {
+                tally.meet(circle_class(plan));
             }
         }
-        Err(refusal) if refusal.number == 9 => tally.meet("plan: refusal 9"),
-        Err(_) => {
-            tally.meet("plan: refusal 10");
-            tally.meet(circle_class(plan));
-        }
+    }
+}
+
+/// Counts a plan that has an order.
+fn sort_accepted(tally: &mut Tally, plan: &[Line]) {
+    tally.meet("plan: accepted");
+    if !takes_again(plan) {
+        tally.meet("plan: accepted, nothing taken again");
+    }
+    for shape in shapes::of_plan(plan) {
+        tally.meet(&format!("plan: accepted, {shape}"));
+    }
+    if passes_over(plan) {
+        tally.meet("plan: (b) passes over a lower blocked device");
+    }
+    if plan.len() > 500 {
+        tally.meet("plan: accepted with over 500 lines");
     }
 }
 
@@ -94,8 +118,9 @@ fn compare_reading(tally: &mut Tally, family: &str, plan: &[Line]) {
 fn compare_quickly(tally: &mut Tally, family: &str, plan: &[Line]) -> Result<Order, Refusal> {
     let answer = verdict(plan);
     sort(tally, plan, &answer);
+    let by_hand = ByHand::new(plan);
     let name = format!("{family}: number and place of the refusal");
-    tally.compare(&name, plan, refusal_by_hand(plan), answer.clone().err());
+    tally.compare(&name, plan, by_hand.refusal(), answer.clone().err());
     if let Ok(order) = &answer {
         let lines: Vec<usize> = order.lines.iter().map(|&line| line.into()).collect();
         let name = format!("{family}: the order handed out is legal, its held devices are right");
@@ -103,8 +128,11 @@ fn compare_quickly(tally: &mut Tally, family: &str, plan: &[Line]) -> Result<Ord
         tally.compare(&name, plan, held, Some(order.held));
     }
     let name = format!("{family}: claims are what is bound to be taken later");
-    let by_hand = (0..plan.len()).map(|at| claims_by_hand(plan, at));
-    tally.compare(&name, plan, by_hand.collect(), table(plan));
+    tally.compare(&name, plan, by_hand.claims(), table(plan));
+    let actions = shapes::as_actions(plan);
+    let name = format!("{family}: to take again is no more than an action");
+    let wanted = (table(&actions), verdict(&actions));
+    tally.compare(&name, plan, wanted, (table(plan), answer.clone()));
     answer
 }
 
@@ -121,7 +149,7 @@ fn compare_plan(tally: &mut Tally, family: &str, plan: &[Line]) {
     }
     if let Ok(order) = answer {
         let name = format!("{family}: the order handed out is that of (a) and (b)");
-        tally.compare(&name, plan, order_by_hand(plan), order.lines);
+        tally.compare(&name, plan, ByHand::new(plan).order(), order.lines);
     }
 }
 
@@ -144,7 +172,10 @@ fn rings(tally: &mut Tally, random: &mut Random) {
     for _ in 0..500 {
         for length in 1..=5 {
             for cut in [Cut::Whole, Cut::LeftOut, Cut::GivenBack] {
-                let plan = ring(random, length, cut);
+                let mut plan = ring(random, length, cut);
+                for _ in 0..random.below(3) {
+                    plan = take_again(random, &plan);
+                }
                 compare_plan(tally, "rings", &plan);
             }
         }
@@ -161,11 +192,20 @@ fn large_plans(tally: &mut Tally, random: &mut Random) {
             single: !random.once_in(8),
             rising: !random.once_in(8),
             lasting: 2 + random.below(8),
+            again: share(random),
         };
-        let plan = plan(random, wish);
-        compare_reading(tally, "large plans", &plan);
-        let _ = compare_quickly(tally, "large plans", &plan);
+        large_plan(tally, "large plans", &plan(random, wish));
     }
+    for _ in 0..400 {
+        let wish = deep_wish(random);
+        large_plan(tally, "deep plans", &plan(random, wish));
+    }
+}
+
+/// A plan for which all orders are too many.
+fn large_plan(tally: &mut Tally, family: &str, plan: &[Line]) {
+    compare_reading(tally, family, plan);
+    let _ = compare_quickly(tally, family, plan);
 }
 
 /// Every well-formed plan of up to `SMALL` lines over two devices. Counts them by their lines.
@@ -192,9 +232,7 @@ fn print_small(counts: &[u64; SMALL + 1]) {
 
 fn main() -> ExitCode {
     seeded(|seed| {
-        let classes = CLASSES.iter().map(|&class| (class, LEAST));
-        let classes = classes.chain([(ALL_SMALL, how_many(SMALL))]);
-        let mut tally = Tally::new(classes.map(|(class, least)| (class.to_string(), least)));
+        let mut tally = Tally::new(classes());
         let mut random = Random::new(seed);
         random_plans(&mut tally, &mut random);
         rings(&mut tally, &mut random);
@@ -202,6 +240,7 @@ fn main() -> ExitCode {
         lists::damaged_texts(&mut tally, &mut random);
         lists::lent_lists(&mut tally, &mut random);
         moves::moves(&mut tally, &mut random);
+        moves::all_moves(&mut tally);
         judged::judged(&mut tally, &mut random);
         print_small(&all_small(&mut tally));
         tally.print()

@@ -1,8 +1,9 @@
 //! The second reading, the move of a claim.
 //!
-//! Reads, of document 01: "Moving a claim", and of "Refusal numbers" the cases 11 to 14.
+//! Reads, of document 01: "Moving a claim", and of "Refusal numbers" the cases 11 to 14; of document
+//! 02: request 2, which adds the lines under the moved take and asks the edited plan for nothing.
 
-use super::{gives, joined, lent::room};
+use super::{gives, joined, lent::room, outermost};
 use crate::line::{pack, Line, Refusal, Verb, DEVICES};
 use crate::read::check_packed;
 
@@ -25,6 +26,22 @@ pub fn way(plan: &[Line], at: usize) -> Vec<usize> {
     way
 }
 
+/// The lines under a take, going down: the further lines of its job as far as the give, which is not
+/// among them, or all of them where there is none. With another device above them, takes among them
+/// come to be outermost ones, or no longer so.
+pub fn under(plan: &[Line], at: usize) -> Vec<usize> {
+    let give = gives(plan)[at];
+    let is_under = |line: &usize| plan[*line].job == plan[at].job && Some(*line) != give;
+    (at + 1..plan.len()).take_while(is_under).collect()
+}
+
+/// For each line whether its set is stale: another one than its own claim joined with the sets that
+/// are stored for its successors.
+pub fn stale(plan: &[Line], sets: &[u32]) -> Vec<bool> {
+    let outermost = outermost(plan);
+    (0..plan.len()).map(|at| sets[at] != joined(plan, &outermost, sets, at)).collect()
+}
+
 /// Gives the take that is line number `line`, and its give, another device, in the packed plan
 /// and in the table. The answer counts the lines that got another set.
 pub fn move_claim(
@@ -37,25 +54,29 @@ pub fn move_claim(
     room(sets.len(), lines.len())?;
     let at = take_asked(&lines, line)?;
     let device = device_asked(device)?;
-    let way = way(&lines, at);
-    if let Some(&stale) = way.iter().find(|&&on| sets[on] != joined(&lines, sets, on)) {
-        return Err(Refusal::at(14, stale + 1));
+    let (way, under) = (way(&lines, at), under(&lines, at));
+    let stale = stale(&lines, sets);
+    if let Some(on) = way.iter().chain(&under).find(|&&on| stale[on]) {
+        return Err(Refusal::at(14, on + 1));
     }
+    // The edit leaves takes and gives paired as they were, so that the plan stays well-formed.
     let edited = edited(&lines, at, device);
-    let packed = pack(&edited);
-    // The edit keeps takes and gives paired as they were; a take of a held device is all that
-    // can be wrong with it.
-    check_packed(&packed)?;
-    plan.copy_from_slice(&packed);
+    plan.copy_from_slice(&pack(&edited));
+    let from_last_to_first = under.into_iter().rev().chain(way);
+    Ok(rewrite(&edited, sets, from_last_to_first))
+}
+
+/// Joins the sets of these lines anew, one after another: each from successors that are rewritten
+/// already, or that are not among them and stay. Counts those that become others.
+fn rewrite(plan: &[Line], sets: &mut [u32], lines: impl Iterator<Item = usize>) -> u32 {
+    let outermost = outermost(plan);
     let mut changed = 0;
-    // From the moved line back: each set is joined from successors that are rewritten already,
-    // or that lie off the way and stay.
-    for on in way {
-        let set = joined(&edited, sets, on);
+    for on in lines {
+        let set = joined(plan, &outermost, sets, on);
         changed += u32::from(sets[on] != set);
         sets[on] = set;
     }
-    Ok(changed)
+    changed
 }
 
 /// The place of the line asked, if that line is a take. Any number may be asked.

@@ -12,20 +12,21 @@ use Rattle.verdict.proofs.order.hand_out.Statement.{statement}
 use Rattle.verdict.proofs.order.hand_out.Tie as tie
 
 abbrev Inv-loop : tie.InvT-loop
-Inv-loop plan first lasting order₀ places₀ counts₀ w₀ on₀ i₀ k₀ order places counts w on i k =
-    Handing plan first lasting order₀ order places counts w on i k
+Inv-loop plan first again lasting order₀ places₀ counts₀ w₀ on₀ i₀ k₀ order places counts w on i k =
+    Handing plan first again lasting order₀ order places counts w on i k
 
 abbrev μ-loop : tie.MeasureT-loop
-μ-loop plan first lasting order₀ places₀ counts₀ w₀ on₀ i₀ k₀ order places counts w on i k = length plan - k
+μ-loop plan first again lasting order₀ places₀ counts₀ w₀ on₀ i₀ k₀ order places counts w on i k = length plan - k
 
 tally-requires : tie.Need-tally-requires Inv-loop μ-loop
-tally-requires c κs = c .before .before .pre .0 .0 .sound
+tally-requires c κs = let pre = c .before .before .pre in (pre .0 .0 .sound, pre .0 .2)
 
 loop-holds : tie.Need-loop-holds Inv-loop μ-loop
 unfolding idle empty
 loop-holds c =
     let pre = c .before .before .before .before .before .pre in
-    hands-first (pre .0 .0) (pre .0 .1) (pre .1 .0) (pre .1 .1) (c .before .before .tally .ensures) (c .scarce .ensures)
+    hands-first (pre .0 .0) (pre .0 .1) (pre .0 .2) (pre .1 .0) (pre .1 .1) (c .before .before .tally .ensures)
+    (c .scarce .ensures)
 
 goes-next-requires : tie.Need-goes-next-requires Inv-loop μ-loop
 goes-next-requires c κs = a-place (c .before .before .loop .inv) (c .before .loop-test .taken)
@@ -43,22 +44,23 @@ small c =
 
 slice-write-order : tie.Need-slice-write-order Inv-loop μ-loop
 slice-write-order c =
-    let h = in-loop c .before .loop .inv in omega (arith, same-room h, h .room, in-loop c .loop-test .taken)
+    let here = in-loop (c .before) in
+    let h = here .before .loop .inv in omega (arith, same-room h, h .room, here .loop-test .taken)
 
 pass-requires : tie.Need-pass-requires Inv-loop μ-loop
 pass-requires c κs =
-    let here = c .before .before in
+    let here = c .before .before .before in
     asks (in-loop here .before .loop .inv) (in-loop here .loop-test .taken) (here .goes-next .ensures)
 
 goes-on-requires : tie.Need-goes-on-requires Inv-loop μ-loop
 goes-on-requires c κs =
-    let here = c .before .before .before in
+    let here = c .before .before .before .before in
     let h = in-loop here .before .loop .inv in
     (h .marked, a-line h (in-loop here .loop-test .taken) (here .goes-next .ensures))
 
 loop-again : tie.Need-loop-again Inv-loop μ-loop
 loop-again c =
-    let here = c .before .before .before .before in
+    let here = c .before .before .before .before .before in
     let p = c .before .pass .ensures in
     hands-on (in-loop here .before .loop .inv) (in-loop here .loop-test .taken) (here .goes-next .ensures) (p .0)
     (p .1 .0) (p .1 .1) (c .goes-on .ensures)
@@ -79,15 +81,15 @@ hand-out-spec =
     (λ c κs. search needs)
     loop-holds
     goes-next-requires
-    (λ c. let s = small c in omega arith)
-    (λ c. let s = small c in omega arith)
-    (λ c. let s = small c in omega arith)
+    (λ c. let s = small (c .before) in omega arith)
+    (λ c. let s = small (c .before) in omega arith)
+    (λ c. let s = small (c .before) in omega arith)
     slice-write-order
     pass-requires
     goes-on-requires
-    (λ c. let s = small (c .before .before .before .before) in omega arith)
-    (λ c. let s = small (c .before .before .before .before) in omega arith)
-    (λ c. omega (arith, in-loop (c .before .before .before .before) .loop-test .taken))
+    (λ c. let s = small (c .before .before .before .before .before) in omega arith)
+    (λ c. let s = small (c .before .before .before .before .before) in omega arith)
+    (λ c. omega (arith, in-loop (c .before .before .before .before .before) .loop-test .taken))
     loop-again
     same-length
     returns)

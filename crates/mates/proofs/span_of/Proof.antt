@@ -1,12 +1,12 @@
--- `mates::mate` meets its contract: the whole search is the search from the present position and depth, by the laws of
--- `Mates`.
+-- `mates::span_of` meets its contract: the whole search is the search from the present position and depth, by the laws
+-- of `Mates`.
 use mathlib.Core.Path.{sym, _∙_}
 use Prim.Native.Nat.{_-_}
 use lib.ListN.{length}
 use Rattle.mates.proofs.Mates.{past, Sought, start, end, foreign, mate-here, on}
 use borrow.Author.Needs.{needs}
-use Rattle.mates.proofs.mate.Statement.{statement}
-use Rattle.mates.proofs.mate.Tie as tie
+use Rattle.mates.proofs.span_of.Statement.{statement}
+use Rattle.mates.proofs.span_of.Tie as tie
 
 abbrev Inv-loop : tie.InvT-loop
 Inv-loop plan i j depth₀ k₀ depth k = Sought plan i j depth k
@@ -58,8 +58,8 @@ returns-4 c =
     let a = l .before .before .before .before .before .args in
     end (a .plan .now) (a .i) (l .before .job .result) (l .loop .depth) (l .loop .k) (l .loop .inv) (c .loop-test .left)
 
-pub mate-spec : {M : Type 1} → statement M
-mate-spec =
+pub span-of-spec : {M : Type 1} → statement M
+span-of-spec =
     tie.close
     (tie.spec
     Inv-loop

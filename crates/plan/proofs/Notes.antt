@@ -1,0 +1,83 @@
+-- The walk that notes, from line to line: beside the state of the walk there are its notes of the devices held, and the
+-- flags of the lines so far (02, request 2).
+use mathlib.Core.Path.{_≡_, refl, ap, sym, _∙_}
+use mathlib.Core.Bool.{Bool, true, false, cond, not}
+use mathlib.Core.List.{List, []}
+use Prim.Native.Nat.{ℕ, suc, _+_, _≤_, _<_}
+use native.Mathlib.Numerals.{add-one}
+use native.Mathlib.Omega.{arith}
+use lib.Dec.{eqb}
+use lib.ListN.{length, getD, set}
+use mir.Val.{boolByte}
+use Rattle.model.specs.Board.{devices}
+use Rattle.model.specs.Line.{job, isLine, at, maxLines}
+use Rattle.model.specs.Sets.{empty}
+use Rattle.model.specs.WellFormed.{heldThere}
+use Rattle.model.specs.Mate.{deviceAt, holdsAlready}
+use Rattle.sets.specs.Both.{differ}
+use Rattle.theory.specs.Outer.{againAt, holdsBeneath}
+use Rattle.plan.specs.Walk.{stepOf, heldIn, nextBy}
+use Rattle.plan.specs.Noting.{handledBy, changeOf, changeAfter, Noted}
+use Rattle.plan.specs.Again.{none-again}
+use Rattle.plan.specs.declared.After.{After}
+use Rattle.plan.proofs.Stacks.{length-held}
+use Rattle.plan.proofs.Steps.{in-place}
+use Rattle.plan.proofs.Stands.{there-is}
+use Rattle.plan.proofs.Walks.{At}
+use Rattle.plan.proofs.Flags.{Flagged, none-flagged, one-flagged}
+use Rattle.plan.proofs.Noting.{heldNext, againIn, none-noted, noted-or-none, says, Went, went}
+
+pub record Notes (p : List ℕ) (i depth held : ℕ) (stack added again : List ℕ) : Type 0 where
+  pub noted : Noted (heldIn depth stack) held added
+  pub flagged : Flagged p i again
+
+pub notes-start : (p stack added again : List ℕ) → length added ≡ suc maxLines → again ≡ none-again
+    → Notes p 0 0 empty stack added again
+unfolding heldIn
+notes-start p stack added again l z = record { noted = none-noted added l; flagged = rw z (none-flagged p) }
+
+again-is : (p : List ℕ) (i : ℕ) → againIn (at p i) (heldThere p i) ≡ againAt p i
+unfolding againIn againAt holdsAlready holdsBeneath deviceAt
+again-is p i = refl
+
+module _ (p : List ℕ) (i prev depth held : ℕ) (stack first starter added again : List ℕ)
+    (s : At p i prev depth stack first starter) (w : Notes p i depth held stack added again)
+    (x : After) (stack′ first′ starter′ : List ℕ)
+    (led : nextBy x stack′ first′ starter′ ≡ stepOf devices (at p i) i prev (heldIn depth stack) first starter)
+    (d : ℕ) (e : x ≡ After.On d) where
+  abbrev n : ℕ
+  n = at p i
+
+  abbrev same : Bool
+  same = eqb (job n) prev
+
+  abbrev there : List ℕ
+  there = cond same (heldIn depth stack) []
+
+  abbrev c : ℕ
+  c = changeAfter n prev depth held added
+
+  goes : Went devices n i prev (heldIn depth stack) (heldIn d stack′)
+  goes = went devices n i prev (heldIn depth stack) first starter (heldIn d stack′) first′ starter′ (rw e at led)
+
+  long : (b : Bool) → length (cond b (heldIn depth stack) []) ≡ cond b depth 0
+  long true = length-held depth stack
+  long false = refl
+
+  no-deeper : (b : Bool) → i < maxLines → cond b depth 0 < maxLines
+  no-deeper true h = omega (arith, s .deep)
+  no-deeper false h = omega arith
+
+  pub notes-next : Notes p (i + 1) d (differ (cond same held empty) c) stack′ (set added (suc (cond same depth 0)) c)
+      (set again i (boolByte (not (eqb (handledBy n) c))))
+  notes-next =
+      let q = in-place devices n i prev (goes .placed) in
+      let k = long same in
+      let y = rw k at (says n there (cond same held empty) added (q .1)
+      (noted-or-none (heldIn depth stack) held added (w .noted) same) (rw k (no-deeper same (q .0))) (goes .last)) in
+      let is = y .0 ∙ ap (againIn n) (sym (there-is devices p i prev (heldIn depth stack) first starter (s .stands)
+      (goes .placed))) ∙ again-is p i in
+      rw add-one (record {
+        noted = rw (goes .next) (y .1);
+        flagged = one-flagged p i again (not (eqb (handledBy n) c)) (q .0) is (w .flagged);
+      })
