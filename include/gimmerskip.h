@@ -57,14 +57,14 @@ extern "C" {
  * dynamic linker needs where it looks up `memcpy` or `memset` at the first call, of which over 3,000 bytes were seen.
  * In a program linked with -Wl,-z,now it looks them up before `main`, and in a static one there is nothing to look up.
  */
-#define GIMMERSKIP_STACK_ORDER 12480
+#define GIMMERSKIP_STACK_ORDER 18816
 #define GIMMERSKIP_STACK_LINE 704
-#define GIMMERSKIP_STACK_READ 5072
-#define GIMMERSKIP_STACK_WRITE 13200
-#define GIMMERSKIP_STACK_TABLE 1664
-#define GIMMERSKIP_STACK_VERDICT 3264
-#define GIMMERSKIP_STACK_JUDGE 1168
-#define GIMMERSKIP_STACK_MOVE 1456
+#define GIMMERSKIP_STACK_READ 11200
+#define GIMMERSKIP_STACK_WRITE 19344
+#define GIMMERSKIP_STACK_TABLE 8096
+#define GIMMERSKIP_STACK_VERDICT 9584
+#define GIMMERSKIP_STACK_JUDGE 8352
+#define GIMMERSKIP_STACK_MOVE 8624
 
 /* Why an entry refuses. Each comment says what the place of that refusal is. 8 is free: it was given where a job takes
    a device that it holds, which is allowed now. */
