@@ -83,7 +83,8 @@ loop-again c =
       λ t. let g = k .ensures t in
           rw (g .holds, g .adds, g .flags)
           (notes-next p (l .loop .i) (l .loop .prev) (l .loop .depth) (l .loop .held) (l .loop .stack)
-          (l .loop .first) (l .loop .starter) (l .loop .added) (l .loop .again) (l .loop .inv .0) (l .loop .inv .1 t) (f .result)
+          (l .loop .first) (l .loop .starter) (l .loop .added) (l .loop .again) (l .loop .inv .0) (l .loop .inv .1 t)
+          (f .result)
           (f .last .1 .1 .1 .1 .0) (f .last .1 .1 .1 .1 .1 .0) (f .last .1 .1 .1 .1 .1 .1 .0) (f .ensures .0)
           (d .0 .0) (d .1)),
     )
