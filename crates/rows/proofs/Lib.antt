@@ -1,8 +1,13 @@
 -- The laws of `rows`.
 pub mod Where
 pub mod Filled
-pub mod Leading
-pub mod Square
+pub mod Smaller
+pub mod Looked
+pub mod TakenAway
+pub mod Reaching
+pub mod CameBack
+pub mod Mated
+pub mod Finding
 pub mod Wanted
 pub mod Counted
 pub mod RowsFrom

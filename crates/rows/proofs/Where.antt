@@ -1,11 +1,12 @@
 -- Sets of devices by a test, over the number of devices D: their members, that nothing else has these members, what a
--- search of them finds, and how the code makes one, from its last device on.
+-- search of them finds, and how code makes a union over the devices, from the last one on.
 use Prim.Native.Nat.{ℕ, zero, suc, _+_, _-_, _^_, _<_, _≤_}
 use mathlib.Core.Bool.{Bool, true, false, cond}
 use mathlib.Core.List.{List, [], _∷_, map}
 use mathlib.Core.Option.{Option, some}
 use mathlib.Core.Path.{_≡_, refl, sym, _∙_, ap}
 use native.Mathlib.Omega.{arith}
+use lib.Bits.{or-zero-l}
 use borrow.Author.Tests.{eqb-true, eq-eqb}
 use Rattle.model.specs.Lists.{upFrom, has, those, firstOf}
 use Rattle.model.specs.Sets.{empty, union, unionOf, member}
@@ -61,10 +62,6 @@ module _ (f : ℕ → Bool) where
   pub is-where : (D s : ℕ) → s < 2 ^ D → ((d : ℕ) → d < D → member s d ≡ f d) → s ≡ devicesWhere D f
   is-where D s h m = same-members D s (devicesWhere D f) h (where-below D) (λ d k. m d k ∙ sym (member-where D d k))
 
--- tests that agree on the devices have one set
-pub where-same : (D : ℕ) (f g : ℕ → Bool) → ((d : ℕ) → d < D → f d ≡ g d) → devicesWhere D f ≡ devicesWhere D g
-where-same D f g h = is-where g D (devicesWhere D f) (where-below f D) (λ d k. member-where f D d k ∙ h d k)
-
 -- A search of the set finds what a search of the test finds, and the same are counted.
 
 first-same : (f g : ℕ → Bool) (xs : List ℕ) → ((k : ℕ) → has k xs ≡ true → f k ≡ g k) → firstOf f xs ≡ firstOf g xs
@@ -95,25 +92,37 @@ unfolding onlyIf
 one-where D d true h = only-of D d h
 one-where D d false h = refl
 
--- The set made from its last device on: `s` has what passes from device d on.
+-- A union over the devices, made from the last device on: what is joined from device d on.
+abbrev pub joinedFrom : ℕ → (ℕ → ℕ) → ℕ → ℕ
+joinedFrom D f d = unionOf (map f (upFrom d (D - d)))
 
-pub where-begins : (D d : ℕ) (f : ℕ → Bool) → D ≤ d → empty ≡ unionOf (map (λ e. onlyIf (f e) e) (upFrom d (D - d)))
-unfolding unionOf upFrom
-where-begins D d f h = let z : D - d ≡ 0 = omega arith in rw z
+module _ (D d : ℕ) (f : ℕ → ℕ) where
+  pub joined-begins : D ≤ d → empty ≡ joinedFrom D f d
+  unfolding unionOf upFrom
+  joined-begins h = let z : D - d ≡ 0 = omega arith in rw z
 
-pub where-grows : (D d : ℕ) (f : ℕ → Bool) (s : ℕ) → 0 < d → d ≤ D
-    → s ≡ unionOf (map (λ e. onlyIf (f e) e) (upFrom d (D - d)))
-    → union (onlyIf (f (d - 1)) (d - 1)) s
-    ≡ unionOf (map (λ e. onlyIf (f e) e) (upFrom (d - 1) (D - (d - 1))))
-unfolding unionOf upFrom
-where-grows D d f s h k e =
-    let z : D - (d - 1) ≡ suc (D - d) = omega arith in
-    let y : suc (d - 1) ≡ d = omega arith in
-    rw (z, y) (ap (union (onlyIf (f (d - 1)) (d - 1))) e)
+  pub joined-grows : (s : ℕ) → 0 < d → d ≤ D → s ≡ joinedFrom D f d
+      → union (f (d - 1)) s ≡ joinedFrom D f (d - 1)
+  unfolding unionOf upFrom
+  joined-grows s h k e =
+      let z : D - (d - 1) ≡ suc (D - d) = omega arith in
+      let y : suc (d - 1) ≡ d = omega arith in
+      rw (z, y) (ap (union (f (d - 1))) e)
 
-pub where-whole : (D d : ℕ) (f : ℕ → Bool) (s : ℕ) → d ≤ 0
-    → s ≡ unionOf (map (λ e. onlyIf (f e) e) (upFrom d (D - d))) → s ≡ devicesWhere D f
-unfolding devicesWhere
-where-whole D d f s h e =
-    let z : d ≡ 0 = omega arith in
-    let y : D - d ≡ D = omega arith in rw (y, z) at e
+empty-union : (s : ℕ) → union empty s ≡ s
+unfolding union empty
+empty-union s = or-zero-l s
+
+-- devices that add nothing need not be looked at
+pub joined-whole : (D d : ℕ) (f : ℕ → ℕ) → d ≤ D → ((k : ℕ) → k < d → f k ≡ empty)
+    → joinedFrom D f d ≡ unionOf (map f (upFrom 0 D))
+joined-whole D zero f h n = let z : D - 0 ≡ D = omega arith in rw z
+joined-whole D (suc d) f h n = none ∙ joined-whole D d f (omega arith) (λ k l. n k (omega arith))
+  where
+    none : joinedFrom D f (suc d) ≡ joinedFrom D f d
+    none =
+        let y : suc d - 1 ≡ d = omega arith in
+        let e = rw y at (joined-grows D (suc d) f (joinedFrom D f (suc d)) (omega arith) h refl) in
+        sym
+        (ap (λ (x : ℕ). union x (joinedFrom D f (suc d))) (n d (omega arith)) ∙ empty-union (joinedFrom D f (suc d)))
+        ∙ e

@@ -1,5 +1,5 @@
 -- What the contracts of `rows` cite beside `model`.
 pub mod Where
-pub mod Square
+pub mod Search
 pub mod Lasting
 pub mod Holds

@@ -17,69 +17,21 @@ ghost use Rattle.model.specs.Board.{devices};
 ghost use Rattle.model.specs.Line.{isTake, isLine, maxLines};
 ghost use Rattle.model.specs.WellFormed.{fault};
 ghost use Rattle.plan.specs.Again.{againFlags};
-ghost use Rattle.rows.specs.Where.{devicesWhere, circlesOf};
+ghost use Rattle.rows.specs.Where.{circlesOf};
 ghost use Rattle.rows.specs.Lasting.{wantedBefore, rowJoined};
 ghost use Rattle.rows.specs.Holds.{PassedOn, JoinedOn, HeldAs, WalkedAs, HoldsAs, holdsBy};
-ghost use Rattle.rows.specs.Square.{ledBy, swept, closed, inOwnRow};
 
-// ---- the circle search: a square of flags, a row of it a set, which starts as the rows
-
-// The row of a device with what device k leads to, where the row has k. The answer is chosen and the caller always
-// stores it, so that the loop over the rows takes several of them at a time.
-fn led(row: Set, through: Set, k: u32) -> Set
-    ensures { λ r. ⌜ r ≡ ledBy k through row ⌝ }
-{
-    sets::choose(sets::member(row, k), sets::union(row, through), row)
-}
-
-// One sweep: every device that leads to k leads to what k leads to. The row of k itself is not changed by it.
-fn sweep(square: &mut [Set], k: usize)
-    requires { ⌜ (k < devices) × (length (now square) ≡ devices) ⌝ }
-    ensures { λ r. ⌜ now (square .exit) ≡ swept k (now (square .entry)) ⌝ }
-{
-    let through = square[k];
-    let mut d: usize = 0;
-    while d < EACH_DEVICE {
-        let row = led(square[d], through, k as u32);
-        square[d] = row;
-        d += 1;
-    }
-}
-
-// The closure: a sweep for each device. The square has as many rows.
-fn close(square: &mut [Set; EACH_DEVICE])
-    ensures { λ r. ⌜
-        (length (now (square .entry)) ≡ devices) × (now (square .exit) ≡ closed devices (now (square .entry)))
-        ⌝ }
-{
-    let mut k: usize = 0;
-    while k < EACH_DEVICE {
-        sweep(square, k);
-        k += 1;
-    }
-}
-
-// The devices whose own row has them.
-fn diagonal(square: &[Set; EACH_DEVICE]) -> Set
-    ensures { λ r. ⌜ r ≡ devicesWhere devices (inOwnRow (now (square .entry))) ⌝ }
-{
-    let mut s = sets::NONE;
-    let mut d = EACH_DEVICE;
-    while 0 < d {
-        d -= 1;
-        let back = sets::member(square[d], d as u32);
-        s = sets::union(sets::only_if(back, d as u32), s);
-    }
-    s
-}
+mod search;
 
 // The devices that lead back to themselves, for any rows.
 pub fn circles(rows: &[Set; EACH_DEVICE]) -> Set
     ensures { λ r. ⌜ r ≡ circlesOf (now (rows .entry)) ⌝ }
 {
-    let mut square = *rows;
-    close(&mut square);
-    diagonal(&square)
+    let mut search = search::begun(rows);
+    while search.left != sets::NONE {
+        search = search::one_found(rows, search);
+    }
+    search.found
 }
 
 // ---- one line of a walk back over the plan

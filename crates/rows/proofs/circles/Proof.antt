@@ -1,19 +1,27 @@
--- `rows::circles` meets its contract: the diagonal of the closed square has the circles.
-use mathlib.Core.Path.{ap, _∙_}
+-- `rows::circles` meets its contract: when nothing is left, what is found are the circles.
+use mathlib.Core.Path.{_≡_, sym, _∙_}
+use native.Mathlib.Omega.{arith}
 use borrow.Author.Needs.{needs}
-use Rattle.model.specs.Board.{devices}
-use Rattle.rows.specs.Where.{devicesWhere}
-use Rattle.rows.specs.Square.{inOwnRow}
-use Rattle.rows.proofs.Square.{diagonal-circles}
+use Rattle.rows.specs.Search.{OnTheWay}
+use Rattle.rows.proofs.Finding.{all-found}
 use Rattle.rows.proofs.circles.Statement.{statement}
 use Rattle.rows.proofs.circles.Tie as tie
 
-returns : tie.Need-returns
+abbrev Inv-loop : tie.InvT-loop
+Inv-loop rows search₀ search = OnTheWay rows search
+
+abbrev μ-loop : tie.MeasureT-loop
+μ-loop rows search₀ search = search .left
+
+returns : tie.Need-returns Inv-loop μ-loop
 returns c =
-    let at-close = c .before .before in
-    let w = at-close .close .ensures in
-    c .diagonal .ensures ∙ ap (λ square. devicesWhere devices (inOwnRow square)) (w .1)
-    ∙ diagonal-circles devices (at-close .before .before .before .args .rows .now) (w .0)
+    let l = c .before .before .loop in
+    all-found (c .before .before .before .before .before .args .rows .now) (l .search .found)
+    (rw (c .if1 .left) at (l .inv .searching))
 
 pub circles-spec : {M : Type 1} → statement M
-circles-spec = tie.close (tie.spec (λ c κs. search needs) (λ c κs. search needs) returns)
+circles-spec =
+    tie.close
+    (tie.spec Inv-loop μ-loop (λ c κs. c .begun-arg .given .0) (λ c. c .begun .ensures)
+    (λ c κs. (c .one-found-arg .given .0, omega (arith, c .before .if1 .taken), c .before .before .before .loop .inv))
+    (λ c. c .one-found .ensures .less) (λ c. c .one-found .ensures .on) returns)

@@ -1,0 +1,69 @@
+-- `rows::search::between` meets its contract: each of the two sets so far is that from device d on.
+use Prim.Native.Nat.{ℕ, _≤_, _<_}
+use mathlib.Core.Path.{_≡_, _∙_, ap}
+use native.Mathlib.Omega.{arith}
+use borrow.Author.Needs.{needs}
+use Rattle.model.specs.Board.{devices}
+use Rattle.model.specs.Sets.{empty, union, lowestOf}
+use Rattle.sets.specs.Both.{both}
+use Rattle.sets.proofs.Members.{lowest-at-most}
+use Rattle.rows.specs.Search.{rowIn, leadInto}
+use Rattle.rows.proofs.Where.{joinedFrom, joined-begins, joined-grows}
+use Rattle.rows.proofs.Looked.{intoAt, into-whole, onward-whole}
+use Rattle.rows.proofs.search.between.Statement.{statement}
+use Rattle.rows.proofs.search.between.Tie as tie
+
+abbrev Inv-loop : tie.InvT-loop
+Inv-loop rows s low into₀ onto₀ d₀ into onto d =
+    (d ≤ devices) × (into ≡ joinedFrom devices (intoAt rows s s) d) × (onto ≡ joinedFrom devices (rowIn rows s) d)
+
+abbrev μ-loop : tie.MeasureT-loop
+μ-loop rows s low into₀ onto₀ d₀ into onto d = d
+
+cast-low : tie.Need-cast-low Inv-loop μ-loop
+cast-low c = omega (arith, c .lowest .ensures, lowest-at-most devices (c .before .before .args .s))
+
+loop-holds : tie.Need-loop-holds Inv-loop μ-loop
+unfolding empty
+loop-holds c =
+    let a = c .before .before .args in (
+      search needs,
+      joined-begins devices _ (intoAt (a .rows .now) (a .s) (a .s)) (omega arith),
+      joined-begins devices _ (rowIn (a .rows .now) (a .s)) (omega arith),
+    )
+
+loop-again : tie.Need-loop-again Inv-loop μ-loop
+unfolding rowIn
+loop-again c =
+    let at-of = c .before .before .before in
+    let at-loop = at-of .before .before .before in
+    let l = at-loop .loop in
+    let a = at-loop .before .before .before .args in (
+      omega arith,
+      c .before .union .ensures
+          ∙ ap (λ (x : ℕ). union x (l .into)) (c .before .before .if-into .ensures ∙ rw (at-of .if-of .ensures))
+          ∙ joined-grows devices (l .d) (intoAt (a .rows .now) (a .s) (a .s)) (l .into) (omega arith) (l .inv .0)
+          (l .inv .1),
+      c .union2 .ensures
+          ∙ ap (λ (x : ℕ). union x (l .onto)) (at-of .if-of .ensures)
+          ∙ joined-grows devices (l .d) (rowIn (a .rows .now) (a .s)) (l .onto) (omega arith) (l .inv .0) (l .inv .2),
+    )
+
+returns : tie.Need-returns Inv-loop μ-loop
+returns c =
+    let l = c .before .before .loop in
+    let start = c .before .before .before .before .before in
+    let rs = start .args .rows .now in
+    let s = start .args .s in
+    let low : l .d ≤ lowestOf devices s =
+    omega (arith, c .before .loop-test .left, c .before .before .before .lowest .ensures) in
+    c .both .ensures
+    ∙ ap (λ (x : ℕ). both x (l .onto)) (l .inv .1 ∙ into-whole rs devices (l .d) s (start .pre) (l .inv .0) low s)
+    ∙ ap (both (leadInto rs s s)) (l .inv .2 ∙ onward-whole rs devices (l .d) s (start .pre) (l .inv .0) low)
+
+pub between-spec : {M : Type 1} → statement M
+between-spec =
+    tie.close
+    (tie.spec Inv-loop μ-loop (λ c κs. search needs) cast-low loop-holds (λ c. search needs) (λ c. search needs)
+    (λ c. search needs) (λ c. omega arith) (λ c κs. search needs) (λ c. omega arith) (λ c κs. omega arith)
+    (λ c κs. search needs) (λ c κs. search needs) (λ c. search needs) loop-again (λ c κs. search needs) returns)

@@ -1,0 +1,58 @@
+-- `rows::search::lead_into` meets its contract: the set so far has what leads into the other from device d on.
+use Prim.Native.Nat.{ℕ, _≤_, _<_}
+use mathlib.Core.Path.{_≡_, _∙_, ap}
+use native.Mathlib.Omega.{arith}
+use borrow.Author.Needs.{needs}
+use Rattle.model.specs.Board.{devices}
+use Rattle.model.specs.Sets.{empty, union}
+use Rattle.sets.proofs.Members.{lowest-at-most}
+use Rattle.rows.specs.Search.{rowIn}
+use Rattle.rows.proofs.Where.{joinedFrom, joined-begins, joined-grows}
+use Rattle.rows.proofs.Looked.{intoAt, into-whole}
+use Rattle.rows.proofs.search.lead_into.Statement.{statement}
+use Rattle.rows.proofs.search.lead_into.Tie as tie
+
+abbrev Inv-loop : tie.InvT-loop
+Inv-loop rows within s low into₀ d₀ into d = (d ≤ devices) × (into ≡ joinedFrom devices (intoAt rows within s) d)
+
+abbrev μ-loop : tie.MeasureT-loop
+μ-loop rows within s low into₀ d₀ into d = d
+
+cast-low : tie.Need-cast-low Inv-loop μ-loop
+cast-low c = omega (arith, c .lowest .ensures, lowest-at-most devices (c .before .before .args .within))
+
+loop-holds : tie.Need-loop-holds Inv-loop μ-loop
+unfolding empty
+loop-holds c =
+    let a = c .before .before .args in
+    (search needs, joined-begins devices _ (intoAt (a .rows .now) (a .within) (a .s)) (omega arith))
+
+loop-again : tie.Need-loop-again Inv-loop μ-loop
+unfolding rowIn
+loop-again c =
+    let at-loop = c .before .before .before .before .before in
+    let l = at-loop .loop in
+    let a = at-loop .before .before .before .args in (
+      omega arith,
+      c .union .ensures
+          ∙ ap (λ (x : ℕ). union x (l .into)) (c .before .if-into .ensures
+          ∙ rw (c .before .before .if-of .ensures))
+          ∙ joined-grows devices (l .d) (intoAt (a .rows .now) (a .within) (a .s)) (l .into) (omega arith) (l .inv .0)
+          (l .inv .1),
+    )
+
+returns : tie.Need-returns Inv-loop μ-loop
+returns c =
+    let l = c .before .loop in
+    let start = c .before .before .before .before in
+    let a = start .args in
+    l .inv .1
+    ∙ into-whole (a .rows .now) devices (l .d) (a .within) (start .pre) (l .inv .0)
+    (omega (arith, c .loop-test .left, c .before .before .lowest .ensures)) (a .s)
+
+pub lead-into-spec : {M : Type 1} → statement M
+lead-into-spec =
+    tie.close
+    (tie.spec Inv-loop μ-loop (λ c κs. search needs) cast-low loop-holds (λ c. search needs) (λ c. search needs)
+    (λ c. search needs) (λ c. omega arith) (λ c κs. search needs) (λ c. omega arith) (λ c κs. omega arith)
+    (λ c κs. search needs) (λ c. search needs) loop-again returns)

@@ -1,0 +1,105 @@
+-- The circle search (01, "Claims and rows"; 02, request 3): what its parts find, for any rows and over any number of
+-- devices. No contract of an entry speaks of it.
+use Prim.Native.Nat.{ℕ, _^_, _<_}
+use mathlib.Core.Bool.{Bool, true, false, cond, not}
+use mathlib.Core.List.{List, map}
+use mathlib.Core.Logic.{_⊎_}
+use mathlib.Core.Path.{_≡_}
+use lib.Dec.{eqb}
+use lib.ListN.{length, getD}
+use Rattle.model.specs.Lists.{upFrom}
+use Rattle.model.specs.Sets.{empty, unionOf, member}
+use Rattle.model.specs.Rows.{Leads}
+use Rattle.sets.specs.Both.{both}
+use Rattle.rows.specs.Where.{devicesWhere}
+use Rattle.rows.specs.declared.search.Ended.{Ended}
+use Rattle.rows.specs.declared.search.Search.{Search}
+
+-- two sets have a device in common
+unfoldable pub meet : ℕ → ℕ → Bool
+unfolding both empty
+meet s t = not (eqb (both s t) empty)
+
+-- the row of a device
+abbrev pub rowAt : List ℕ → ℕ → ℕ
+rowAt rs d = getD rs d 0
+
+-- the devices that stand in a row
+unfoldable pub inRows : List ℕ → ℕ
+unfolding unionOf upFrom
+inRows rs = unionOf (map (rowAt rs) (upFrom 0 (length rs)))
+
+-- the row of a device of a set; of another, nothing
+unfoldable pub rowIn : List ℕ → ℕ → ℕ → ℕ
+unfolding member empty
+rowIn rs s d = cond (member s d) (rowAt rs d) empty
+
+-- the devices of a set with a member of s in their row
+unfoldable pub leadInto : List ℕ → ℕ → ℕ → ℕ
+unfolding devicesWhere meet rowIn
+leadInto rs within s = devicesWhere (length rs) (λ d. meet (rowIn rs within d) s)
+
+-- Devices each of which leads to one of them and is led to by one of them, in one step.
+pub record Linked (rs : List ℕ) (these : ℕ → Bool) : Type 0 where
+  pub on : (d : ℕ) → these d ≡ true → (e : ℕ) × (member (rowAt rs d) e ≡ true) × (these e ≡ true)
+  pub back : (d : ℕ) → these d ≡ true → (e : ℕ) × (member (rowAt rs e) d ≡ true) × (these e ≡ true)
+
+-- What is left after taking away: some of the set, each leading to one of them, and with all linked devices of the set.
+pub record Trimmed (rs : List ℕ) (left r : ℕ) : Type 0 where
+  pub below : r < 2 ^ length rs
+  pub inLeft : (d : ℕ) → member r d ≡ true → member left d ≡ true
+  pub on : (d : ℕ) → member r d ≡ true → (e : ℕ) × (member (rowAt rs d) e ≡ true) × (member r e ≡ true)
+  pub keeps : (these : ℕ → Bool) → Linked rs these → ((d : ℕ) → these d ≡ true → member left d ≡ true)
+      → (d : ℕ) → these d ≡ true → member r d ≡ true
+
+-- Where a walk ended: at a device that is left, which it passed before, and to which all that it passed lead; or past
+-- the devices, because one that is left has none of those left in its row.
+pub record Walked (rs : List ℕ) (left : ℕ) (w : Ended) : Type 0 where
+  pub lead : member left (w .at) ≡ true → (d : ℕ) → member left d ≡ true → member (w .rest) d ≡ false
+      → Leads rs d (w .at)
+  pub again : member left (w .at) ≡ true → member (w .rest) (w .at) ≡ false
+  pub stuck : member left (w .at) ≡ false
+      → (d : ℕ) × (member left d ≡ true) × ((e : ℕ) → member (rowAt rs d) e ≡ true → member left e ≡ false)
+
+-- Devices that one leads to: itself, and others of a set; if none of them is in `stop`, every one by way of the set.
+pub record Reached (rs : List ℕ) (within stop from r : ℕ) : Type 0 where
+  pub below : r < 2 ^ length rs
+  pub self : member r from ≡ true
+  pub led : (e : ℕ) → member r e ≡ true → (e ≡ from) ⊎ (Leads rs from e × (member within e ≡ true))
+  pub closed : ((e : ℕ) → member r e ≡ true → member stop e ≡ false) → (d e : ℕ) → member r d ≡ true
+      → member (rowAt rs d) e ≡ true → member within e ≡ true → member r e ≡ true
+
+-- These devices, and all of a set that lead to them by way of it.
+pub record LeadTo (rs : List ℕ) (within these r : ℕ) : Type 0 where
+  pub selves : (d : ℕ) → member these d ≡ true → member r d ≡ true
+  pub lead : (d : ℕ) → member r d ≡ true
+      → (member these d ≡ true) ⊎ ((e : ℕ) × (member these e ≡ true) × Leads rs d e)
+  pub closed : (d e : ℕ) → member within d ≡ true → member (rowAt rs d) e ≡ true → member r e ≡ true
+      → member r d ≡ true
+
+-- The mates of a device: those that it leads to and that lead to it. A set may have them all, and may have nothing
+-- else.
+abbrev pub WholeIn : List ℕ → ℕ → ℕ → Type 0
+WholeIn rs d s = (e : ℕ) → Leads rs d e → Leads rs e d → member s e ≡ true
+
+pub record Mates (rs : List ℕ) (d s : ℕ) : Type 0 where
+  pub below : s < 2 ^ length rs
+  pub are : (e : ℕ) → member s e ≡ true → Leads rs d e × Leads rs e d
+  pub whole : WholeIn rs d s
+
+-- On the way: what is found leads back and has its mates with it; what leads back is found or left.
+pub record Searching (rs : List ℕ) (left found : ℕ) : Type 0 where
+  pub below : found < 2 ^ length rs
+  pub back : (d : ℕ) → member found d ≡ true → Leads rs d d
+  pub whole : (d : ℕ) → member found d ≡ true → WholeIn rs d found
+  pub kept : (d : ℕ) → Leads rs d d → (member found d ≡ true) ⊎ (member left d ≡ true)
+  pub apart : (d : ℕ) → member left d ≡ true → member found d ≡ false
+
+pub record OnTheWay (rs : List ℕ) (s : Search) : Type 0 where
+  pub below : s .left < 2 ^ length rs
+  pub searching : Searching rs (s .left) (s .found)
+
+-- one step on, with less left
+pub record OneFound (rs : List ℕ) (left : ℕ) (r : Search) : Type 0 where
+  pub on : OnTheWay rs r
+  pub less : r .left < left

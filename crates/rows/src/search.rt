@@ -1,0 +1,210 @@
+// The circle search (01, "Claims and rows"; 02, request 3): which devices lead back to themselves, found with a few
+// words and the rows as they were lent. What leads nowhere is taken away; in what is left a walk along the rows comes
+// back to a device where it was, and that device and its mates, which it leads to and which lead to it, are found and
+// taken out.
+use board::EACH_DEVICE;
+use board::Set;
+ghost use mathlib.Core.Path.{_≡_};
+ghost use mathlib.Core.Bool.{true, cond};
+ghost use Prim.Native.Nat.{_<_};
+ghost use lib.ListN.{length};
+ghost use Rattle.model.specs.Board.{devices};
+ghost use Rattle.model.specs.Rows.{onward};
+ghost use Rattle.model.specs.Sets.{empty, member};
+ghost use Rattle.sets.specs.Both.{both};
+ghost use Rattle.rows.specs.Where.{onlyIf};
+ghost use Rattle.rows.specs.Search.{meet, inRows, leadInto, Trimmed, Walked, Reached, LeadTo, WholeIn, Mates};
+ghost use Rattle.rows.specs.Search.{OnTheWay, OneFound};
+
+// ---- one look at the rows
+
+// The devices that stand in a row. Every device that leads back is one of them.
+fn in_rows(rows: &[Set]) -> Set
+    requires { ⌜ length (now rows) ≡ devices ⌝ }
+    ensures { λ r. ⌜ r ≡ inRows (now (rows .entry)) ⌝ }
+{
+    let mut s = sets::NONE;
+    let mut d = EACH_DEVICE;
+    while 0 < d {
+        d -= 1;
+        s = sets::union(rows[d], s);
+    }
+    s
+}
+
+// The row of a device, if the set has the device.
+fn if_of(row: Set, s: Set, d: u32) -> Set
+    ensures { λ r. ⌜ r ≡ cond (member s d) row empty ⌝ }
+{
+    sets::choose(sets::member(s, d), row, sets::NONE)
+}
+
+// A device, if its row has a member of the set.
+fn if_into(row: Set, s: Set, d: u32) -> Set
+    requires { ⌜ d < devices ⌝ }
+    ensures { λ r. ⌜ r ≡ onlyIf (meet row s) d ⌝ }
+{
+    sets::choose(sets::both(row, s) != sets::NONE, sets::only(d), sets::NONE)
+}
+
+// The devices of `within` with a member of the set in their row. Rows below its lowest device are not looked at. How
+// many there are to look at is then not known beforehand, and that keeps the compiler from having all rows at hand, on
+// the stack, through the loops in which they are looked at again and again.
+fn lead_into(rows: &[Set], within: Set, s: Set) -> Set
+    requires { ⌜ length (now rows) ≡ devices ⌝ }
+    ensures { λ r. ⌜ r ≡ leadInto (now (rows .entry)) within s ⌝ }
+{
+    let low = sets::lowest(within) as usize;
+    let mut into = sets::NONE;
+    let mut d = EACH_DEVICE;
+    while low < d {
+        d -= 1;
+        let row = if_of(rows[d], within, d as u32);
+        into = sets::union(if_into(row, s, d as u32), into);
+    }
+    into
+}
+
+// The devices of the set that lead into it and stand in a row of it, by one look at its rows.
+fn between(rows: &[Set], s: Set) -> Set
+    requires { ⌜ length (now rows) ≡ devices ⌝ }
+    ensures { λ r. ⌜ r ≡ both (leadInto (now (rows .entry)) s s) (onward (now (rows .entry)) s) ⌝ }
+{
+    let low = sets::lowest(s) as usize;
+    let mut into = sets::NONE;
+    let mut onto = sets::NONE;
+    let mut d = EACH_DEVICE;
+    while low < d {
+        d -= 1;
+        let row = if_of(rows[d], s, d as u32);
+        into = sets::union(if_into(row, s, d as u32), into);
+        onto = sets::union(row, onto);
+    }
+    sets::both(into, onto)
+}
+
+// ---- taking away
+
+// What is left of the set when a device is taken away as long as it leads to none of those left, or none of those
+// leads to it.
+fn trim(rows: &[Set], left: Set) -> Set
+    requires { ⌜ length (now rows) ≡ devices ⌝ }
+    ensures { λ r. ⌜ Trimmed (now (rows .entry)) left r ⌝ }
+{
+    let mut stays = left;
+    let mut before = sets::NONE;
+    while (stays != before) & (stays != sets::NONE) {
+        before = stays;
+        stays = between(rows, stays);
+    }
+    stays
+}
+
+// ---- a walk
+
+// Where a walk ended, and the devices of those left that it did not pass.
+struct Ended {
+    at: u32,
+    rest: Set,
+}
+
+// From the lowest device that is left, always to the lowest that is left of the row: until a device comes again, or
+// the row has none of them.
+fn walk(rows: &[Set], left: Set) -> Ended
+    requires { ⌜ (length (now rows) ≡ devices) × (0 < left) ⌝ }
+    ensures { λ r. ⌜ Walked (now (rows .entry)) left r ⌝ }
+{
+    let mut at = sets::lowest(left);
+    let mut rest = left;
+    while sets::member(rest, at) {
+        rest = sets::without(rest, sets::only(at));
+        at = sets::lowest(sets::both(rows[at as usize], left));
+    }
+    Ended { at: at, rest: rest }
+}
+
+// ---- what a device leads to, and what leads to it
+
+// The device and those that it leads to by way of `within`, or so many of them that one is in `stop`.
+fn ahead(rows: &[Set], within: Set, stop: Set, from: u32) -> Set
+    requires { ⌜ (length (now rows) ≡ devices) × (from < devices) ⌝ }
+    ensures { λ r. ⌜ Reached (now (rows .entry)) within stop from r ⌝ }
+{
+    let mut reached = sets::only(from);
+    let mut done = sets::NONE;
+    while (reached != done) & (sets::both(reached, stop) == sets::NONE) {
+        let d = sets::lowest(sets::without(reached, done));
+        done = sets::union(sets::only(d), done);
+        reached = sets::union(sets::both(rows[d as usize], within), reached);
+    }
+    reached
+}
+
+// These devices and those of `within` that lead to them by way of it.
+fn behind(rows: &[Set], within: Set, these: Set) -> Set
+    requires { ⌜ length (now rows) ≡ devices ⌝ }
+    ensures { λ r. ⌜ LeadTo (now (rows .entry)) within these r ⌝ }
+{
+    let mut lead = these;
+    let mut before = sets::NONE;
+    while (lead != before) & (lead != within) {
+        before = lead;
+        lead = sets::union(lead_into(rows, sets::without(within, lead), lead), lead);
+    }
+    lead
+}
+
+// The mates of a device that a walk came back to. What the walk passed leads there, so where the device leads to
+// nothing else these are all; else what else leads there is looked for first, and then what of it the device leads to.
+fn mates(rows: &[Set], left: Set, walked: Ended) -> Set
+    requires { ⌜
+        (length (now rows) ≡ devices) × Walked (now rows) left walked × (member left (walked .at) ≡ true)
+        × WholeIn (now rows) (walked .at) left
+        ⌝ }
+    ensures { λ r. ⌜ Mates (now (rows .entry)) (walked .at) r ⌝ }
+{
+    let led = ahead(rows, left, walked.rest, walked.at);
+    if sets::both(led, walked.rest) == sets::NONE {
+        return led;
+    }
+    let lead = behind(rows, left, sets::without(left, walked.rest));
+    ahead(rows, lead, sets::NONE, walked.at)
+}
+
+// ---- the search
+
+// The devices that are still to be looked at, and those that are known to lead back.
+pub struct Search {
+    pub left: Set,
+    pub found: Set,
+}
+
+// With nothing found.
+pub fn begun(rows: &[Set]) -> Search
+    requires { ⌜ length (now rows) ≡ devices ⌝ }
+    ensures { λ r. ⌜ OnTheWay (now (rows .entry)) r ⌝ }
+{
+    Search {
+        left: trim(rows, in_rows(rows)),
+        found: sets::NONE,
+    }
+}
+
+// One walk more: what it came back to is found with its mates, or what leads nowhere is taken away.
+pub fn one_found(rows: &[Set], search: Search) -> Search
+    requires { ⌜ (length (now rows) ≡ devices) × (0 < search .left) × OnTheWay (now rows) search ⌝ }
+    ensures { λ r. ⌜ OneFound (now (rows .entry)) (search .left) r ⌝ }
+{
+    let walked = walk(rows, search.left);
+    if sets::member(search.left, walked.at) {
+        let found = mates(rows, search.left, walked);
+        return Search {
+            left: sets::without(search.left, found),
+            found: sets::union(found, search.found),
+        };
+    }
+    Search {
+        left: trim(rows, search.left),
+        found: search.found,
+    }
+}
