@@ -1,5 +1,6 @@
 /*
- * Measures how many bytes of stack each entry needs at most, and holds them to the bounds of gimmerskip.h.
+ * Measures how many bytes of stack each entry needs at most, and the circle search by itself, and holds them to the
+ * bounds of gimmerskip.h and of check-stack.
  *
  * An entry is run on a stack of its own that is painted first: every byte is set to one value. How deep the entry went
  * is seen by the lowest byte that has another value after it. Each call is made on two paints, since an entry may write
@@ -18,7 +19,10 @@
 
 enum { ROUNDS = 5000, LINES = GIMMERSKIP_MAX_LINES, BYTES = GIMMERSKIP_MAX_BYTES, DEVICES = 32, JOBS = 64 };
 enum kind { DO, TAKE, GIVE, START };
-enum entry { NOTHING, ORDER, LINE, READ, WRITE, TABLE, VERDICT, JUDGE, MOVE, ENTRIES };
+enum entry { NOTHING, ORDER, LINE, READ, WRITE, TABLE, VERDICT, JUDGE, MOVE, CIRCLES, ENTRIES };
+
+/* The circle search by itself: no entry of the library, and so in an archive of its own. */
+uint32_t bare_circles(const uint32_t rows[DEVICES]);
 
 /* What is known of an entry: its bound, the numbers by which it can refuse (bit k for k, bit 0 for no refusal), and
    what was seen: the most bytes, the numbers, and how many calls. */
@@ -39,6 +43,7 @@ static struct {
     [VERDICT] = {"verdict", GIMMERSKIP_STACK_VERDICT, 0xefd, 0, 0, 0},
     [JUDGE] = {"judge", GIMMERSKIP_STACK_JUDGE, 0x80fd, 0, 0, 0},
     [MOVE] = {"move", GIMMERSKIP_STACK_MOVE, 0x78fd, 0, 0, 0},
+    [CIRCLES] = {"circles", STACK_OF_CIRCLES, 0x1, 0, 0, 0},
 };
 
 /* One call: which entry, what it is lent, and what it answers. A list has one place more than is ever needed. */
@@ -90,6 +95,7 @@ static __attribute__((noinline)) void make_call(struct call *c) {
     case VERDICT: c->answer = gimmerskip_verdict(c->plan, c->n, out_order, c->room); break;
     case JUDGE: c->answer = gimmerskip_judge(c->plan, c->n, c->order, c->room); break;
     case MOVE: c->answer = gimmerskip_move(c->plan, c->n, c->sets, c->room, c->line, c->device); break;
+    case CIRCLES: c->answer = bare_circles(c->sets); break;
     default: c->answer = nothing(); break;
     }
 }
@@ -404,6 +410,41 @@ static void keep(struct list *l, uint32_t devices, uint32_t step, uint32_t turn)
     }
 }
 
+/* Rows of every density, from all bits to few. */
+static void fill_rows(uint32_t rows[DEVICES], uint32_t thinner) {
+    for (uint32_t d = 0; d < DEVICES; d++) {
+        rows[d] = UINT32_MAX;
+        for (uint32_t k = 0; k < thinner; k++)
+            rows[d] &= below(UINT32_MAX);
+    }
+}
+
+/* Rows of rings of so many devices, each leading into the next if they are linked, under numbers that jump. */
+static void ring_rows(uint32_t rows[DEVICES], uint32_t length, uint32_t jump, int linked) {
+    for (uint32_t d = 0; d < DEVICES; d++) {
+        uint32_t first = d - d % length;
+        uint32_t next = d + 1 - first == length || d + 1 == DEVICES ? first : d + 1;
+        rows[d * jump % DEVICES] = (uint32_t)1 << next * jump % DEVICES;
+        if (linked && d + 1 < DEVICES)
+            rows[d * jump % DEVICES] |= (uint32_t)1 << (d + 1) * jump % DEVICES;
+    }
+}
+
+/* The circle search by itself, on any rows. */
+static void try_rows(void) {
+    static uint32_t rows[DEVICES];
+    const struct call c = {.which = CIRCLES, .sets = rows};
+    for (uint32_t round = 0; round < ROUNDS; round++) {
+        fill_rows(rows, round % 8);
+        measure(c);
+        ring_rows(rows, 1 + below(DEVICES), 1 + 2 * below(DEVICES / 2), round % 2);
+        measure(c);
+        for (uint32_t d = 0; d < DEVICES; d++)
+            rows[d] &= ~((uint32_t)1 << below(DEVICES));
+        measure(c);
+    }
+}
+
 static struct growth tried;
 
 /* Plans up to the limits. */
@@ -525,6 +566,7 @@ int main(void) {
     at_random();
     long_texts();
     random_texts();
+    try_rows();
     for (int e = NOTHING; e < ENTRIES; e++)
         failed += report((enum entry)e);
     printf("%d passed, %d failed\n", 3 * ENTRIES - failed, failed);

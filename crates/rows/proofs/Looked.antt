@@ -1,7 +1,7 @@
 -- One look at the rows (02, request 3): what a device adds to the devices that lead into a set and to those that a
 -- set's devices lead to, and the members of both. Over any number of devices, as many as there are rows.
 use Prim.Native.Nat.{ℕ, _^_, _<_, _≤_}
-use mathlib.Core.Bool.{true, false, not}
+use mathlib.Core.Bool.{true, false, cond, not}
 use mathlib.Core.List.{List}
 use mathlib.Core.Logic.{_⊎_, inl, inr}
 use mathlib.Core.Path.{_≡_, sym, _∙_, ap}
@@ -18,11 +18,12 @@ use Rattle.theory.proofs.Tests.{clash, test, and-split, and-both, le-or-lt}
 use Rattle.theory.proofs.Lists.{upFrom-has}
 use Rattle.theory.proofs.Sets.{member-empty, member-past, unionOf-in, empty-below, same-members}
 use Rattle.theory.proofs.Rows.{row-below}
+use Rattle.sets.specs.Only.{onlyOf}
 use Rattle.sets.specs.Both.{both}
-use Rattle.sets.proofs.Members.{Lowest, found, nothing, lowest, member-both}
+use Rattle.sets.proofs.Members.{Lowest, found, nothing, lowest, member-both, member-asked}
 use Rattle.rows.specs.Where.{onlyIf, devicesWhere}
 use Rattle.rows.specs.Search.{meet, rowAt, inRows, rowIn, leadInto}
-use Rattle.rows.proofs.Where.{member-where, where-below, joinedFrom, joined-whole}
+use Rattle.rows.proofs.Where.{member-where, where-below, one-where, joinedFrom, joined-whole}
 
 -- a device of a set, where its row has a member of s
 abbrev pub intoAt : List ℕ → ℕ → ℕ → ℕ → ℕ
@@ -69,6 +70,11 @@ meeting D s t h m =
     let r = some-device D (both s t) (both-within D s t h) (omega arith) in
     let q = in-both s t (r .0) (r .1) in (r .0, q .0, q .1)
 
+-- the set of one device meets those that have it
+meet-only : (D s d : ℕ) → s < 2 ^ D → meet s (onlyOf D d) ≡ member s d
+unfolding meet
+meet-only D s d h = member-asked D true s d h
+
 -- ---- members
 
 -- below its lowest a set has no device
@@ -95,6 +101,16 @@ module _ (rs : List ℕ) where
   no-into : (within s d : ℕ) → member within d ≡ false → intoAt rs within s d ≡ empty
   unfolding meet empty both onlyIf
   no-into within s d m = rw (no-row within d m, and-zero-l s)
+
+  -- as the code makes it of the set of the device alone
+  pub row-chosen : (D within d : ℕ) → within < 2 ^ D
+      → cond (meet within (onlyOf D d)) (rowAt rs d) empty ≡ rowIn rs within d
+  unfolding rowIn
+  row-chosen D within d h = rw (meet-only D within d h)
+
+  pub into-chosen : (D within s d : ℕ) → d < D → (row : ℕ) → row ≡ rowIn rs within d
+      → cond (meet row s) (onlyOf D d) empty ≡ intoAt rs within s d
+  into-chosen D within s d h row e = rw e (one-where D d (meet (rowIn rs within d) s) h)
 
   -- so that a look may end at the lowest device of the set
   module _ (D d within : ℕ) (n : length rs ≡ D) (h : d ≤ D) (k : d ≤ lowestOf D within) where

@@ -6,17 +6,27 @@ use board::EACH_DEVICE;
 use board::Set;
 ghost use mathlib.Core.Path.{_≡_};
 ghost use mathlib.Core.Bool.{true, cond};
-ghost use Prim.Native.Nat.{_<_};
+ghost use Prim.Native.Nat.{_<_, _≤_};
 ghost use lib.ListN.{length};
 ghost use Rattle.model.specs.Board.{devices};
 ghost use Rattle.model.specs.Rows.{onward};
-ghost use Rattle.model.specs.Sets.{empty, member};
+ghost use Rattle.model.specs.Sets.{empty, member, lowestOf};
 ghost use Rattle.sets.specs.Both.{both};
-ghost use Rattle.rows.specs.Where.{onlyIf};
 ghost use Rattle.rows.specs.Search.{meet, inRows, leadInto, Trimmed, Walked, Reached, LeadTo, WholeIn, Mates};
 ghost use Rattle.rows.specs.Search.{OnTheWay, OneFound};
 
 // ---- one look at the rows
+
+// So many rows are looked at together.
+const BLOCK: usize = 8;
+
+// Where a look at the rows of a set's devices ends, going down: at its lowest device or, for whole blocks, up to seven
+// before it.
+fn first_looked_at(s: Set) -> usize
+    ensures { λ r. ⌜ r ≤ lowestOf devices s ⌝ }
+{
+    sets::lowest(s) as usize / BLOCK * BLOCK
+}
 
 // The devices that stand in a row. Every device that leads back is one of them.
 fn in_rows(rows: &[Set]) -> Set
@@ -32,35 +42,34 @@ fn in_rows(rows: &[Set]) -> Set
     s
 }
 
-// The row of a device, if the set has the device.
-fn if_of(row: Set, s: Set, d: u32) -> Set
-    ensures { λ r. ⌜ r ≡ cond (member s d) row empty ⌝ }
+// The row of a device, if the set has the device. The device is given as the set of it alone, which both choices below
+// need.
+fn if_of(row: Set, s: Set, one: Set) -> Set
+    ensures { λ r. ⌜ r ≡ cond (meet s one) row empty ⌝ }
 {
-    sets::choose(sets::member(s, d), row, sets::NONE)
+    sets::choose(sets::both(s, one) != sets::NONE, row, sets::NONE)
 }
 
-// A device, if its row has a member of the set.
-fn if_into(row: Set, s: Set, d: u32) -> Set
-    requires { ⌜ d < devices ⌝ }
-    ensures { λ r. ⌜ r ≡ onlyIf (meet row s) d ⌝ }
+// The device, if its row has a member of the set.
+fn if_into(row: Set, s: Set, one: Set) -> Set
+    ensures { λ r. ⌜ r ≡ cond (meet row s) one empty ⌝ }
 {
-    sets::choose(sets::both(row, s) != sets::NONE, sets::only(d), sets::NONE)
+    sets::choose(sets::both(row, s) != sets::NONE, one, sets::NONE)
 }
 
-// The devices of `within` with a member of the set in their row. Rows below its lowest device are not looked at. How
-// many there are to look at is then not known beforehand, and that keeps the compiler from having all rows at hand, on
-// the stack, through the loops in which they are looked at again and again.
+// The devices of `within` with a member of the set in their row.
 fn lead_into(rows: &[Set], within: Set, s: Set) -> Set
     requires { ⌜ length (now rows) ≡ devices ⌝ }
     ensures { λ r. ⌜ r ≡ leadInto (now (rows .entry)) within s ⌝ }
 {
-    let low = sets::lowest(within) as usize;
+    let low = first_looked_at(within);
     let mut into = sets::NONE;
     let mut d = EACH_DEVICE;
     while low < d {
         d -= 1;
-        let row = if_of(rows[d], within, d as u32);
-        into = sets::union(if_into(row, s, d as u32), into);
+        let one = sets::only(d as u32);
+        let row = if_of(rows[d], within, one);
+        into = sets::union(if_into(row, s, one), into);
     }
     into
 }
@@ -70,14 +79,15 @@ fn between(rows: &[Set], s: Set) -> Set
     requires { ⌜ length (now rows) ≡ devices ⌝ }
     ensures { λ r. ⌜ r ≡ both (leadInto (now (rows .entry)) s s) (onward (now (rows .entry)) s) ⌝ }
 {
-    let low = sets::lowest(s) as usize;
+    let low = first_looked_at(s);
     let mut into = sets::NONE;
     let mut onto = sets::NONE;
     let mut d = EACH_DEVICE;
     while low < d {
         d -= 1;
-        let row = if_of(rows[d], s, d as u32);
-        into = sets::union(if_into(row, s, d as u32), into);
+        let one = sets::only(d as u32);
+        let row = if_of(rows[d], s, one);
+        into = sets::union(if_into(row, s, one), into);
         onto = sets::union(row, onto);
     }
     sets::both(into, onto)

@@ -1,15 +1,15 @@
 -- `rows::search::between` meets its contract: each of the two sets so far is that from device d on.
-use Prim.Native.Nat.{ℕ, _≤_, _<_}
+use Prim.Native.Nat.{ℕ, _-_, _≤_, _<_}
+use mathlib.Core.Bool.{cond}
 use mathlib.Core.Path.{_≡_, _∙_, ap}
 use native.Mathlib.Omega.{arith}
 use borrow.Author.Needs.{needs}
 use Rattle.model.specs.Board.{devices}
 use Rattle.model.specs.Sets.{empty, union, lowestOf}
 use Rattle.sets.specs.Both.{both}
-use Rattle.sets.proofs.Members.{lowest-at-most}
-use Rattle.rows.specs.Search.{rowIn, leadInto}
+use Rattle.rows.specs.Search.{meet, rowAt, rowIn, leadInto}
 use Rattle.rows.proofs.Where.{joinedFrom, joined-begins, joined-grows}
-use Rattle.rows.proofs.Looked.{intoAt, into-whole, onward-whole}
+use Rattle.rows.proofs.Looked.{intoAt, row-chosen, into-chosen, into-whole, onward-whole}
 use Rattle.rows.proofs.search.between.Statement.{statement}
 use Rattle.rows.proofs.search.between.Tie as tie
 
@@ -20,9 +20,6 @@ Inv-loop rows s low into₀ onto₀ d₀ into onto d =
 abbrev μ-loop : tie.MeasureT-loop
 μ-loop rows s low into₀ onto₀ d₀ into onto d = d
 
-cast-low : tie.Need-cast-low Inv-loop μ-loop
-cast-low c = omega (arith, c .lowest .ensures, lowest-at-most devices (c .before .before .args .s))
-
 loop-holds : tie.Need-loop-holds Inv-loop μ-loop
 unfolding empty
 loop-holds c =
@@ -32,20 +29,36 @@ loop-holds c =
       joined-begins devices _ (rowIn (a .rows .now) (a .s)) (omega arith),
     )
 
+-- where a row is chosen
+abbrev start : tie.After-if-of Inv-loop μ-loop → tie.Start Inv-loop μ-loop
+start c = c .before .before .before .before .before .before .before
+
+row-is : (c : tie.After-if-of Inv-loop μ-loop)
+    → c .if-of .result
+    ≡ rowIn (start c .args .rows .now) (start c .args .s) (c .before .before .before .before .loop .d - 1)
+row-is c =
+    let a = start c .args in
+    let d = c .before .before .before .before .loop .d - 1 in
+    c .if-of .ensures
+    ∙ ap (λ (x : ℕ). cond (meet (a .s) x) (rowAt (a .rows .now) d) empty) (c .before .before .only .ensures)
+    ∙ row-chosen (a .rows .now) devices (a .s) d (start c .fits .s .fits)
+
 loop-again : tie.Need-loop-again Inv-loop μ-loop
-unfolding rowIn
 loop-again c =
     let at-of = c .before .before .before in
-    let at-loop = at-of .before .before .before in
-    let l = at-loop .loop in
-    let a = at-loop .before .before .before .args in (
+    let l = at-of .before .before .before .before .loop in
+    let a = start at-of .args in (
       omega arith,
       c .before .union .ensures
-          ∙ ap (λ (x : ℕ). union x (l .into)) (c .before .before .if-into .ensures ∙ rw (at-of .if-of .ensures))
+          ∙ ap (λ (x : ℕ). union x (l .into))
+          (c .before .before .if-into .ensures
+          ∙ ap (λ (x : ℕ). cond (meet (at-of .if-of .result) (a .s)) x empty) (at-of .before .before .only .ensures)
+          ∙ into-chosen (a .rows .now) devices (a .s) (a .s) (l .d - 1) (omega arith) (at-of .if-of .result)
+          (row-is at-of))
           ∙ joined-grows devices (l .d) (intoAt (a .rows .now) (a .s) (a .s)) (l .into) (omega arith) (l .inv .0)
           (l .inv .1),
       c .union2 .ensures
-          ∙ ap (λ (x : ℕ). union x (l .onto)) (at-of .if-of .ensures)
+          ∙ ap (λ (x : ℕ). union x (l .onto)) (row-is at-of)
           ∙ joined-grows devices (l .d) (rowIn (a .rows .now) (a .s)) (l .onto) (omega arith) (l .inv .0) (l .inv .2),
     )
 
@@ -56,7 +69,7 @@ returns c =
     let rs = start .args .rows .now in
     let s = start .args .s in
     let low : l .d ≤ lowestOf devices s =
-    omega (arith, c .before .loop-test .left, c .before .before .before .lowest .ensures) in
+    omega (arith, c .before .loop-test .left, c .before .before .before .first-looked-at .ensures) in
     c .both .ensures
     ∙ ap (λ (x : ℕ). both x (l .onto)) (l .inv .1 ∙ into-whole rs devices (l .d) s (start .pre) (l .inv .0) low s)
     ∙ ap (both (leadInto rs s s)) (l .inv .2 ∙ onward-whole rs devices (l .d) s (start .pre) (l .inv .0) low)
@@ -64,6 +77,6 @@ returns c =
 pub between-spec : {M : Type 1} → statement M
 between-spec =
     tie.close
-    (tie.spec Inv-loop μ-loop (λ c κs. search needs) cast-low loop-holds (λ c. search needs) (λ c. search needs)
-    (λ c. search needs) (λ c. omega arith) (λ c κs. search needs) (λ c. omega arith) (λ c κs. omega arith)
+    (tie.spec Inv-loop μ-loop (λ c κs. search needs) loop-holds (λ c. search needs) (λ c. omega arith)
+    (λ c κs. search needs) (λ c. search needs) (λ c. search needs) (λ c κs. search needs) (λ c κs. search needs)
     (λ c κs. search needs) (λ c κs. search needs) (λ c. search needs) loop-again (λ c κs. search needs) returns)

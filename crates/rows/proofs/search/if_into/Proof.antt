@@ -1,21 +1,14 @@
 -- `rows::search::if_into` meets its contract: the sets meet where something is in both.
 use mathlib.Core.Path.{_∙_}
 use borrow.Author.Needs.{needs}
-use Rattle.model.specs.Board.{devices}
 use Rattle.model.specs.Sets.{empty}
 use Rattle.rows.specs.Search.{meet}
-use Rattle.rows.proofs.Where.{one-where}
 use Rattle.rows.proofs.search.if_into.Statement.{statement}
 use Rattle.rows.proofs.search.if_into.Tie as tie
 
 returns : tie.Need-returns
 unfolding empty meet
-returns c =
-    let start = c .before .before .before in
-    let a = start .args in
-    c .choose .ensures
-    ∙ rw (c .before .before .both .ensures, c .before .only .ensures)
-    (one-where devices (a .d) (meet (a .row) (a .s)) (start .pre))
+returns c = c .choose .ensures ∙ rw (c .before .both .ensures)
 
 pub if-into-spec : {M : Type 1} → statement M
-if-into-spec = tie.close (tie.spec (λ c κs. search needs) (λ c κs. search needs) (λ c κs. search needs) returns)
+if-into-spec = tie.close (tie.spec (λ c κs. search needs) (λ c κs. search needs) returns)

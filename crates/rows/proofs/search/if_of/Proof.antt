@@ -1,13 +1,14 @@
--- `rows::search::if_of` meets its contract: what is chosen.
+-- `rows::search::if_of` meets its contract: a set has the device if the two sets meet.
 use mathlib.Core.Path.{_∙_}
 use borrow.Author.Needs.{needs}
 use Rattle.model.specs.Sets.{empty}
+use Rattle.rows.specs.Search.{meet}
 use Rattle.rows.proofs.search.if_of.Statement.{statement}
 use Rattle.rows.proofs.search.if_of.Tie as tie
 
 returns : tie.Need-returns
-unfolding empty
-returns c = c .choose .ensures ∙ rw (c .before .member .ensures)
+unfolding empty meet
+returns c = c .choose .ensures ∙ rw (c .before .both .ensures)
 
 pub if-of-spec : {M : Type 1} → statement M
 if-of-spec = tie.close (tie.spec (λ c κs. search needs) (λ c κs. search needs) returns)

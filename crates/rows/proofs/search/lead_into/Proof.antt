@@ -1,14 +1,14 @@
 -- `rows::search::lead_into` meets its contract: the set so far has what leads into the other from device d on.
-use Prim.Native.Nat.{ℕ, _≤_, _<_}
+use Prim.Native.Nat.{ℕ, _-_, _≤_, _<_}
+use mathlib.Core.Bool.{cond}
 use mathlib.Core.Path.{_≡_, _∙_, ap}
 use native.Mathlib.Omega.{arith}
 use borrow.Author.Needs.{needs}
 use Rattle.model.specs.Board.{devices}
 use Rattle.model.specs.Sets.{empty, union}
-use Rattle.sets.proofs.Members.{lowest-at-most}
-use Rattle.rows.specs.Search.{rowIn}
+use Rattle.rows.specs.Search.{meet, rowAt, rowIn}
 use Rattle.rows.proofs.Where.{joinedFrom, joined-begins, joined-grows}
-use Rattle.rows.proofs.Looked.{intoAt, into-whole}
+use Rattle.rows.proofs.Looked.{intoAt, row-chosen, into-chosen, into-whole}
 use Rattle.rows.proofs.search.lead_into.Statement.{statement}
 use Rattle.rows.proofs.search.lead_into.Tie as tie
 
@@ -18,25 +18,38 @@ Inv-loop rows within s low into₀ d₀ into d = (d ≤ devices) × (into ≡ jo
 abbrev μ-loop : tie.MeasureT-loop
 μ-loop rows within s low into₀ d₀ into d = d
 
-cast-low : tie.Need-cast-low Inv-loop μ-loop
-cast-low c = omega (arith, c .lowest .ensures, lowest-at-most devices (c .before .before .args .within))
-
 loop-holds : tie.Need-loop-holds Inv-loop μ-loop
 unfolding empty
 loop-holds c =
     let a = c .before .before .args in
     (search needs, joined-begins devices _ (intoAt (a .rows .now) (a .within) (a .s)) (omega arith))
 
+-- where a row is chosen
+abbrev start : tie.After-if-of Inv-loop μ-loop → tie.Start Inv-loop μ-loop
+start c = c .before .before .before .before .before .before .before
+
+row-is : (c : tie.After-if-of Inv-loop μ-loop)
+    → c .if-of .result
+    ≡ rowIn (start c .args .rows .now) (start c .args .within) (c .before .before .before .before .loop .d - 1)
+row-is c =
+    let a = start c .args in
+    let d = c .before .before .before .before .loop .d - 1 in
+    c .if-of .ensures
+    ∙ ap (λ (x : ℕ). cond (meet (a .within) x) (rowAt (a .rows .now) d) empty) (c .before .before .only .ensures)
+    ∙ row-chosen (a .rows .now) devices (a .within) d (start c .fits .within .fits)
+
 loop-again : tie.Need-loop-again Inv-loop μ-loop
-unfolding rowIn
 loop-again c =
-    let at-loop = c .before .before .before .before .before in
-    let l = at-loop .loop in
-    let a = at-loop .before .before .before .args in (
+    let at-of = c .before .before in
+    let l = at-of .before .before .before .before .loop in
+    let a = start at-of .args in (
       omega arith,
       c .union .ensures
-          ∙ ap (λ (x : ℕ). union x (l .into)) (c .before .if-into .ensures
-          ∙ rw (c .before .before .if-of .ensures))
+          ∙ ap (λ (x : ℕ). union x (l .into))
+          (c .before .if-into .ensures
+          ∙ ap (λ (x : ℕ). cond (meet (at-of .if-of .result) (a .s)) x empty) (at-of .before .before .only .ensures)
+          ∙ into-chosen (a .rows .now) devices (a .within) (a .s) (l .d - 1) (omega arith) (at-of .if-of .result)
+          (row-is at-of))
           ∙ joined-grows devices (l .d) (intoAt (a .rows .now) (a .within) (a .s)) (l .into) (omega arith) (l .inv .0)
           (l .inv .1),
     )
@@ -48,11 +61,11 @@ returns c =
     let a = start .args in
     l .inv .1
     ∙ into-whole (a .rows .now) devices (l .d) (a .within) (start .pre) (l .inv .0)
-    (omega (arith, c .loop-test .left, c .before .before .lowest .ensures)) (a .s)
+    (omega (arith, c .loop-test .left, c .before .before .first-looked-at .ensures)) (a .s)
 
 pub lead-into-spec : {M : Type 1} → statement M
 lead-into-spec =
     tie.close
-    (tie.spec Inv-loop μ-loop (λ c κs. search needs) cast-low loop-holds (λ c. search needs) (λ c. search needs)
-    (λ c. search needs) (λ c. omega arith) (λ c κs. search needs) (λ c. omega arith) (λ c κs. omega arith)
+    (tie.spec Inv-loop μ-loop (λ c κs. search needs) loop-holds (λ c. search needs) (λ c. omega arith)
+    (λ c κs. search needs) (λ c. search needs) (λ c. search needs) (λ c κs. search needs) (λ c κs. search needs)
     (λ c κs. search needs) (λ c. search needs) loop-again returns)
