@@ -2,7 +2,8 @@
 //!
 //! Each takes what the library's entry of that name takes, tests the same cases in the same order, and answers with
 //! the same 64-bit number. A refusal leaves every lent list as it was. Sets of devices and of jobs are words, working
-//! space is local arrays of fixed size; there is no heap, no hashing and no unsafe code.
+//! space is local arrays of fixed size; there is no heap, no hashing and no unsafe code. The circle search, which is no
+//! entry, can be called by itself too.
 
 mod claims;
 mod judge;
@@ -15,7 +16,7 @@ pub use claims::table;
 pub use judge::judge;
 pub use moving::move_claim;
 pub use text::{read, write};
-pub use verdict::verdict;
+pub use verdict::{circles, verdict};
 
 /// The most lines of a plan.
 const LINES: usize = 1_024;

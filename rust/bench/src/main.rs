@@ -4,17 +4,20 @@
 //! from the environment variable SEED, the number of rounds from ROUNDS; without them fixed ones are used.
 
 mod again;
+mod circles;
 mod damaged;
 mod inputs;
 mod report;
 mod sides;
+mod times;
 
+use circles::Circles;
 use inputs::{Inputs, Which};
 use report::{Figures, Report};
 use second::random::Random;
 use sides::{Entry, Lent, FAST, OURS};
 use std::process::ExitCode;
-use std::time::Duration;
+use times::{in_turn, Pair};
 
 const SEED: u64 = 20_260_418;
 const ROUNDS: usize = 301;
@@ -36,19 +39,14 @@ fn asked<T: std::str::FromStr>(name: &str, otherwise: T) -> T {
     std::env::var(name).ok().and_then(|value| value.parse().ok()).unwrap_or(otherwise)
 }
 
-/// The times of the two sides in one round.
-type Pair = (Duration, Duration);
-
 /// One round of both sides on one entry at one size, with the answers that both gave.
 fn round(entry: Entry, inputs: &Inputs, ours_first: bool) -> Result<(Pair, Vec<u64>), String> {
     let (mut ours, mut fast) = (Lent::new(inputs, entry), Lent::new(inputs, entry));
-    let times = if ours_first {
-        let time = OURS.run(entry, inputs, &mut ours);
-        (time, FAST.run(entry, inputs, &mut fast))
-    } else {
-        let time = FAST.run(entry, inputs, &mut fast);
-        (OURS.run(entry, inputs, &mut ours), time)
-    };
+    let times = in_turn(
+        ours_first,
+        || OURS.run(entry, inputs, &mut ours),
+        || FAST.run(entry, inputs, &mut fast),
+    );
     if ours.answers != fast.answers {
         return Err(format!("{entry}, {} lines: the answers differ", inputs.lines));
     }
@@ -84,6 +82,8 @@ fn run(seed: u64, rounds: usize) -> Result<Report, String> {
     for entry in ENTRIES {
         report.figures.push(measure(entry, &sizes, rounds)?);
     }
+    // Rows have a generator of their own, so that the plans do not hang on them.
+    report.circles = Circles::measure(&mut Random::new(seed), rounds)?;
     Ok(report)
 }
 

@@ -1,18 +1,19 @@
-//! What is printed, in Markdown: the machine, the inputs, the times and ratios, and the growth.
+//! What is printed, in Markdown: the machine, the inputs, the times and ratios, and the growth. The table of the circle
+//! search stands in `circles.rs`.
 
+use crate::circles::Circles;
 use crate::damaged::{Counts, TRIED};
 use crate::inputs::{Inputs, Make, MOVES};
 use crate::sides::Entry;
+use crate::times::{ratio, Pair, Times};
 use std::collections::BTreeMap;
 use std::process::Command;
-use std::time::Duration;
 
-/// What one entry took at one size: nanoseconds a call, of both sides, round by round.
+/// What one entry took at one size.
 pub struct OfSize {
     lines: usize,
     again: bool,
-    ours: Vec<f64>,
-    fast: Vec<f64>,
+    times: Times,
     /// The answers of the last round.
     answers: Vec<u64>,
 }
@@ -23,21 +24,9 @@ pub struct Figures {
     pub sizes: Vec<OfSize>,
 }
 
-fn median(mut values: Vec<f64>) -> f64 {
-    values.sort_by(f64::total_cmp);
-    values[values.len() / 2]
-}
-
-/// The median of the ratios, round by round.
-fn ratio(above: &[f64], below: &[f64]) -> f64 {
-    median(above.iter().zip(below).map(|(above, below)| above / below).collect())
-}
-
 impl OfSize {
-    pub fn add(&mut self, pair: (Duration, Duration), answers: Vec<u64>, calls: usize) {
-        let nanos = |time: Duration| time.as_nanos() as f64 / calls as f64;
-        self.ours.push(nanos(pair.0));
-        self.fast.push(nanos(pair.1));
+    pub fn add(&mut self, pair: Pair, answers: Vec<u64>, calls: usize) {
+        self.times.add(pair, calls);
         self.answers = answers;
     }
 }
@@ -47,8 +36,7 @@ impl Figures {
         let of_size = |inputs: &Inputs| OfSize {
             lines: inputs.lines,
             again: inputs.again,
-            ours: Vec::new(),
-            fast: Vec::new(),
+            times: Times::default(),
             answers: Vec::new(),
         };
         Figures { entry, sizes: sizes.iter().map(of_size).collect() }
@@ -77,6 +65,7 @@ pub struct Report {
     pub tried: Counts,
     pub makes: Vec<(usize, Make)>,
     pub figures: Vec<Figures>,
+    pub circles: Circles,
 }
 
 impl Report {
@@ -92,15 +81,13 @@ impl Report {
             "\n| entry | lines | taken again | ours, ns | fast, ns | ours/fast |\n|---|---:|---|---:|---:|---:|"
         );
         for Figures { entry, sizes } in &self.figures {
-            for OfSize { lines, again, ours, fast, .. } in sizes {
-                let ratio = ratio(ours, fast);
-                let (again, ours, fast) =
-                    (share(*again), median(ours.clone()), median(fast.clone()));
-                println!("| {entry} | {lines} | {again} | {ours:.0} | {fast:.0} | {ratio:.2} |");
+            for OfSize { lines, again, times, .. } in sizes {
+                println!("| {entry} | {lines} | {} | {} |", share(*again), times.cells(0));
             }
         }
         self.print_growth();
         self.print_moves();
+        self.circles.print();
         println!("\nAnswers and lists were compared in every round: no difference.");
         self.print_tried();
     }
@@ -122,8 +109,8 @@ impl Report {
         for Figures { entry, sizes } in &self.figures {
             let mut alike = sizes.iter().filter(|of| of.again);
             if let (Some(small), Some(large)) = (alike.next(), alike.next_back()) {
-                let (ours, fast) =
-                    (ratio(&large.ours, &small.ours), ratio(&large.fast, &small.fast));
+                let ours = ratio(&large.times.ours, &small.times.ours);
+                let fast = ratio(&large.times.fast, &small.times.fast);
                 let (from, to) = (small.lines, large.lines);
                 println!("| {entry} | {from} to {to} | {ours:.2} | {fast:.2} |");
             }

@@ -2,6 +2,7 @@
 //! are those of "The plan as text" of document 01.
 
 use second::damage::spelt;
+use second::plain::{members, Rows};
 use second::tally::Input;
 
 /// What was given.
@@ -14,6 +15,8 @@ pub enum Asked<'a> {
     Move { plan: &'a [u32], sets: &'a [u32], line: u32, device: u32 },
     /// A packed plan, and an order from elsewhere.
     Order { plan: &'a [u32], order: &'a [u16] },
+    /// Rows, one a device.
+    Rows { rows: &'a Rows },
     /// A text on the program's standard input, in so many pieces.
     Fed { text: &'a [u8], pieces: usize },
     /// The program with a standard input or output that does not work.
@@ -26,7 +29,8 @@ impl Asked<'_> {
         match self {
             Asked::Text { room, .. } | Asked::Packed { room, .. } => *room,
             Asked::Move { sets, .. } => sets.len(),
-            Asked::Order { .. } | Asked::Fed { .. } | Asked::Streams { .. } => 0,
+            Asked::Order { .. } | Asked::Rows { .. } => 0,
+            Asked::Fed { .. } | Asked::Streams { .. } => 0,
         }
     }
 }
@@ -42,6 +46,16 @@ fn told_plan(plan: &[u32]) -> String {
     format!("packed plan of {} numbers: {plan:?}\n{lines}", plan.len())
 }
 
+/// Rows, as numbers and member by member.
+fn told_rows(rows: &Rows) -> String {
+    let mut told = format!("rows: {rows:?}\n");
+    for (device, &row) in rows.iter().enumerate().filter(|(_, &row)| row != 0) {
+        let to: Vec<String> = members(row).map(|member| member.to_string()).collect();
+        told += &format!("device {device} leads to {}\n", to.join(", "));
+    }
+    told
+}
+
 impl Input for Asked<'_> {
     fn told(&self) -> String {
         match self {
@@ -54,6 +68,7 @@ impl Input for Asked<'_> {
             Asked::Order { plan, order } => {
                 format!("{}order of {} entries: {order:?}\n", told_plan(plan), order.len())
             }
+            Asked::Rows { rows } => told_rows(rows),
             Asked::Fed { text, pieces } => format!("{}in {pieces} pieces\n", told_text(text)),
             Asked::Streams { what } => format!("{what}\n"),
         }

@@ -12,6 +12,7 @@
 
 mod asked;
 mod bytes;
+mod circles;
 mod entries;
 mod judge_texts;
 mod judging;
@@ -66,6 +67,8 @@ fn main() -> ExitCode {
             part(&mut run, "the program judge", |run| judge_texts::processes(run, &judge));
         }
         part(&mut run, "the wrapper", wrapper::wrapper);
+        part(&mut run, "the circle search by itself", circles::by_itself);
+        part(&mut run, "the circle search through the verdict", circles::through_verdict);
         println!();
         run.tally.print()
     })

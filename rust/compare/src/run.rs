@@ -1,9 +1,10 @@
 //! The state of a run, and the classes of calls and plans that it has to meet. The classes are the
 //! numbers of "Refusal numbers" of document 01 without 8, and 15 of document 02, entry by entry, the
 //! shapes of plans on which "Claims and rows" and "The order handed out" turn, the sentences of "Legal
-//! orders", and the shapes of plans, moves and tables on which request 2 of document 02 turns.
+//! orders", the shapes of plans, moves and tables on which request 2 of document 02 turns, and those of
+//! rows on which request 3 does.
 
-use crate::{judging, small, wrapper};
+use crate::{circles, judging, small, wrapper};
 use second::random::Random;
 use second::tally::{Tally, LEAST};
 use second::{shapes, Refusal};
@@ -110,5 +111,6 @@ fn classes() -> Vec<(String, u64)> {
     classes.extend(judging::CLASSES.map(|class| (format!("judge: {class}"), LEAST)));
     classes.push(small::all_class());
     classes.extend(wrapper::classes());
+    classes.extend(circles::classes());
     classes
 }

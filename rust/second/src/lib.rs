@@ -12,7 +12,8 @@
 //! [`judge`], which do not call each other either; the run `readings` is the only place where their
 //! answers meet. [`random`] makes the plans for it, [`damage`] spoils them, [`small`] brings every
 //! small one, [`listed`] those of document 01 with their answers, [`elsewhere`] makes and spoils
-//! orders, [`shapes`] tells what a plan takes again, and [`tally`] counts what was seen.
+//! orders, [`leading`] makes rows, [`planted`] plans that have given rows, [`shapes`] tells what a
+//! plan takes again, and [`tally`] counts what was seen.
 
 #![forbid(unsafe_code)]
 #![warn(missing_docs)]
@@ -20,10 +21,12 @@
 pub mod damage;
 pub mod elsewhere;
 pub mod judge;
+pub mod leading;
 pub mod line;
 pub mod listed;
 pub mod orders;
 pub mod plain;
+pub mod planted;
 pub mod random;
 pub mod read;
 pub mod shapes;

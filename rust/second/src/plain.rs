@@ -25,9 +25,14 @@ fn only(device: u8) -> u32 {
     1 << device
 }
 
+/// The devices of a set, lowest first.
+pub fn members(set: u32) -> impl Iterator<Item = u32> {
+    (0..DEVICES).filter(move |device| set >> device & 1 == 1)
+}
+
 /// The lowest device of a set.
-fn lowest(set: u32) -> Option<u32> {
-    (0..DEVICES).find(|device| set >> device & 1 == 1)
+pub fn lowest(set: u32) -> Option<u32> {
+    members(set).next()
 }
 
 /// Where a job begins. The rules give every started job a line.
@@ -136,8 +141,7 @@ pub fn rows(plan: &[Line]) -> Rows {
 
 /// The devices that lie one step further on than those of the set.
 fn one_further(rows: &Rows, set: u32) -> u32 {
-    let members = (0..DEVICES).filter(|device| set >> device & 1 == 1);
-    members.fold(0, |far, device| far | rows[device as usize])
+    members(set).fold(0, |far, device| far | rows[device as usize])
 }
 
 /// The fewest steps, one or more, in which the device leads back to itself.
@@ -151,6 +155,12 @@ pub fn circle(rows: &Rows, device: u32) -> Option<u32> {
     }
     // A shortest circle meets no device twice, so it has no more steps than there are devices.
     None
+}
+
+/// The devices that lead back to themselves, whatever the rows: they need be no plan's.
+pub fn circles(rows: &Rows) -> u32 {
+    let back = (0..DEVICES).filter(|&device| circle(rows, device).is_some());
+    back.fold(0, |set, device| set | 1 << device)
 }
 
 /// The shortest circle of all.
@@ -177,8 +187,7 @@ pub fn verdict(plan: &[Line]) -> Result<Order, Refusal> {
     if let Some(device) = lowest(twice) {
         return Err(Refusal::at(9, device));
     }
-    let rows = rows(plan);
-    if let Some(device) = (0..DEVICES).find(|&device| circle(&rows, device).is_some()) {
+    if let Some(device) = lowest(circles(&rows(plan))) {
         return Err(Refusal::at(10, device));
     }
     Ok(Order { lines: Course::run(plan).order, held: once.count_ones() })

@@ -51,7 +51,7 @@ impl Random {
     }
 
     /// So many different devices, in no order.
-    fn devices(&mut self, count: usize) -> Vec<u8> {
+    pub fn devices(&mut self, count: usize) -> Vec<u8> {
         let mut devices: Vec<u8> = (0..DEVICES as u8).collect();
         self.shuffle(&mut devices);
         devices.truncate(count);
@@ -61,7 +61,7 @@ impl Random {
 
 /// A step of a job that has no number yet.
 #[derive(Clone, Copy, Debug)]
-enum Step {
+pub(crate) enum Step {
     Do(u8),
     Take(u8),
     Give(u8),
@@ -71,13 +71,13 @@ enum Step {
 
 /// Jobs without numbers. The one at place 0 is the first; every other is started once.
 #[derive(Clone, Debug)]
-struct Sketch {
-    jobs: Vec<Vec<Step>>,
+pub(crate) struct Sketch {
+    pub(crate) jobs: Vec<Vec<Step>>,
 }
 
 impl Sketch {
     /// Numbers the jobs at random, each after the one that starts it, and writes the plan.
-    fn numbered(&self, random: &mut Random) -> Vec<Line> {
+    pub(crate) fn numbered(&self, random: &mut Random) -> Vec<Line> {
         let mut number = vec![0; self.jobs.len()];
         let mut sequence = Vec::new();
         let mut open = vec![0];

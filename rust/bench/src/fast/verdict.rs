@@ -30,7 +30,7 @@ pub fn verdict(plan: &[u32], order: &mut [u16]) -> u64 {
     if found.twice != 0 {
         return refusal(9, found.twice.trailing_zeros() as usize);
     }
-    let back = circles(found.rows);
+    let back = circles(&found.rows);
     if back != 0 {
         return refusal(10, back.trailing_zeros() as usize);
     }
@@ -77,7 +77,8 @@ impl Found {
 
 /// The devices that lead back to themselves: what leads to a device leads to all that this one leads to, for one device
 /// after another.
-fn circles(mut rows: [u32; 32]) -> u32 {
+pub fn circles(rows: &[u32; 32]) -> u32 {
+    let mut rows = *rows;
     for through in 0..32 {
         let row = rows[through];
         for other in &mut rows {
