@@ -38,8 +38,8 @@ extern "C" {
  */
 #define GIMMERSKIP_VERSION_MAJOR 0
 #define GIMMERSKIP_VERSION_MINOR 3
-#define GIMMERSKIP_VERSION_PATCH 0
-#define GIMMERSKIP_VERSION "0.3.0"
+#define GIMMERSKIP_VERSION_PATCH 1
+#define GIMMERSKIP_VERSION "0.3.1"
 
 /* The most lines of a plan. Lists of so many entries are long enough for every plan. */
 #define GIMMERSKIP_MAX_LINES 1024
@@ -57,12 +57,12 @@ extern "C" {
  * dynamic linker needs where it looks up `memcpy` or `memset` at the first call, of which over 3,000 bytes were seen.
  * In a program linked with -Wl,-z,now it looks them up before `main`, and in a static one there is nothing to look up.
  */
-#define GIMMERSKIP_STACK_ORDER 18816
+#define GIMMERSKIP_STACK_ORDER 18752
 #define GIMMERSKIP_STACK_LINE 704
 #define GIMMERSKIP_STACK_READ 11200
 #define GIMMERSKIP_STACK_WRITE 19344
 #define GIMMERSKIP_STACK_TABLE 8096
-#define GIMMERSKIP_STACK_VERDICT 9584
+#define GIMMERSKIP_STACK_VERDICT 9552
 #define GIMMERSKIP_STACK_JUDGE 8352
 #define GIMMERSKIP_STACK_MOVE 8624
 
