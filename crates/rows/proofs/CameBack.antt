@@ -1,7 +1,7 @@
 -- A walk along the rows (02, request 3): all that it passed lead to where it is, so that a device that comes again
 -- leads back. Over any number of devices.
 use Prim.Native.Nat.{ℕ, _^_, _<_, _≤_}
-use mathlib.Core.Bool.{Bool, true, false, not, _&&_}
+use mathlib.Core.Bool.{true, false, not}
 use mathlib.Core.List.{List}
 use mathlib.Core.Logic.{_⊎_, inl, inr}
 use mathlib.Core.Path.{_≡_, refl, sym, _∙_}
@@ -10,13 +10,13 @@ use lib.ListN.{length}
 use borrow.Author.Tests.{eqb-true, eq-eqb}
 use Rattle.model.specs.Sets.{member, lowestOf}
 use Rattle.model.specs.Rows.{Leads, once}
-use Rattle.theory.proofs.Tests.{clash, test, and-split, and-both, falsely, le-or-lt}
+use Rattle.theory.proofs.Tests.{clash, test, and-split, falsely, le-or-lt}
 use Rattle.theory.proofs.Sets.{member-past}
 use Rattle.sets.specs.Only.{onlyOf}
 use Rattle.sets.specs.Both.{both, without}
 use Rattle.sets.proofs.Members.{Lowest, found, nothing, lowest, member-without, member-only-of, without-below}
 use Rattle.rows.specs.declared.search.Ended.{Ended}
-use Rattle.rows.specs.Search.{rowAt, Walked}
+use Rattle.rows.specs.Search.{rowAt, WalkEnds}
 use Rattle.rows.proofs.Smaller.{taken-out-less}
 use Rattle.rows.proofs.Looked.{some-device, in-both, both-in}
 use Rattle.rows.proofs.Reaching.{leads-on}
@@ -119,5 +119,5 @@ module _ (rs : List ℕ) (left : ℕ) where
         taken-out-less (length rs) rest (onlyOf (length rs) at) at (w .restBelow) here
         (member-only-of (length rs) at at (on-board rest at (w .restBelow) here) ∙ eq-eqb at at refl)
 
-  pub walking-ends : (r : Ended) → Walking (r .at) (r .rest) → member (r .rest) (r .at) ≡ false → Walked rs left r
+  pub walking-ends : (r : Ended) → Walking (r .at) (r .rest) → member (r .rest) (r .at) ≡ false → WalkEnds rs left r
   walking-ends r w q = record { lead = w .lead; again = λ a. q; stuck = w .stuck }

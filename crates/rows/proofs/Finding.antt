@@ -1,6 +1,6 @@
--- The search on its way (02, request 3): what it takes away leads nowhere back, what it takes out is found with its
--- mates, and when nothing is left what is found are the circles. Over any number of devices.
-use Prim.Native.Nat.{ℕ, _^_, _<_, _≤_}
+-- The search under way (02, request 3): what it takes away leads nowhere back, what it takes out is found with its
+-- circle, and when nothing is left what is found are the devices that lead back. Over any number of devices.
+use Prim.Native.Nat.{ℕ, _^_, _<_}
 use mathlib.Core.Bool.{true, false, not}
 use mathlib.Core.List.{List}
 use mathlib.Core.Logic.{_⊎_, inl, inr}
@@ -11,19 +11,20 @@ use lib.ListN.{length}
 use borrow.Author.Tests.{eqb-true, eqb-false, not-true}
 use Rattle.model.specs.Sets.{empty, union, member}
 use Rattle.model.specs.Rows.{Leads, leadsBack}
-use Rattle.theory.proofs.Tests.{clash, test, tests-agree, and-split}
+use Rattle.theory.proofs.Tests.{clash, test, tests-agree, and-split, falsely}
 use Rattle.theory.proofs.Sets.{member-empty, member-union, in-union, in-left, in-right, empty-below, union-below}
 use Rattle.theory.proofs.Rows.{leads-back-exactly}
 use Rattle.sets.specs.Both.{without}
 use Rattle.sets.proofs.Members.{member-without}
 use Rattle.rows.specs.declared.search.Ended.{Ended}
 use Rattle.rows.specs.Where.{circlesOf}
-use Rattle.rows.specs.Search.{rowAt, inRows, Trimmed, Walked, WholeIn, Mates, Searching}
+use Rattle.rows.specs.Search.{rowAt, inRows, Trimmed, WalkEnds, WholeIn, CircleOf, Searching}
 use Rattle.rows.proofs.Where.{is-where}
 use Rattle.rows.proofs.Smaller.{within-le, taken-out-less}
 use Rattle.rows.proofs.Looked.{stands}
 use Rattle.rows.proofs.Reaching.{leads-join}
 use Rattle.rows.proofs.TakenAway.{last-step, sought, is-sought, was-sought, sought-linked}
+use Rattle.rows.proofs.TakenAway.{stays-back}
 
 module _ (rs : List ℕ) where
   -- what is taken away was not to be found
@@ -64,7 +65,7 @@ module _ (rs : List ℕ) where
   pub searching-begins : (r : ℕ) → Trimmed rs (inRows rs) r → Searching rs r 0
   searching-begins r t = searching-trimmed (inRows rs) 0 r searching-first t
 
-  -- what is left has the mates of what is left
+  -- what is left has the circles of what is left
   pub left-whole : (left found d : ℕ) → Searching rs left found → member left d ≡ true → WholeIn rs d left
   left-whole left found d s m e l k = go (s .kept e (leads-join rs e d e k l))
     where
@@ -72,8 +73,8 @@ module _ (rs : List ℕ) where
       go (inl f) = clash (member found d) (s .whole e f d k l) (s .apart d m)
       go (inr f) = f
 
-  -- mates are taken out
-  module _ (left found at r : ℕ) (s : Searching rs left found) (m : Mates rs at r) (there : member left at ≡ true)
+  -- a circle is taken out
+  module _ (left found at r : ℕ) (s : Searching rs left found) (m : CircleOf rs at r) (there : member left at ≡ true)
       (again : Leads rs at at) where
     still-whole : (d : ℕ) → (member r d ≡ true) ⊎ (member found d ≡ true) → WholeIn rs d (union r found)
     still-whole d (inl k) e l j =
@@ -109,7 +110,7 @@ module _ (rs : List ℕ) where
     found-less h = taken-out-less (length rs) left r at h there (m .whole at again again)
 
   -- where a walk is stuck, something is taken away
-  pub stuck-less : (left r : ℕ) (w : Ended) → left < 2 ^ length rs → Walked rs left w
+  pub stuck-less : (left r : ℕ) (w : Ended) → left < 2 ^ length rs → WalkEnds rs left w
       → member left (w .at) ≡ false → Trimmed rs left r → r < left
   stuck-less left r w h walked q t = go (test (eqb r left))
     where
@@ -118,11 +119,34 @@ module _ (rs : List ℕ) where
 
       go : (eqb r left ≡ true) ⊎ (eqb r left ≡ false) → r < left
       go (inl e) =
-          let n = t .on (stuck .0) (rw (eqb-true r left e) (stuck .1)) in
+          let n = t .linked .leads (stuck .0) (rw (eqb-true r left e) (stuck .1)) in
           clash (member left (n .0)) (t .inLeft (n .0) (n .2)) (stuck .2 (n .0) (n .1))
       go (inr e) = let n = eqb-false r left e in omega (arith, within-le (length rs) r left (t .below) h (t .inLeft))
 
-  -- The theorem: with nothing left, what is found are the circles.
+  -- The law of taking away: what is taken away, and was not found before, leads nowhere back; and where something
+  -- stays, something that stays leads back.
+  pub taking-away : (left found r : ℕ) → Searching rs left found → Trimmed rs left r
+      → ((d : ℕ) → member found d ≡ false → member r d ≡ false → leadsBack rs d ≡ false)
+      × (0 < r → (d : ℕ) × (member r d ≡ true) × (leadsBack rs d ≡ true))
+  taking-away left found r s t =
+      (λ d f q. falsely (leadsBack rs d) (λ b. none d f q (kept d b)), stays-back rs left r t)
+    where
+      kept : (d : ℕ) → leadsBack rs d ≡ true → (member found d ≡ true) ⊎ (member r d ≡ true)
+      kept d b = searching-trimmed left found r s t .kept d (leads-back-exactly rs d .0 b)
+
+      none : (d : ℕ) → member found d ≡ false → member r d ≡ false → (member found d ≡ true) ⊎ (member r d ≡ true) → ⊥
+      none d f q (inl m) = clash (member found d) m f
+      none d f q (inr m) = clash (member r d) m q
+
+  -- of the first taking away, with nothing found: whatever stays or not, all that leads back stays
+  pub first-taking-away : (r : ℕ) → Trimmed rs (inRows rs) r
+      → ((d : ℕ) → member r d ≡ false → leadsBack rs d ≡ false)
+      × (0 < r → (d : ℕ) × (member r d ≡ true) × (leadsBack rs d ≡ true))
+  unfolding empty
+  first-taking-away r t =
+      let l = taking-away (inRows rs) 0 r searching-first t in (λ d q. l .0 d (member-empty d) q, l .1)
+
+  -- The theorem: with nothing left, what is found are the devices that lead back.
   pub all-found : (found : ℕ) → Searching rs 0 found → found ≡ circlesOf rs
   unfolding circlesOf empty
   all-found found s =

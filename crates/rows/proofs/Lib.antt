@@ -6,7 +6,7 @@ pub mod Looked
 pub mod TakenAway
 pub mod Reaching
 pub mod CameBack
-pub mod Mated
+pub mod OnCircle
 pub mod Finding
 pub mod Wanted
 pub mod Counted

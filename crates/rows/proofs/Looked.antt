@@ -16,7 +16,7 @@ use Rattle.model.specs.Sets.{empty, member, lowestOf}
 use Rattle.model.specs.Rows.{onward}
 use Rattle.theory.proofs.Tests.{clash, test, and-split, and-both, le-or-lt}
 use Rattle.theory.proofs.Lists.{upFrom-has}
-use Rattle.theory.proofs.Sets.{member-empty, member-past, unionOf-in, empty-below, same-members}
+use Rattle.theory.proofs.Sets.{member-empty, member-past, in-unionOf, unionOf-in, empty-below, same-members}
 use Rattle.theory.proofs.Rows.{row-below}
 use Rattle.sets.specs.Only.{onlyOf}
 use Rattle.sets.specs.Both.{both}
@@ -171,6 +171,13 @@ module _ (rs : List ℕ) where
   into-below within s = where-below (λ x. meet (rowIn rs within x) s) (length rs)
 
   -- being led to from a set
+  pub in-onward : (s e : ℕ) → member (onward rs s) e ≡ true
+      → (d : ℕ) × (member (rowAt rs d) e ≡ true) × (member s d ≡ true)
+  unfolding onward rowIn
+  in-onward s e m =
+      let r = in-unionOf (rowIn rs s) (upFrom 0 (length rs)) e m in
+      let q = in-row s (r .0) e (r .2) in (r .0, q .1, q .0)
+
   pub onward-in : (s d e : ℕ) → member s d ≡ true → member (rowAt rs d) e ≡ true → member (onward rs s) e ≡ true
   unfolding onward rowIn
   onward-in s d e k m =

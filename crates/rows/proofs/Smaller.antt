@@ -4,10 +4,10 @@ use mathlib.Core.Bool.{Bool, true, false, cond, not, _&&_}
 use mathlib.Core.Logic.{_⊎_, inl, inr}
 use mathlib.Core.Path.{_≡_, refl, sym, _∙_, ap}
 use native.Mathlib.Omega.{arith}
-use lib.Bits.{bitAnd, and-le-l, or-add-and}
+use lib.Bits.{and-le-l, or-add-and}
 use lib.Dec.{eqb}
 use borrow.Author.Tests.{eqb-true, eqb-false, eq-eqb, not-true}
-use Rattle.model.specs.Sets.{empty, union, member}
+use Rattle.model.specs.Sets.{union, member}
 use Rattle.theory.proofs.Tests.{clash, test, and-split}
 use Rattle.theory.proofs.Sets.{same-members, in-left}
 use Rattle.sets.specs.Only.{onlyOf}

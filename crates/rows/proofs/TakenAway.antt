@@ -1,15 +1,15 @@
--- Taking away (02, request 3), over any number of devices: a device goes as long as it leads to none of those left, or
--- none of those leads to it. What goes leads nowhere back, and what stays, if anything does, has a device that leads
--- back.
+-- Taking away (02, request 3), over any number of devices: a device goes as long as its row has none of those left, or
+-- it stands in no row of theirs. What leads back is linked and so does not go, and what stays, if anything does, has a
+-- device that leads back.
 use Prim.Native.Nat.{ℕ, zero, suc, _+_, _*_, _^_, _<_, _≤_}
 use mathlib.Core.Bool.{Bool, true, false, cond, not, _&&_}
 use mathlib.Core.List.{List}
 use mathlib.Core.Logic.{_⊎_, inl, inr}
-use mathlib.Core.Path.{_≡_, refl, sym, _∙_}
+use mathlib.Core.Path.{_≡_, refl}
 use native.Mathlib.Omega.{arith}
 use lib.Dec.{eqb}
 use lib.ListN.{length}
-use borrow.Author.Tests.{eqb-true, eqb-false, not-true}
+use borrow.Author.Tests.{not-true}
 use Rattle.model.specs.Sets.{empty, member, lowestOf}
 use Rattle.model.specs.Rows.{Leads, once, more, leadsBack, onward}
 use Rattle.theory.proofs.Tests.{clash, test, and-split, and-both, falsely}
@@ -22,10 +22,10 @@ use Rattle.rows.specs.Search.{rowAt, leadInto, Linked, Trimmed, WholeIn}
 use Rattle.rows.proofs.Smaller.{differs, falls, within-le}
 use Rattle.rows.proofs.Reaching.{leads-join}
 use Rattle.rows.proofs.CameBack.{Walking, walking-begins, walking-on, walking-less}
-use Rattle.rows.proofs.Looked.{in-both, both-in, in-into, into-in, into-below, onward-in}
+use Rattle.rows.proofs.Looked.{in-both, both-in, in-into, into-in, into-below, in-onward, onward-in}
 
 module _ (rs : List ℕ) where
-  -- what stays when those that lead to none of them, or to which none of them leads, are taken away once
+  -- what stays when those are taken away once
   abbrev pub once-trimmed : ℕ → ℕ
   once-trimmed s = both (leadInto rs s s) (onward rs s)
 
@@ -35,24 +35,29 @@ module _ (rs : List ℕ) where
     pub inLeft : (d : ℕ) → member stays d ≡ true → member left d ≡ true
     pub keeps : (these : ℕ → Bool) → Linked rs these → ((d : ℕ) → these d ≡ true → member left d ≡ true)
         → (d : ℕ) → these d ≡ true → member stays d ≡ true
-    pub on : stays ≡ before → (d : ℕ) → member stays d ≡ true
-        → (e : ℕ) × (member (rowAt rs d) e ≡ true) × (member stays e ≡ true)
+    pub linked : stays ≡ before → Linked rs (member stays)
+
+  none-linked : (s : ℕ) → s ≡ 0 → Linked rs (member s)
+  unfolding empty
+  none-linked s e = record {
+    leads = λ d m. clash (member 0 d) (rw e at m) (member-empty d);
+    led = λ d m. clash (member 0 d) (rw e at m) (member-empty d);
+  }
 
   pub taking-begins : (left : ℕ) → left < 2 ^ length rs → Taking left left 0
-  unfolding empty
   taking-begins left h = record {
     below = h;
     inLeft = λ d m. m;
     keeps = λ these l h. h;
-    on = λ e d m. clash (member 0 d) (rw e at m) (member-empty d);
+    linked = none-linked left;
   }
 
   -- linked devices stay
   linked-stay : (s : ℕ) (these : ℕ → Bool) → Linked rs these → ((d : ℕ) → these d ≡ true → member s d ≡ true)
       → (d : ℕ) → these d ≡ true → member (once-trimmed s) d ≡ true
   linked-stay s these l h d k =
-      let a = l .on d k in
-      let b = l .back d k in
+      let a = l .leads d k in
+      let b = l .led d k in
       both-in (leadInto rs s s) (onward rs s) d (into-in rs s s d (a .0) (h d k) (a .1) (h (a .0) (a .2)))
       (onward-in rs s (b .0) d (h (b .0) (b .2)) (b .1))
 
@@ -61,7 +66,12 @@ module _ (rs : List ℕ) where
     below = both-below (length rs) (leadInto rs stays stays) (onward rs stays) (into-below rs stays stays);
     inLeft = λ d m. t .inLeft d (look d m .0);
     keeps = λ these l h. linked-stay stays these l (t .keeps these l h);
-    on = λ e d m. let r = look d m .1 in (r .0, r .1, rw e (r .2));
+    linked = λ e. record {
+      leads = λ d m. let r = look d m .1 in (r .0, r .1, rw e (r .2));
+      led = λ d m.
+          let r = in-onward rs stays d (in-both (leadInto rs stays stays) (onward rs stays) d m .1) in
+          (r .0, r .1, rw e (r .2));
+    };
   }
     where
       look : (d : ℕ) → member (once-trimmed stays) d ≡ true
@@ -70,19 +80,16 @@ module _ (rs : List ℕ) where
 
   pub all-taken : (left stays before : ℕ) → Taking left stays before → (stays ≡ before) ⊎ (stays ≡ 0)
       → Trimmed rs left stays
-  unfolding empty
-  all-taken left stays before t (inl e) = record {
+  all-taken left stays before t e = record {
     below = t .below;
     inLeft = t .inLeft;
-    on = t .on e;
+    linked = done e;
     keeps = t .keeps;
   }
-  all-taken left stays before t (inr e) = record {
-    below = t .below;
-    inLeft = t .inLeft;
-    on = λ d m. clash (member 0 d) (rw e at m) (member-empty d);
-    keeps = t .keeps;
-  }
+    where
+      done : (stays ≡ before) ⊎ (stays ≡ 0) → Linked rs (member stays)
+      done (inl q) = t .linked q
+      done (inr q) = none-linked stays q
 
   no-more : (s : ℕ) → s < 2 ^ length rs → once-trimmed s ≤ s
   no-more s h =
@@ -121,16 +128,16 @@ module _ (rs : List ℕ) where
         let s = and-split (leadsBack rs d) (not (member found d)) k in
         (leads-back-exactly rs d .0 (s .0), not-true (member found d) (s .1))
 
-    -- and so is a mate of it
-    mate-sought : (d e : ℕ) → sought d ≡ true → Leads rs d e → Leads rs e d → sought e ≡ true
-    mate-sought d e k l j =
+    -- and so is what is on a circle with it
+    fellow-sought : (d e : ℕ) → sought d ≡ true → Leads rs d e → Leads rs e d → sought e ≡ true
+    fellow-sought d e k l j =
         is-sought e (leads-join rs e d e j l)
         (falsely (member found e) (λ m. clash (member found d) (whole e m d j l) (was-sought d k .1)))
 
     pub sought-linked : Linked rs sought
     sought-linked = record {
-      on = λ d k. on d k (was-sought d k .0);
-      back = λ d k. back d k (last-step d d (was-sought d k .0));
+      leads = λ d k. on d k (was-sought d k .0);
+      led = λ d k. back d k (last-step d d (was-sought d k .0));
     }
       where
         on : (d : ℕ) → sought d ≡ true → Leads rs d d → (e : ℕ) × (member (rowAt rs d) e ≡ true) × (sought e ≡ true)
@@ -139,7 +146,7 @@ module _ (rs : List ℕ) where
             first : (a b : ℕ) → Leads rs a b → sought a ≡ true → b ≡ a
                 → (e : ℕ) × (member (rowAt rs a) e ≡ true) × (sought e ≡ true)
             first a b (once x y m) q z = (y, m, rw z q)
-            first a b (more x y c m j) q z = (y, m, mate-sought x y q (once x y m) (rw z at j))
+            first a b (more x y c m j) q z = (y, m, fellow-sought x y q (once x y m) (rw z at j))
 
         back : (d : ℕ) → sought d ≡ true → (e : ℕ) × (member (rowAt rs e) d ≡ true) × ((e ≡ d) ⊎ Leads rs d e)
             → (e : ℕ) × (member (rowAt rs e) d ≡ true) × (sought e ≡ true)
@@ -147,25 +154,12 @@ module _ (rs : List ℕ) where
           where
             go : (r .0 ≡ d) ⊎ Leads rs d (r .0) → sought (r .0) ≡ true
             go (inl q) = rw q k
-            go (inr l) = mate-sought d (r .0) k l (once (r .0) d (r .1))
+            go (inr l) = fellow-sought d (r .0) k l (once (r .0) d (r .1))
 
-  -- ---- the law of taking away
+  -- ---- what stays
 
-  -- what is taken away leads nowhere back
-  gone : (left r d : ℕ) → Trimmed rs left r → ((e : ℕ) → Leads rs e e → member left e ≡ true)
-      → member r d ≡ false → leadsBack rs d ≡ false
-  unfolding empty
-  gone left r d t all q =
-      falsely (leadsBack rs d)
-      (λ b. clash (member r d)
-      (t .keeps (sought 0 none) (sought-linked 0 none) (λ e k. all e (was-sought 0 none e k .0)) d
-      (is-sought 0 none d (leads-back-exactly rs d .0 b) (member-empty d))) q)
-    where
-      none : (e : ℕ) → member 0 e ≡ true → WholeIn rs e 0
-      none e m = clash (member 0 e) m (member-empty e)
-
-  -- and where something stays, something that stays leads back: a walk through it comes back
-  stays-back : (left r : ℕ) → Trimmed rs left r → 0 < r → (d : ℕ) × (member r d ≡ true) × (leadsBack rs d ≡ true)
+  -- where something stays, something that stays leads back: a walk through it comes back
+  pub stays-back : (left r : ℕ) → Trimmed rs left r → 0 < r → (d : ℕ) × (member r d ≡ true) × (leadsBack rs d ≡ true)
   stays-back left r t h = go (suc r) r (lowestOf (length rs) r) (omega arith) (walking-begins rs r (t .below) h)
     where
       at-end : (at rest : ℕ) → Walking rs r at rest → member rest at ≡ false
@@ -174,7 +168,7 @@ module _ (rs : List ℕ) where
       at-end at rest w q (inl m) = (at, m, leads-back-exactly rs at .1 (w .lead m at m q))
       at-end at rest w q (inr m) =
           let s = w .stuck m in
-          let n = t .on (s .0) (s .1) in clash (member r (n .0)) (n .2) (s .2 (n .0) (n .1))
+          let n = t .linked .leads (s .0) (s .1) in clash (member r (n .0)) (n .2) (s .2 (n .0) (n .1))
 
       go : (n rest at : ℕ) → rest < n → Walking rs r at rest → (d : ℕ) × (member r d ≡ true) × (leadsBack rs d ≡ true)
       go zero rest at l w = absurd (omega arith)
@@ -188,9 +182,3 @@ module _ (rs : List ℕ) where
               ih (without rest (onlyOf (length rs) at)) (lowestOf (length rs) (both (rowAt rs at) r))
               (omega (arith, walking-less rs r at rest w m)) (walking-on rs r at rest w m)
           by (inr m) ih = at-end at rest w m (test (member r at))
-
-  -- both in one
-  pub taking-away : (left r : ℕ) → Trimmed rs left r → ((e : ℕ) → Leads rs e e → member left e ≡ true)
-      → ((d : ℕ) → member r d ≡ false → leadsBack rs d ≡ false)
-      × (0 < r → (d : ℕ) × (member r d ≡ true) × (leadsBack rs d ≡ true))
-  taking-away left r t all = (λ d. gone left r d t all, stays-back left r t)

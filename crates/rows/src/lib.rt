@@ -12,7 +12,7 @@ ghost use mathlib.Core.Path.{_≡_};
 ghost use mathlib.Core.Bool.{true};
 ghost use mathlib.Core.Option.{none};
 ghost use Prim.Native.Nat.{_≤_, _<_};
-ghost use lib.ListN.{length, set};
+ghost use lib.ListN.{set};
 ghost use Rattle.model.specs.Board.{devices};
 ghost use Rattle.model.specs.Line.{isTake, isLine, maxLines};
 ghost use Rattle.model.specs.WellFormed.{fault};
@@ -29,7 +29,7 @@ pub fn circles(rows: &[Set; EACH_DEVICE]) -> Set
 {
     let mut search = search::begun(rows);
     while search.left != sets::NONE {
-        search = search::one_found(rows, search);
+        search = search::one_walk(rows, search);
     }
     search.found
 }

@@ -1,7 +1,7 @@
 // The circle search (01, "Claims and rows"; 02, request 3): which devices lead back to themselves, found with a few
-// words and the rows as they were lent. What leads nowhere is taken away; in what is left a walk along the rows comes
-// back to a device where it was, and that device and its mates, which it leads to and which lead to it, are found and
-// taken out.
+// words and the rows as they were lent. What cannot lead back is taken away. In what is left a walk along the rows
+// comes back to a device where it was, and this is found and taken out with its circle: all that it leads to and that
+// lead to it. A walk that gets stuck shows that there is more to take away.
 use board::EACH_DEVICE;
 use board::Set;
 ghost use mathlib.Core.Path.{_≡_};
@@ -12,17 +12,19 @@ ghost use Rattle.model.specs.Board.{devices};
 ghost use Rattle.model.specs.Rows.{onward};
 ghost use Rattle.model.specs.Sets.{empty, member, lowestOf};
 ghost use Rattle.sets.specs.Both.{both};
-ghost use Rattle.rows.specs.Search.{meet, inRows, leadInto, Trimmed, Walked, Reached, LeadTo, WholeIn, Mates};
-ghost use Rattle.rows.specs.Search.{OnTheWay, OneFound};
+ghost use Rattle.rows.specs.Search.{meet, inRows, leadInto, Trimmed, WalkEnds, Reached, LeadTo, WholeIn};
+ghost use Rattle.rows.specs.Search.{CircleOf, Underway, LessLeft};
 
 // ---- one look at the rows
 
-// So many rows are looked at together.
+// A look at rows is over so many, or twice so many, and so on: the compiler takes that many at a time and has none
+// left over.
 const BLOCK: usize = 8;
 
 // Where a look at the rows of a set's devices ends, going down: at its lowest device or, for whole blocks, up to seven
-// before it.
-fn first_looked_at(s: Set) -> usize
+// before it. A look at all rows, always, would be unrolled, and the rows then be kept at hand, on the stack, through
+// the loops in which they are looked at again and again.
+fn last_looked_at(s: Set) -> usize
     ensures { λ r. ⌜ r ≤ lowestOf devices s ⌝ }
 {
     sets::lowest(s) as usize / BLOCK * BLOCK
@@ -42,8 +44,7 @@ fn in_rows(rows: &[Set]) -> Set
     s
 }
 
-// The row of a device, if the set has the device. The device is given as the set of it alone, which both choices below
-// need.
+// The row of a device, if the set has the device. The device is given as the set of it alone.
 fn if_of(row: Set, s: Set, one: Set) -> Set
     ensures { λ r. ⌜ r ≡ cond (meet s one) row empty ⌝ }
 {
@@ -62,7 +63,7 @@ fn lead_into(rows: &[Set], within: Set, s: Set) -> Set
     requires { ⌜ length (now rows) ≡ devices ⌝ }
     ensures { λ r. ⌜ r ≡ leadInto (now (rows .entry)) within s ⌝ }
 {
-    let low = first_looked_at(within);
+    let low = last_looked_at(within);
     let mut into = sets::NONE;
     let mut d = EACH_DEVICE;
     while low < d {
@@ -79,7 +80,7 @@ fn between(rows: &[Set], s: Set) -> Set
     requires { ⌜ length (now rows) ≡ devices ⌝ }
     ensures { λ r. ⌜ r ≡ both (leadInto (now (rows .entry)) s s) (onward (now (rows .entry)) s) ⌝ }
 {
-    let low = first_looked_at(s);
+    let low = last_looked_at(s);
     let mut into = sets::NONE;
     let mut onto = sets::NONE;
     let mut d = EACH_DEVICE;
@@ -95,8 +96,8 @@ fn between(rows: &[Set], s: Set) -> Set
 
 // ---- taking away
 
-// What is left of the set when a device is taken away as long as it leads to none of those left, or none of those
-// leads to it.
+// What is left of the set when a device is taken away as long as its row has none of those left, or it stands in no row
+// of theirs. When nothing is left, no look is needed to see that nothing more goes.
 fn trim(rows: &[Set], left: Set) -> Set
     requires { ⌜ length (now rows) ≡ devices ⌝ }
     ensures { λ r. ⌜ Trimmed (now (rows .entry)) left r ⌝ }
@@ -122,7 +123,7 @@ struct Ended {
 // the row has none of them.
 fn walk(rows: &[Set], left: Set) -> Ended
     requires { ⌜ (length (now rows) ≡ devices) × (0 < left) ⌝ }
-    ensures { λ r. ⌜ Walked (now (rows .entry)) left r ⌝ }
+    ensures { λ r. ⌜ WalkEnds (now (rows .entry)) left r ⌝ }
 {
     let mut at = sets::lowest(left);
     let mut rest = left;
@@ -150,7 +151,7 @@ fn ahead(rows: &[Set], within: Set, stop: Set, from: u32) -> Set
     reached
 }
 
-// These devices and those of `within` that lead to them by way of it.
+// These devices and those of `within` that lead to them by way of it. When all of `within` do, no look is needed more.
 fn behind(rows: &[Set], within: Set, these: Set) -> Set
     requires { ⌜ length (now rows) ≡ devices ⌝ }
     ensures { λ r. ⌜ LeadTo (now (rows .entry)) within these r ⌝ }
@@ -164,14 +165,15 @@ fn behind(rows: &[Set], within: Set, these: Set) -> Set
     lead
 }
 
-// The mates of a device that a walk came back to. What the walk passed leads there, so where the device leads to
-// nothing else these are all; else what else leads there is looked for first, and then what of it the device leads to.
-fn mates(rows: &[Set], left: Set, walked: Ended) -> Set
+// The circle of a device that a walk came back to. What the walk passed leads there: where it passed all that the
+// device leads to, that is the circle. Else all that leads there is looked for first, and then what of it the device
+// leads to.
+fn circle_of(rows: &[Set], left: Set, walked: Ended) -> Set
     requires { ⌜
-        (length (now rows) ≡ devices) × Walked (now rows) left walked × (member left (walked .at) ≡ true)
+        (length (now rows) ≡ devices) × WalkEnds (now rows) left walked × (member left (walked .at) ≡ true)
         × WholeIn (now rows) (walked .at) left
         ⌝ }
-    ensures { λ r. ⌜ Mates (now (rows .entry)) (walked .at) r ⌝ }
+    ensures { λ r. ⌜ CircleOf (now (rows .entry)) (walked .at) r ⌝ }
 {
     let led = ahead(rows, left, walked.rest, walked.at);
     if sets::both(led, walked.rest) == sets::NONE {
@@ -189,10 +191,10 @@ pub struct Search {
     pub found: Set,
 }
 
-// With nothing found.
+// What stands in rows, trimmed, is left, and nothing is found.
 pub fn begun(rows: &[Set]) -> Search
     requires { ⌜ length (now rows) ≡ devices ⌝ }
-    ensures { λ r. ⌜ OnTheWay (now (rows .entry)) r ⌝ }
+    ensures { λ r. ⌜ Underway (now (rows .entry)) r ⌝ }
 {
     Search {
         left: trim(rows, in_rows(rows)),
@@ -200,14 +202,15 @@ pub fn begun(rows: &[Set]) -> Search
     }
 }
 
-// One walk more: what it came back to is found with its mates, or what leads nowhere is taken away.
-pub fn one_found(rows: &[Set], search: Search) -> Search
-    requires { ⌜ (length (now rows) ≡ devices) × (0 < search .left) × OnTheWay (now rows) search ⌝ }
-    ensures { λ r. ⌜ OneFound (now (rows .entry)) (search .left) r ⌝ }
+// One walk more: what it came back to is found with its circle, or, where it was stuck, what cannot lead back by way of
+// what is left is taken away.
+pub fn one_walk(rows: &[Set], search: Search) -> Search
+    requires { ⌜ (length (now rows) ≡ devices) × (0 < search .left) × Underway (now rows) search ⌝ }
+    ensures { λ r. ⌜ LessLeft (now (rows .entry)) (search .left) r ⌝ }
 {
     let walked = walk(rows, search.left);
     if sets::member(search.left, walked.at) {
-        let found = mates(rows, search.left, walked);
+        let found = circle_of(rows, search.left, walked);
         return Search {
             left: sets::without(search.left, found),
             found: sets::union(found, search.found),

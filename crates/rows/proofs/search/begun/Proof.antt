@@ -1,7 +1,5 @@
 -- `rows::search::begun` meets its contract: all that lead back stand in rows, and none of them is taken away.
-use mathlib.Core.Path.{_≡_}
 use borrow.Author.Needs.{needs}
-use Rattle.rows.specs.Search.{Trimmed}
 use Rattle.rows.proofs.Finding.{searching-begins}
 use Rattle.rows.proofs.search.begun.Statement.{statement}
 use Rattle.rows.proofs.search.begun.Tie as tie

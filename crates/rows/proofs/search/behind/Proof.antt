@@ -1,7 +1,6 @@
 -- `rows::search::behind` meets its contract: the set is whole when a look finds nothing new, or nothing else can be.
-use Prim.Native.Nat.{ℕ, _+_, _*_, _-_, _^_, _<_}
+use Prim.Native.Nat.{_+_, _*_, _-_, _^_}
 use mathlib.Core.Bool.{cond}
-use mathlib.Core.Path.{_≡_, sym, _∙_, ap}
 use lib.Dec.{eqb}
 use lib.ListN.{length}
 use borrow.Author.Needs.{needs}

@@ -1,5 +1,5 @@
 -- `rows::search::between` meets its contract: each of the two sets so far is that from device d on.
-use Prim.Native.Nat.{ℕ, _-_, _≤_, _<_}
+use Prim.Native.Nat.{ℕ, _-_, _≤_}
 use mathlib.Core.Bool.{cond}
 use mathlib.Core.Path.{_≡_, _∙_, ap}
 use native.Mathlib.Omega.{arith}
@@ -69,7 +69,7 @@ returns c =
     let rs = start .args .rows .now in
     let s = start .args .s in
     let low : l .d ≤ lowestOf devices s =
-    omega (arith, c .before .loop-test .left, c .before .before .before .first-looked-at .ensures) in
+    omega (arith, c .before .loop-test .left, c .before .before .before .last-looked-at .ensures) in
     c .both .ensures
     ∙ ap (λ (x : ℕ). both x (l .onto)) (l .inv .1 ∙ into-whole rs devices (l .d) s (start .pre) (l .inv .0) low s)
     ∙ ap (both (leadInto rs s s)) (l .inv .2 ∙ onward-whole rs devices (l .d) s (start .pre) (l .inv .0) low)

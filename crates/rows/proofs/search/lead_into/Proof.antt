@@ -1,5 +1,5 @@
 -- `rows::search::lead_into` meets its contract: the set so far has what leads into the other from device d on.
-use Prim.Native.Nat.{ℕ, _-_, _≤_, _<_}
+use Prim.Native.Nat.{ℕ, _-_, _≤_}
 use mathlib.Core.Bool.{cond}
 use mathlib.Core.Path.{_≡_, _∙_, ap}
 use native.Mathlib.Omega.{arith}
@@ -61,7 +61,7 @@ returns c =
     let a = start .args in
     l .inv .1
     ∙ into-whole (a .rows .now) devices (l .d) (a .within) (start .pre) (l .inv .0)
-    (omega (arith, c .loop-test .left, c .before .before .first-looked-at .ensures)) (a .s)
+    (omega (arith, c .loop-test .left, c .before .before .last-looked-at .ensures)) (a .s)
 
 pub lead-into-spec : {M : Type 1} → statement M
 lead-into-spec =

@@ -1,10 +1,8 @@
 -- `rows::search::trim` meets its contract: the work is done when a look takes nothing away, or nothing is left.
-use Prim.Native.Nat.{ℕ, _+_, _*_, _^_, _<_}
+use Prim.Native.Nat.{_+_, _*_}
 use mathlib.Core.Bool.{cond}
-use mathlib.Core.Path.{_≡_, sym, _∙_, ap}
 use lib.Dec.{eqb}
 use borrow.Author.Needs.{needs}
-use Rattle.sets.specs.Both.{both}
 use Rattle.rows.proofs.TakenAway.{Taking, taking-begins, taking-on, taking-less}
 use Rattle.rows.proofs.TakenAway.{all-taken}
 use Rattle.rows.proofs.Smaller.{one-of-two}

@@ -1,5 +1,5 @@
--- `rows::search::one_found` meets its contract: mates are taken out, or something that leads nowhere is.
-use Prim.Native.Nat.{ℕ}
+-- `rows::search::one_walk` meets its contract: a circle is taken out, or something that cannot lead back
+-- is taken away.
 use mathlib.Core.Bool.{true}
 use mathlib.Core.Path.{_≡_, sym, _∙_}
 use lib.ListN.{length}
@@ -8,10 +8,10 @@ use Rattle.model.specs.Sets.{member}
 use Rattle.model.specs.Rows.{Leads}
 use Rattle.sets.proofs.Members.{without-below}
 use Rattle.rows.specs.Search.{WholeIn}
-use Rattle.rows.proofs.Mated.{leads-back}
+use Rattle.rows.proofs.OnCircle.{leads-back}
 use Rattle.rows.proofs.Finding.{left-whole, searching-found, found-less, searching-trimmed, stuck-less}
-use Rattle.rows.proofs.search.one_found.Statement.{statement}
-use Rattle.rows.proofs.search.one_found.Tie as tie
+use Rattle.rows.proofs.search.one_walk.Statement.{statement}
+use Rattle.rows.proofs.search.one_walk.Tie as tie
 
 -- where the walk came back
 abbrev start : tie.Then1 → tie.Start
@@ -27,7 +27,7 @@ whole c =
     left-whole (a .rows .now) (a .search .left) (a .search .found) (c .before .before .walk .result .at)
     (start c .pre .2 .searching) (there c)
 
--- the device leads back, and all its mates are left
+-- the device leads back
 again : (c : tie.Then1) → Leads (start c .args .rows .now) (c .before .before .walk .result .at)
     (c .before .before .walk .result .at)
 again c =
@@ -42,7 +42,7 @@ returns c =
     let rs = s .args .rows .now in
     let old = s .args .search in
     let at = at-test .before .before .walk .result .at in
-    let m = c .before .before .mates in
+    let m = c .before .before .circle-of in
     let h = s .pre .2 in
     rw (c .before .without .ensures, c .union .ensures) record {
       on = record {
@@ -74,8 +74,8 @@ returns-2 c =
       less = stuck-less rs left (c .trim .result) (w .result) (s .pre .2 .below) (w .ensures) q (c .trim .ensures);
     }
 
-pub one-found-spec : {M : Type 1} → statement M
-one-found-spec =
+pub one-walk-spec : {M : Type 1} → statement M
+one-walk-spec =
     tie.close
     (tie.spec (λ c κs. search needs) (λ c κs. search needs)
     (λ c κs. (start c .pre .0, c .before .before .walk .ensures, there c, whole c)) (λ c κs. search needs)

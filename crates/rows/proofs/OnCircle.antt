@@ -1,7 +1,7 @@
--- The mates of a device that a walk came back to (02, request 3): what it leads to and what leads to it, found from
+-- The circle of a device that a walk came back to (02, request 3): what it leads to and what leads to it, found from
 -- either end. Over any number of devices.
 use Prim.Native.Nat.{ℕ}
-use mathlib.Core.Bool.{Bool, true, false, not}
+use mathlib.Core.Bool.{true, false, not}
 use mathlib.Core.List.{List}
 use mathlib.Core.Logic.{_⊎_, inl, inr}
 use mathlib.Core.Path.{_≡_, refl, sym, _∙_, ap}
@@ -13,40 +13,38 @@ use Rattle.theory.proofs.Sets.{member-empty}
 use Rattle.sets.specs.Both.{both, without}
 use Rattle.sets.proofs.Members.{member-without}
 use Rattle.rows.specs.declared.search.Ended.{Ended}
-use Rattle.rows.specs.Search.{rowAt, Walked, Reached, LeadTo, WholeIn, Mates}
+use Rattle.rows.specs.Search.{rowAt, WalkEnds, Reached, LeadTo, WholeIn, CircleOf}
 use Rattle.rows.proofs.Looked.{both-in}
 use Rattle.rows.proofs.Reaching.{leads-join, leads-on}
 
--- What a device leads to by way of a set that has its mates has them too.
+-- What a device leads to by way of a set that has its circle has it too.
 module _ (rs : List ℕ) (within stop at r : ℕ) (a : Reached rs within stop at r)
     (free : (e : ℕ) → member r e ≡ true → member stop e ≡ false) (whole : WholeIn rs at within) where
+  -- one step on
+  step : (d e : ℕ) → (d ≡ at) ⊎ Leads rs at d → member (rowAt rs d) e ≡ true → Leads rs at e
+  step d e (inl q) k = let o : Leads rs d e = once d e k in rw q at o
+  step d e (inr l) k = leads-on rs at d e l k
+
   -- from one that is reached, along rows
   along : (d e : ℕ) → member r d ≡ true → (d ≡ at) ⊎ Leads rs at d → Leads rs d e → Leads rs e at → member r e ≡ true
-  along d e m from (once x y k) back = a .closed free x y m k (whole y (step from) back)
-    where
-      step : (x ≡ at) ⊎ Leads rs at x → Leads rs at y
-      step (inl q) = let o : Leads rs x y = once x y k in rw q at o
-      step (inr l) = leads-on rs at x y l k
+  along d e m from (once x y k) back = a .closed free x y m k (whole y (step x y from k) back)
   along d e m from (more x y z k l) back =
-      along y z (a .closed free x y m k (whole y (step from) (leads-join rs y z at l back))) (inr (step from)) l back
-    where
-      step : (x ≡ at) ⊎ Leads rs at x → Leads rs at y
-      step (inl q) = let o : Leads rs x y = once x y k in rw q at o
-      step (inr j) = leads-on rs at x y j k
+      along y z (a .closed free x y m k (whole y (step x y from k) (leads-join rs y z at l back)))
+      (inr (step x y from k)) l back
 
   pub reached-whole : WholeIn rs at r
   reached-whole e l back = along at e (a .self) (inl refl) l back
 
-module _ (rs : List ℕ) (left : ℕ) (w : Ended) (walked : Walked rs left w) (there : member left (w .at) ≡ true)
+module _ (rs : List ℕ) (left : ℕ) (w : Ended) (walked : WalkEnds rs left w) (there : member left (w .at) ≡ true)
     (whole : WholeIn rs (w .at) left) where
   -- the device that came again leads back
   pub leads-back : Leads rs (w .at) (w .at)
   leads-back = walked .lead there (w .at) there (walked .again there)
 
   -- where it leads to nothing but what the walk passed
-  pub mates-passed : (r : ℕ) → Reached rs left (w .rest) (w .at) r → both r (w .rest) ≡ 0 → Mates rs (w .at) r
+  pub circle-passed : (r : ℕ) → Reached rs left (w .rest) (w .at) r → both r (w .rest) ≡ 0 → CircleOf rs (w .at) r
   unfolding empty
-  mates-passed r a z = record {
+  circle-passed r a z = record {
     below = a .below;
     are = λ e m. by e m (a .led e m);
     whole = reached-whole rs left (w .rest) (w .at) r a free whole;
@@ -89,9 +87,9 @@ module _ (rs : List ℕ) (left : ℕ) (w : Ended) (walked : Walked rs left w) (t
         let o : Leads rs x z = more x y z k j in
         b .closed x y (whole x l (rw q at o)) k (back y z j q (leads-on rs (w .at) x y l k))
 
-    pub mates-behind : (r : ℕ) → Reached rs lead 0 (w .at) r → Mates rs (w .at) r
+    pub circle-behind : (r : ℕ) → Reached rs lead 0 (w .at) r → CircleOf rs (w .at) r
     unfolding empty
-    mates-behind r a = record {
+    circle-behind r a = record {
       below = a .below;
       are = λ e m. by e (a .led e m);
       whole = reached-whole rs lead 0 (w .at) r a (λ e m. member-empty e) (λ e l k. back e (w .at) k refl l);
