@@ -1,5 +1,5 @@
-// The circle search by itself, under a C name, so that it can be held to a second reading, timed, and its stack measured
-// on any rows. No caller of the library needs it.
+// The circle search by itself, under a C name, so that it can be held to a second reading, timed, and its stack
+// measured on any rows. No caller of the library needs it.
 use board::EACH_DEVICE;
 use board::Set;
 ghost use mathlib.Core.Path.{_≡_};

@@ -1,5 +1,5 @@
--- `rows::search::circle_of` meets its contract: what the walk passed leads there, and else all that lead there are looked
--- for first.
+-- `rows::search::circle_of` meets its contract: what the walk passed leads there, and else all that lead there are
+-- looked for first.
 use Prim.Native.Nat.{_<_}
 use mathlib.Core.Path.{sym, _∙_}
 use borrow.Author.Needs.{needs}
