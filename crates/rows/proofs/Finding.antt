@@ -52,7 +52,7 @@ module _ (rs : List ℕ) where
           d (is-sought rs found (s .whole) d l m))
 
   -- at first all that stand in rows are left
-  pub searching-first : Searching rs (inRows rs) 0
+  searching-first : Searching rs (inRows rs) 0
   unfolding empty
   searching-first = record {
     below = empty-below (length rs);
@@ -61,6 +61,9 @@ module _ (rs : List ℕ) where
     kept = λ d l. let r = last-step rs d d l in inr (stands rs (r .0) d (r .1));
     apart = λ d m. member-empty d;
   }
+
+  pub searching-begins : (r : ℕ) → Trimmed rs (inRows rs) r → Searching rs r 0
+  searching-begins r t = searching-trimmed (inRows rs) 0 r searching-first t
 
   -- what is left has the circles of what is left
   pub left-whole : (left found d : ℕ) → Searching rs left found → member left d ≡ true → WholeIn rs d left

@@ -1,6 +1,6 @@
 -- The circle search (01, "Claims and rows"; 02, request 3): what its parts find, for any rows and over any number of
 -- devices. No contract of an entry speaks of it.
-use Prim.Native.Nat.{ℕ, _^_, _<_, _≤_}
+use Prim.Native.Nat.{ℕ, _^_, _<_}
 use mathlib.Core.Bool.{Bool, true, false, cond, not}
 use mathlib.Core.List.{List, map}
 use mathlib.Core.Logic.{_⊎_}
@@ -98,12 +98,6 @@ pub record Searching (rs : List ℕ) (left found : ℕ) : Type 0 where
 pub record Underway (rs : List ℕ) (s : Search) : Type 0 where
   pub below : s .left < 2 ^ length rs
   pub searching : Searching rs (s .left) (s .found)
-
--- what is left to walk through: no more than was left, and with all that is still to be found
-pub record ToWalk (rs : List ℕ) (s : Search) (r : ℕ) : Type 0 where
-  pub below : r < 2 ^ length rs
-  pub searching : Searching rs r (s .found)
-  pub noMore : r ≤ s .left
 
 -- one step on, with less left
 pub record LessLeft (rs : List ℕ) (left : ℕ) (r : Search) : Type 0 where

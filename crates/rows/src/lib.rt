@@ -23,17 +23,11 @@ ghost use Rattle.rows.specs.Holds.{PassedOn, JoinedOn, HeldAs, WalkedAs,
 
 mod search;
 
-// The devices that lead back to themselves, for any rows. The first walk stands by itself, so that `one_walk` is called
-// from two places: it is then not compiled into its caller's caller, which would have to put what it holds, and the
-// rows, on the stack while it searches.
+// The devices that lead back to themselves, for any rows.
 pub fn circles(rows: &[Set; EACH_DEVICE]) -> Set
     ensures { λ r. ⌜ r ≡ circlesOf (now (rows .entry)) ⌝ }
 {
-    let begun = search::begun(rows);
-    if begun.left == sets::NONE {
-        return begun.found;
-    }
-    let mut search = search::one_walk(rows, begun);
+    let mut search = search::begun(rows);
     while search.left != sets::NONE {
         search = search::one_walk(rows, search);
     }

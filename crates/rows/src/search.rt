@@ -6,16 +6,29 @@ use board::EACH_DEVICE;
 use board::Set;
 ghost use mathlib.Core.Path.{_≡_};
 ghost use mathlib.Core.Bool.{true, cond};
-ghost use Prim.Native.Nat.{_<_};
+ghost use Prim.Native.Nat.{_<_, _≤_};
 ghost use lib.ListN.{length};
 ghost use Rattle.model.specs.Board.{devices};
 ghost use Rattle.model.specs.Rows.{onward};
-ghost use Rattle.model.specs.Sets.{empty, member};
+ghost use Rattle.model.specs.Sets.{empty, member, lowestOf};
 ghost use Rattle.sets.specs.Both.{both};
 ghost use Rattle.rows.specs.Search.{meet, inRows, leadInto, Trimmed, WalkEnds, Reached, LeadTo, WholeIn};
-ghost use Rattle.rows.specs.Search.{CircleOf, Underway, ToWalk, LessLeft};
+ghost use Rattle.rows.specs.Search.{CircleOf, Underway, LessLeft};
 
 // ---- one look at the rows
+
+// A look at rows is over so many, or twice so many, and so on: the compiler takes that many at a time and has none
+// left over.
+const BLOCK: usize = 8;
+
+// Where a look at the rows of a set's devices ends, going down: at its lowest device or, for whole blocks, up to seven
+// before it. A look at all rows, always, would be unrolled, and the rows then be kept at hand, on the stack, through
+// the loops in which they are looked at again and again.
+fn last_looked_at(s: Set) -> usize
+    ensures { λ r. ⌜ r ≤ lowestOf devices s ⌝ }
+{
+    sets::lowest(s) as usize / BLOCK * BLOCK
+}
 
 // The devices that stand in a row. Every device that leads back is one of them.
 fn in_rows(rows: &[Set]) -> Set
@@ -45,12 +58,12 @@ fn if_into(row: Set, s: Set, one: Set) -> Set
     sets::choose(sets::both(row, s) != sets::NONE, one, sets::NONE)
 }
 
-// The devices of `within` with a member of the set in their row. Rows below its lowest device are not looked at.
+// The devices of `within` with a member of the set in their row.
 fn lead_into(rows: &[Set], within: Set, s: Set) -> Set
     requires { ⌜ length (now rows) ≡ devices ⌝ }
     ensures { λ r. ⌜ r ≡ leadInto (now (rows .entry)) within s ⌝ }
 {
-    let low = sets::lowest(within) as usize;
+    let low = last_looked_at(within);
     let mut into = sets::NONE;
     let mut d = EACH_DEVICE;
     while low < d {
@@ -67,7 +80,7 @@ fn between(rows: &[Set], s: Set) -> Set
     requires { ⌜ length (now rows) ≡ devices ⌝ }
     ensures { λ r. ⌜ r ≡ both (leadInto (now (rows .entry)) s s) (onward (now (rows .entry)) s) ⌝ }
 {
-    let low = sets::lowest(s) as usize;
+    let low = last_looked_at(s);
     let mut into = sets::NONE;
     let mut onto = sets::NONE;
     let mut d = EACH_DEVICE;
@@ -178,27 +191,15 @@ pub struct Search {
     pub found: Set,
 }
 
-// What stands in rows is left, and nothing is found.
+// What stands in rows, trimmed, is left, and nothing is found.
 pub fn begun(rows: &[Set]) -> Search
     requires { ⌜ length (now rows) ≡ devices ⌝ }
     ensures { λ r. ⌜ Underway (now (rows .entry)) r ⌝ }
 {
     Search {
-        left: in_rows(rows),
+        left: trim(rows, in_rows(rows)),
         found: sets::NONE,
     }
-}
-
-// What is left to walk through. Before anything is found, what cannot lead back is taken away: of most rows, all. Later
-// that is left to a walk that gets stuck, since circles often stand apart.
-fn to_walk(rows: &[Set], search: Search) -> Set
-    requires { ⌜ (length (now rows) ≡ devices) × Underway (now rows) search ⌝ }
-    ensures { λ r. ⌜ ToWalk (now (rows .entry)) search r ⌝ }
-{
-    if search.found == sets::NONE {
-        return trim(rows, search.left);
-    }
-    search.left
 }
 
 // One walk more: what it came back to is found with its circle, or, where it was stuck, what cannot lead back by way of
@@ -207,23 +208,16 @@ pub fn one_walk(rows: &[Set], search: Search) -> Search
     requires { ⌜ (length (now rows) ≡ devices) × (0 < search .left) × Underway (now rows) search ⌝ }
     ensures { λ r. ⌜ LessLeft (now (rows .entry)) (search .left) r ⌝ }
 {
-    let left = to_walk(rows, search);
-    if left == sets::NONE {
+    let walked = walk(rows, search.left);
+    if sets::member(search.left, walked.at) {
+        let found = circle_of(rows, search.left, walked);
         return Search {
-            left: left,
-            found: search.found,
-        };
-    }
-    let ended = walk(rows, left);
-    if sets::member(left, ended.at) {
-        let found = circle_of(rows, left, ended);
-        return Search {
-            left: sets::without(left, found),
+            left: sets::without(search.left, found),
             found: sets::union(found, search.found),
         };
     }
     Search {
-        left: trim(rows, left),
+        left: trim(rows, search.left),
         found: search.found,
     }
 }

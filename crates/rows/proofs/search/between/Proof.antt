@@ -7,7 +7,6 @@ use borrow.Author.Needs.{needs}
 use Rattle.model.specs.Board.{devices}
 use Rattle.model.specs.Sets.{empty, union, lowestOf}
 use Rattle.sets.specs.Both.{both}
-use Rattle.sets.proofs.Members.{lowest-at-most}
 use Rattle.rows.specs.Search.{meet, rowAt, rowIn, leadInto}
 use Rattle.rows.proofs.Where.{joinedFrom, joined-begins, joined-grows}
 use Rattle.rows.proofs.Looked.{intoAt, row-chosen, into-chosen, into-whole, onward-whole}
@@ -20,9 +19,6 @@ Inv-loop rows s low into₀ onto₀ d₀ into onto d =
 
 abbrev μ-loop : tie.MeasureT-loop
 μ-loop rows s low into₀ onto₀ d₀ into onto d = d
-
-cast-low : tie.Need-cast-low Inv-loop μ-loop
-cast-low c = omega (arith, c .lowest .ensures, lowest-at-most devices (c .before .before .args .s))
 
 loop-holds : tie.Need-loop-holds Inv-loop μ-loop
 unfolding empty
@@ -73,7 +69,7 @@ returns c =
     let rs = start .args .rows .now in
     let s = start .args .s in
     let low : l .d ≤ lowestOf devices s =
-    omega (arith, c .before .loop-test .left, c .before .before .before .lowest .ensures) in
+    omega (arith, c .before .loop-test .left, c .before .before .before .last-looked-at .ensures) in
     c .both .ensures
     ∙ ap (λ (x : ℕ). both x (l .onto)) (l .inv .1 ∙ into-whole rs devices (l .d) s (start .pre) (l .inv .0) low s)
     ∙ ap (both (leadInto rs s s)) (l .inv .2 ∙ onward-whole rs devices (l .d) s (start .pre) (l .inv .0) low)
@@ -81,6 +77,6 @@ returns c =
 pub between-spec : {M : Type 1} → statement M
 between-spec =
     tie.close
-    (tie.spec Inv-loop μ-loop (λ c κs. search needs) cast-low loop-holds (λ c. search needs) (λ c. omega arith)
+    (tie.spec Inv-loop μ-loop (λ c κs. search needs) loop-holds (λ c. search needs) (λ c. omega arith)
     (λ c κs. search needs) (λ c. search needs) (λ c. search needs) (λ c κs. search needs) (λ c κs. search needs)
     (λ c κs. search needs) (λ c κs. search needs) (λ c. search needs) loop-again (λ c κs. search needs) returns)

@@ -6,7 +6,6 @@ use native.Mathlib.Omega.{arith}
 use borrow.Author.Needs.{needs}
 use Rattle.model.specs.Board.{devices}
 use Rattle.model.specs.Sets.{empty, union}
-use Rattle.sets.proofs.Members.{lowest-at-most}
 use Rattle.rows.specs.Search.{meet, rowAt, rowIn}
 use Rattle.rows.proofs.Where.{joinedFrom, joined-begins, joined-grows}
 use Rattle.rows.proofs.Looked.{intoAt, row-chosen, into-chosen, into-whole}
@@ -18,9 +17,6 @@ Inv-loop rows within s low into₀ d₀ into d = (d ≤ devices) × (into ≡ jo
 
 abbrev μ-loop : tie.MeasureT-loop
 μ-loop rows within s low into₀ d₀ into d = d
-
-cast-low : tie.Need-cast-low Inv-loop μ-loop
-cast-low c = omega (arith, c .lowest .ensures, lowest-at-most devices (c .before .before .args .within))
 
 loop-holds : tie.Need-loop-holds Inv-loop μ-loop
 unfolding empty
@@ -65,11 +61,11 @@ returns c =
     let a = start .args in
     l .inv .1
     ∙ into-whole (a .rows .now) devices (l .d) (a .within) (start .pre) (l .inv .0)
-    (omega (arith, c .loop-test .left, c .before .before .lowest .ensures)) (a .s)
+    (omega (arith, c .loop-test .left, c .before .before .last-looked-at .ensures)) (a .s)
 
 pub lead-into-spec : {M : Type 1} → statement M
 lead-into-spec =
     tie.close
-    (tie.spec Inv-loop μ-loop (λ c κs. search needs) cast-low loop-holds (λ c. search needs) (λ c. omega arith)
+    (tie.spec Inv-loop μ-loop (λ c κs. search needs) loop-holds (λ c. search needs) (λ c. omega arith)
     (λ c κs. search needs) (λ c. search needs) (λ c. search needs) (λ c κs. search needs) (λ c κs. search needs)
     (λ c κs. search needs) (λ c. search needs) loop-again returns)
