@@ -1,16 +1,16 @@
 -- A walk along the rows (02, request 3): all that it passed lead to where it is, so that a device that comes again
 -- leads back. Over any number of devices.
-use Prim.Native.Nat.{ℕ, _^_, _<_, _≤_}
+use Prim.Native.Nat.{ℕ, _^_, _<_}
 use mathlib.Core.Bool.{true, false, not}
 use mathlib.Core.List.{List}
 use mathlib.Core.Logic.{_⊎_, inl, inr}
 use mathlib.Core.Path.{_≡_, refl, sym, _∙_}
 use native.Mathlib.Omega.{arith}
 use lib.ListN.{length}
-use borrow.Author.Tests.{eqb-true, eq-eqb}
+use borrow.Author.Tests.{eq-eqb}
 use Rattle.model.specs.Sets.{member, lowestOf}
 use Rattle.model.specs.Rows.{Leads, once}
-use Rattle.theory.proofs.Tests.{clash, test, and-split, falsely, le-or-lt}
+use Rattle.theory.proofs.Tests.{clash, test, and-split, falsely}
 use Rattle.theory.proofs.Sets.{member-past}
 use Rattle.sets.specs.Only.{onlyOf}
 use Rattle.sets.specs.Both.{both, without}
@@ -18,7 +18,7 @@ use Rattle.sets.proofs.Members.{Lowest, found, nothing, lowest, member-without,
 use Rattle.rows.specs.declared.search.Ended.{Ended}
 use Rattle.rows.specs.Search.{rowAt, WalkEnds}
 use Rattle.rows.proofs.Smaller.{taken-out-less}
-use Rattle.rows.proofs.Looked.{some-device, in-both, both-in}
+use Rattle.rows.proofs.Looked.{on-board, no-other, some-device, in-both, both-in}
 use Rattle.rows.proofs.Reaching.{leads-on}
 
 module _ (rs : List ℕ) (left : ℕ) where
@@ -34,14 +34,6 @@ module _ (rs : List ℕ) (left : ℕ) where
     pub restIn : (d : ℕ) → member rest d ≡ true → member left d ≡ true
     pub stuck : member left at ≡ false → Stuck
 
-  -- a member is a device of the board
-  pub on-board : (s d : ℕ) → s < 2 ^ length rs → member s d ≡ true → d < length rs
-  on-board s d h m = go (le-or-lt (length rs) d)
-    where
-      go : (length rs ≤ d) ⊎ (d < length rs) → d < length rs
-      go (inl l) = clash (member s d) m (member-past (length rs) s d h l)
-      go (inr l) = l
-
   pub walking-begins : left < 2 ^ length rs → 0 < left → Walking (lowestOf (length rs) left) left
   walking-begins below h = record {
     leftBelow = below;
@@ -55,7 +47,7 @@ module _ (rs : List ℕ) (left : ℕ) where
       go m (found d l e low) q = clash (member left d) e q
       go m (nothing f) q =
           let r = some-device (length rs) left below h in
-          clash (member left (r .0)) (r .1) (f (r .0) (on-board left (r .0) below (r .1)))
+          clash (member left (r .0)) (r .1) (f (r .0) (on-board (length rs) left (r .0) below (r .1)))
 
   module _ (at rest : ℕ) (w : Walking at rest) (here : member rest at ≡ true) where
     abbrev rest-now : ℕ
@@ -69,8 +61,7 @@ module _ (rs : List ℕ) (left : ℕ) where
             → (member (onlyOf (length rs) at) d ≡ true) ⊎ (member (onlyOf (length rs) at) d ≡ false)
             → (d ≡ at) ⊎ (member rest d ≡ false)
         go (inr q) o = inr q
-        go (inl q) (inl o) =
-            inl (sym (eqb-true at d (sym (member-only-of (length rs) at d (on-board left d (w .leftBelow) m)) ∙ o)))
+        go (inl q) (inl o) = inl (no-other (length rs) at d o)
         go (inl q) (inr o) =
             clash (member rest-now d) (member-without rest (onlyOf (length rs) at) d ∙ rw (q, o)) k
 
@@ -111,13 +102,13 @@ module _ (rs : List ℕ) (left : ℕ) where
           w .restIn at here,
           λ e k. falsely (member left e) (λ a.
               clash (member (both (rowAt rs at) left) e) (both-in (rowAt rs at) left e k a)
-              (f e (on-board left e (w .leftBelow) a))),
+              (f e (on-board (length rs) left e (w .leftBelow) a))),
         )
 
     pub walking-less : rest-now < rest
     walking-less =
         taken-out-less (length rs) rest (onlyOf (length rs) at) at (w .restBelow) here
-        (member-only-of (length rs) at at (on-board rest at (w .restBelow) here) ∙ eq-eqb at at refl)
+        (member-only-of (length rs) at at (on-board (length rs) rest at (w .restBelow) here) ∙ eq-eqb at at refl)
 
   pub walking-ends : (r : Ended) → Walking (r .at) (r .rest) → member (r .rest) (r .at) ≡ false → WalkEnds rs left r
   walking-ends r w q = record { lead = w .lead; again = λ a. q; stuck = w .stuck }

@@ -1,6 +1,6 @@
 -- The laws of `rows`.
 pub mod Where
-pub mod Filled
+pub mod Entries
 pub mod Smaller
 pub mod Looked
 pub mod TakenAway

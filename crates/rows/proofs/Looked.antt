@@ -20,7 +20,8 @@ use Rattle.theory.proofs.Sets.{member-empty, member-past, in-unionOf, unionOf-i
 use Rattle.theory.proofs.Rows.{row-below}
 use Rattle.sets.specs.Only.{onlyOf}
 use Rattle.sets.specs.Both.{both}
-use Rattle.sets.proofs.Members.{Lowest, found, nothing, lowest, member-both, member-asked}
+use Rattle.sets.proofs.Members.{Lowest, found, nothing, lowest, member-both, member-asked, member-only-of}
+use Rattle.sets.proofs.Members.{only-of-below}
 use Rattle.rows.specs.Where.{onlyIf, devicesWhere}
 use Rattle.rows.specs.Search.{meet, rowAt, inRows, rowIn, leadInto}
 use Rattle.rows.proofs.Where.{member-where, where-below, one-where, joinedFrom, joined-whole}
@@ -30,6 +31,20 @@ abbrev pub intoAt : List ℕ → ℕ → ℕ → ℕ → ℕ
 intoAt rs within s d = onlyIf (meet (rowIn rs within d) s) d
 
 -- ---- sets with a device, and sets that meet
+
+-- a member is a device of the board
+pub on-board : (D s d : ℕ) → s < 2 ^ D → member s d ≡ true → d < D
+on-board D s d h m = go (le-or-lt D d)
+  where
+    go : (D ≤ d) ⊎ (d < D) → d < D
+    go (inl l) = clash (member s d) m (member-past D s d h l)
+    go (inr l) = l
+
+-- the set of one device has no other
+pub no-other : (D d e : ℕ) → member (onlyOf D d) e ≡ true → e ≡ d
+no-other D d e m =
+    let l = on-board D (onlyOf D d) e (only-of-below D d) m in
+    sym (eqb-true d e (sym (member-only-of D d e l) ∙ m))
 
 -- a set that is not empty has a device
 pub some-device : (D s : ℕ) → s < 2 ^ D → 0 < s → (d : ℕ) × (member s d ≡ true)
@@ -143,21 +158,18 @@ module _ (rs : List ℕ) where
   row-in within d e w m = rw w m
 
   -- leading into a set
+  pub into-below : (within s : ℕ) → leadInto rs within s < 2 ^ length rs
+  unfolding leadInto
+  into-below within s = where-below (λ x. meet (rowIn rs within x) s) (length rs)
+
   pub in-into : (within s d : ℕ) → s < 2 ^ length rs → member (leadInto rs within s) d ≡ true
       → (member within d ≡ true) × ((e : ℕ) × (member (rowAt rs d) e ≡ true) × (member s e ≡ true))
   unfolding leadInto
-  in-into within s d below m = go (le-or-lt (length rs) d)
-    where
-      go : (length rs ≤ d) ⊎ (d < length rs)
-          → (member within d ≡ true) × ((e : ℕ) × (member (rowAt rs d) e ≡ true) × (member s e ≡ true))
-      go (inl h) =
-          clash (member (leadInto rs within s) d) m
-          (member-past (length rs) (leadInto rs within s) d
-          (where-below (λ x. meet (rowIn rs within x) s) (length rs)) h)
-      go (inr h) =
-          let r = meeting (length rs) (rowIn rs within d) s below
-          (sym (member-where (λ x. meet (rowIn rs within x) s) (length rs) d h) ∙ m) in
-          let q = in-row within d (r .0) (r .1) in (q .0, (r .0, q .1, r .2))
+  in-into within s d below m =
+      let h = on-board (length rs) (leadInto rs within s) d (into-below within s) m in
+      let r = meeting (length rs) (rowIn rs within d) s below
+      (sym (member-where (λ x. meet (rowIn rs within x) s) (length rs) d h) ∙ m) in
+      let q = in-row within d (r .0) (r .1) in (q .0, (r .0, q .1, r .2))
 
   pub into-in : (within s d e : ℕ) → member within d ≡ true → member (rowAt rs d) e ≡ true → member s e ≡ true
       → member (leadInto rs within s) d ≡ true
@@ -165,10 +177,6 @@ module _ (rs : List ℕ) where
   into-in within s d e w m k =
       member-where (λ x. meet (rowIn rs within x) s) (length rs) d (row-below rs d e m)
       ∙ met (rowIn rs within d) s e (row-in within d e w m) k
-
-  pub into-below : (within s : ℕ) → leadInto rs within s < 2 ^ length rs
-  unfolding leadInto
-  into-below within s = where-below (λ x. meet (rowIn rs within x) s) (length rs)
 
   -- being led to from a set
   pub in-onward : (s e : ℕ) → member (onward rs s) e ≡ true

@@ -1,6 +1,6 @@
 -- What leads to a set of devices, and what a device leads to (02, request 3): sets that grow along the rows until
 -- nothing is new. Over any number of devices.
-use Prim.Native.Nat.{ℕ, _+_, _*_, _-_, _^_, _<_, _≤_}
+use Prim.Native.Nat.{ℕ, _+_, _*_, _-_, _^_, _<_}
 use mathlib.Core.Bool.{Bool, true, false, cond, not, _&&_}
 use mathlib.Core.List.{List}
 use mathlib.Core.Logic.{_⊎_, inl, inr}
@@ -11,8 +11,8 @@ use lib.ListN.{length}
 use borrow.Author.Tests.{eqb-true, eqb-false, eq-eqb, not-true}
 use Rattle.model.specs.Sets.{empty, union, member, lowestOf}
 use Rattle.model.specs.Rows.{Leads, once, more}
-use Rattle.theory.proofs.Tests.{clash, test, and-split, le-or-lt}
-use Rattle.theory.proofs.Sets.{member-empty, member-past, in-union, in-left, in-right, empty-below, union-below}
+use Rattle.theory.proofs.Tests.{clash, test, and-split}
+use Rattle.theory.proofs.Sets.{member-empty, in-union, in-left, in-right, empty-below, union-below}
 use Rattle.theory.proofs.Sets.{same-members}
 use Rattle.sets.specs.Only.{onlyOf}
 use Rattle.sets.specs.Both.{both, without}
@@ -20,7 +20,7 @@ use Rattle.sets.proofs.Members.{Lowest, found, nothing, lowest, member-without,
 use Rattle.sets.proofs.Members.{both-below}
 use Rattle.rows.specs.Search.{rowAt, leadInto, Reached, LeadTo}
 use Rattle.rows.proofs.Smaller.{differs, rises, union-more, put-in-more}
-use Rattle.rows.proofs.Looked.{some-device, in-both, both-in, both-within, in-into, into-in}
+use Rattle.rows.proofs.Looked.{no-other, some-device, in-both, both-in, both-within, in-into, into-in}
 use Rattle.rows.proofs.Looked.{into-below}
 
 module _ (rs : List ℕ) where
@@ -132,15 +132,9 @@ module _ (rs : List ℕ) where
       doneBelow = empty-below (length rs);
       doneIn = λ d m. clash (member 0 d) m (member-empty d);
       self = member-only-of (length rs) from from h ∙ eq-eqb from from refl;
-      led = λ e m. inl (only-it e m (le-or-lt (length rs) e));
+      led = λ e m. inl (no-other (length rs) from e m);
       closed = λ d e m. clash (member 0 d) m (member-empty d);
     }
-      where
-        only-it : (e : ℕ) → member (onlyOf (length rs) from) e ≡ true → (length rs ≤ e) ⊎ (e < length rs) → e ≡ from
-        only-it e m (inl l) =
-            clash (member (onlyOf (length rs) from) e) m
-            (member-past (length rs) (onlyOf (length rs) from) e (only-of-below (length rs) from) l)
-        only-it e m (inr l) = sym (eqb-true from e (sym (member-only-of (length rs) from e l) ∙ m))
 
     module _ (reached done : ℕ) (g : Following reached done) where
       -- one that is reached and was not looked at
@@ -182,15 +176,11 @@ module _ (rs : List ℕ) where
         reached-with = union (both (rowAt rs d) within) reached
 
         is-done : (x : ℕ) → member done-with x ≡ true → (x ≡ d) ⊎ (member done x ≡ true)
-        is-done x m = go (in-union (onlyOf (length rs) d) done x m) (le-or-lt (length rs) x)
+        is-done x m = go (in-union (onlyOf (length rs) d) done x m)
           where
-            go : (member (onlyOf (length rs) d) x ≡ true) ⊎ (member done x ≡ true) → (length rs ≤ x) ⊎ (x < length rs)
-                → (x ≡ d) ⊎ (member done x ≡ true)
-            go (inl k) (inl l) =
-                clash (member (onlyOf (length rs) d) x) k
-                (member-past (length rs) (onlyOf (length rs) d) x (only-of-below (length rs) d) l)
-            go (inl k) (inr l) = inl (sym (eqb-true d x (sym (member-only-of (length rs) d x l) ∙ k)))
-            go (inr k) l = inr k
+            go : (member (onlyOf (length rs) d) x ≡ true) ⊎ (member done x ≡ true) → (x ≡ d) ⊎ (member done x ≡ true)
+            go (inl k) = inl (no-other (length rs) d x k)
+            go (inr k) = inr k
 
         led-on : (e : ℕ) → member reached-with e ≡ true → (e ≡ from) ⊎ (Leads rs from e × (member within e ≡ true))
         led-on e m = go (in-union (both (rowAt rs d) within) reached e m)

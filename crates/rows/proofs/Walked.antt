@@ -21,7 +21,7 @@ use Rattle.claims.proofs.Written.{EndOf, end-on, end-whole, none-written, one-w
 use Rattle.rows.specs.declared.Passed.{Passed}
 use Rattle.rows.specs.Lasting.{lastingFlag, lastingFlags}
 use Rattle.rows.specs.Holds.{PassedOn, JoinedOn, WalkedAs}
-use Rattle.rows.proofs.Filled.{length-entries}
+use Rattle.rows.proofs.Entries.{length-entries}
 use Rattle.rows.proofs.Wanted.{flag-at}
 use Rattle.rows.proofs.Counted.{Counted, none-counted, lasts-made, counted-on, all-counted}
 use Rattle.rows.proofs.RowsFrom.{lasting-takes, RowsFrom, none-from, set-made, from-on, all-from}

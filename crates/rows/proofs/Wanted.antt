@@ -16,7 +16,7 @@ use Rattle.theory.specs.Outer.{plainAt}
 use Rattle.theory.proofs.Tests.{test, leb-agree}
 use Rattle.theory.proofs.Outer.{plain-take}
 use Rattle.rows.specs.Lasting.{lastingFlag, lastingFlags, wantedBefore, wantedAfter}
-use Rattle.rows.proofs.Filled.{entry-of}
+use Rattle.rows.proofs.Entries.{entry-of}
 
 -- how many gives of job j, at the front of some lines, want a take before them
 unfoldable pub wanted : ℕ → List ℕ → ℕ

@@ -11,7 +11,6 @@ ghost use lib.ListN.{length};
 ghost use Rattle.model.specs.Board.{devices};
 ghost use Rattle.model.specs.Rows.{onward};
 ghost use Rattle.model.specs.Sets.{empty, member, lowestOf};
-ghost use Rattle.sets.specs.Both.{both};
 ghost use Rattle.rows.specs.Search.{meet, inRows, leadInto, Trimmed, WalkEnds, Reached, LeadTo, WholeIn};
 ghost use Rattle.rows.specs.Search.{CircleOf, Underway, LessLeft};
 
@@ -58,40 +57,34 @@ fn if_into(row: Set, s: Set, one: Set) -> Set
     sets::choose(sets::both(row, s) != sets::NONE, one, sets::NONE)
 }
 
-// The devices of `within` with a member of the set in their row.
-fn lead_into(rows: &[Set], within: Set, s: Set) -> Set
-    requires { ⌜ length (now rows) ≡ devices ⌝ }
-    ensures { λ r. ⌜ r ≡ leadInto (now (rows .entry)) within s ⌝ }
-{
-    let low = last_looked_at(within);
-    let mut into = sets::NONE;
-    let mut d = EACH_DEVICE;
-    while low < d {
-        d -= 1;
-        let one = sets::only(d as u32);
-        let row = if_of(rows[d], within, one);
-        into = sets::union(if_into(row, s, one), into);
-    }
-    into
+// What a look at the rows of a set's devices sees: those with a member of another set in their row, and all that stand
+// in these rows.
+struct Seen {
+    into: Set,
+    onto: Set,
 }
 
-// The devices of the set that lead into it and stand in a row of it, by one look at its rows.
-fn between(rows: &[Set], s: Set) -> Set
+fn look(rows: &[Set], within: Set, s: Set) -> Seen
     requires { ⌜ length (now rows) ≡ devices ⌝ }
-    ensures { λ r. ⌜ r ≡ both (leadInto (now (rows .entry)) s s) (onward (now (rows .entry)) s) ⌝ }
+    ensures { λ r. ⌜
+        (r .into ≡ leadInto (now (rows .entry)) within s) × (r .onto ≡ onward (now (rows .entry)) within)
+        ⌝ }
 {
-    let low = last_looked_at(s);
+    let low = last_looked_at(within);
     let mut into = sets::NONE;
     let mut onto = sets::NONE;
     let mut d = EACH_DEVICE;
     while low < d {
         d -= 1;
         let one = sets::only(d as u32);
-        let row = if_of(rows[d], s, one);
+        let row = if_of(rows[d], within, one);
         into = sets::union(if_into(row, s, one), into);
         onto = sets::union(row, onto);
     }
-    sets::both(into, onto)
+    Seen {
+        into: into,
+        onto: onto,
+    }
 }
 
 // ---- taking away
@@ -106,7 +99,8 @@ fn trim(rows: &[Set], left: Set) -> Set
     let mut before = sets::NONE;
     while (stays != before) & (stays != sets::NONE) {
         before = stays;
-        stays = between(rows, stays);
+        let seen = look(rows, stays, stays);
+        stays = sets::both(seen.into, seen.onto);
     }
     stays
 }
@@ -160,7 +154,8 @@ fn behind(rows: &[Set], within: Set, these: Set) -> Set
     let mut before = sets::NONE;
     while (lead != before) & (lead != within) {
         before = lead;
-        lead = sets::union(lead_into(rows, sets::without(within, lead), lead), lead);
+        let seen = look(rows, sets::without(within, lead), lead);
+        lead = sets::union(seen.into, lead);
     }
     lead
 }

@@ -27,7 +27,7 @@ loop-less c =
     let at-loop = c .before .before .before .before in
     let a = at-loop .before .before .args in
     let l = at-loop .loop in
-    rw (c .union .ensures, c .before .lead-into .ensures, c .before .before .without .ensures)
+    rw (c .union .ensures, c .before .look .ensures .0, c .before .before .without .ensures)
     (gathering-less (a .rows .now) (a .within) (a .these) (l .lead) (l .before) (l .inv)
     (c .before .before .before .loop-test .taken))
 
@@ -36,7 +36,7 @@ loop-again c =
     let at-loop = c .before .before .before .before in
     let a = at-loop .before .before .args in
     let l = at-loop .loop in
-    rw (c .union .ensures, c .before .lead-into .ensures, c .before .before .without .ensures)
+    rw (c .union .ensures, c .before .look .ensures .0, c .before .before .without .ensures)
     (gathering-on (a .rows .now) (a .within) (a .these) (l .lead) (l .before) (l .inv))
 
 returns : tie.Need-returns Inv-loop μ-loop

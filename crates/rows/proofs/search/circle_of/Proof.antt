@@ -4,7 +4,7 @@ use Prim.Native.Nat.{_<_}
 use mathlib.Core.Path.{sym, _∙_}
 use borrow.Author.Needs.{needs}
 use Rattle.model.specs.Board.{devices}
-use Rattle.rows.proofs.CameBack.{on-board}
+use Rattle.rows.proofs.Looked.{on-board}
 use Rattle.rows.proofs.OnCircle.{circle-passed, circle-behind}
 use Rattle.rows.proofs.search.circle_of.Statement.{statement}
 use Rattle.rows.proofs.search.circle_of.Tie as tie
@@ -13,9 +13,7 @@ use Rattle.rows.proofs.search.circle_of.Tie as tie
 board : (start : tie.Start) → start .args .walked .at < devices
 board start =
     let a = start .args in
-    rw (start .pre .0) at
-    (on-board (a .rows .now) (a .left) (a .left) (a .walked .at) (rw (start .pre .0) (start .fits .left .fits))
-    (start .pre .2))
+    on-board devices (a .left) (a .walked .at) (start .fits .left .fits) (start .pre .2)
 
 -- nothing else was reached
 returns : tie.Need-returns

@@ -22,18 +22,18 @@ loop-holds c =
 
 loop-less : tie.Need-loop-less Inv-loop μ-loop
 loop-less c =
-    let at-loop = c .before .before in
+    let at-loop = c .before .before .before in
     let a = at-loop .before .before .args in
     let l = at-loop .loop in
-    rw (c .between .ensures)
-    (taking-less (a .rows .now) (a .left) (l .stays) (l .before) (l .inv) (c .before .loop-test .taken))
+    rw (c .both .ensures, c .before .look .ensures .0, c .before .look .ensures .1)
+    (taking-less (a .rows .now) (a .left) (l .stays) (l .before) (l .inv) (c .before .before .loop-test .taken))
 
 loop-again : tie.Need-loop-again Inv-loop μ-loop
 loop-again c =
-    let at-loop = c .before .before in
+    let at-loop = c .before .before .before in
     let a = at-loop .before .before .args in
     let l = at-loop .loop in
-    rw (c .between .ensures) (taking-on (a .rows .now) (a .left) (l .stays) (l .before) (l .inv))
+    rw (c .both .ensures, c .before .look .ensures .0, c .before .look .ensures .1) (taking-on (a .rows .now) (a .left) (l .stays) (l .before) (l .inv))
 
 returns : tie.Need-returns Inv-loop μ-loop
 returns c =
@@ -45,4 +45,4 @@ returns c =
 pub trim-spec : {M : Type 1} → statement M
 trim-spec =
     tie.close
-    (tie.spec Inv-loop μ-loop loop-holds (λ c κs. search needs) loop-less loop-again returns)
+    (tie.spec Inv-loop μ-loop loop-holds (λ c κs. search needs) (λ c κs. search needs) loop-less loop-again returns)

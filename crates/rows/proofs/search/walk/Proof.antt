@@ -7,7 +7,8 @@ use native.Mathlib.Omega.{arith}
 use lib.ListN.{length}
 use borrow.Author.Needs.{needs}
 use Rattle.model.specs.Sets.{member}
-use Rattle.rows.proofs.CameBack.{Walking, walking-begins, walking-on, walking-less, walking-ends, on-board}
+use Rattle.rows.proofs.CameBack.{Walking, walking-begins, walking-on, walking-less, walking-ends}
+use Rattle.rows.proofs.Looked.{on-board}
 use Rattle.rows.proofs.search.walk.Statement.{statement}
 use Rattle.rows.proofs.search.walk.Tie as tie
 
@@ -37,7 +38,7 @@ here c = sym (c .before .member .ensures) ∙ c .if1 .taken
 board : (c : tie.Then1 Inv-loop μ-loop) → c .before .before .loop .at < length (rows c)
 board c =
     let l = c .before .before .loop in
-    on-board (rows c) (start c .args .left) (l .rest) (l .at) (l .inv .restBelow) (here c)
+    on-board (length (rows c)) (l .rest) (l .at) (l .inv .restBelow) (here c)
 
 cast-both : tie.Need-cast-both Inv-loop μ-loop
 cast-both c = let at-test = c .before .before in omega (arith, board at-test, start at-test .pre .0)

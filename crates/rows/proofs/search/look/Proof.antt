@@ -1,28 +1,33 @@
--- `rows::search::lead_into` meets its contract: the set so far has what leads into the other from device d on.
+-- `rows::search::look` meets its contract: each of the two sets so far is that from device d on.
 use Prim.Native.Nat.{ℕ, _-_, _≤_}
 use mathlib.Core.Bool.{cond}
 use mathlib.Core.Path.{_≡_, _∙_, ap}
 use native.Mathlib.Omega.{arith}
 use borrow.Author.Needs.{needs}
 use Rattle.model.specs.Board.{devices}
-use Rattle.model.specs.Sets.{empty, union}
+use Rattle.model.specs.Sets.{empty, union, lowestOf}
 use Rattle.rows.specs.Search.{meet, rowAt, rowIn}
 use Rattle.rows.proofs.Where.{joinedFrom, joined-begins, joined-grows}
-use Rattle.rows.proofs.Looked.{intoAt, row-chosen, into-chosen, into-whole}
-use Rattle.rows.proofs.search.lead_into.Statement.{statement}
-use Rattle.rows.proofs.search.lead_into.Tie as tie
+use Rattle.rows.proofs.Looked.{intoAt, row-chosen, into-chosen, into-whole, onward-whole}
+use Rattle.rows.proofs.search.look.Statement.{statement}
+use Rattle.rows.proofs.search.look.Tie as tie
 
 abbrev Inv-loop : tie.InvT-loop
-Inv-loop rows within s low into₀ d₀ into d = (d ≤ devices) × (into ≡ joinedFrom devices (intoAt rows within s) d)
+Inv-loop rows within s low into₀ onto₀ d₀ into onto d =
+    (d ≤ devices) × (into ≡ joinedFrom devices (intoAt rows within s) d)
+    × (onto ≡ joinedFrom devices (rowIn rows within) d)
 
 abbrev μ-loop : tie.MeasureT-loop
-μ-loop rows within s low into₀ d₀ into d = d
+μ-loop rows within s low into₀ onto₀ d₀ into onto d = d
 
 loop-holds : tie.Need-loop-holds Inv-loop μ-loop
 unfolding empty
 loop-holds c =
-    let a = c .before .before .args in
-    (search needs, joined-begins devices _ (intoAt (a .rows .now) (a .within) (a .s)) (omega arith))
+    let a = c .before .before .args in (
+      search needs,
+      joined-begins devices _ (intoAt (a .rows .now) (a .within) (a .s)) (omega arith),
+      joined-begins devices _ (rowIn (a .rows .now) (a .within)) (omega arith),
+    )
 
 -- where a row is chosen
 abbrev start : tie.After-if-of Inv-loop μ-loop → tie.Start Inv-loop μ-loop
@@ -40,32 +45,38 @@ row-is c =
 
 loop-again : tie.Need-loop-again Inv-loop μ-loop
 loop-again c =
-    let at-of = c .before .before in
+    let at-of = c .before .before .before in
     let l = at-of .before .before .before .before .loop in
     let a = start at-of .args in (
       omega arith,
-      c .union .ensures
+      c .before .union .ensures
           ∙ ap (λ (x : ℕ). union x (l .into))
-          (c .before .if-into .ensures
+          (c .before .before .if-into .ensures
           ∙ ap (λ (x : ℕ). cond (meet (at-of .if-of .result) (a .s)) x empty) (at-of .before .before .only .ensures)
           ∙ into-chosen (a .rows .now) devices (a .within) (a .s) (l .d - 1) (omega arith) (at-of .if-of .result)
           (row-is at-of))
           ∙ joined-grows devices (l .d) (intoAt (a .rows .now) (a .within) (a .s)) (l .into) (omega arith) (l .inv .0)
           (l .inv .1),
+      c .union2 .ensures
+          ∙ ap (λ (x : ℕ). union x (l .onto)) (row-is at-of)
+          ∙ joined-grows devices (l .d) (rowIn (a .rows .now) (a .within)) (l .onto) (omega arith) (l .inv .0) (l .inv .2),
     )
 
 returns : tie.Need-returns Inv-loop μ-loop
 returns c =
     let l = c .before .loop in
     let start = c .before .before .before .before in
-    let a = start .args in
-    l .inv .1
-    ∙ into-whole (a .rows .now) devices (l .d) (a .within) (start .pre) (l .inv .0)
-    (omega (arith, c .loop-test .left, c .before .before .last-looked-at .ensures)) (a .s)
+    let rs = start .args .rows .now in
+    let within = start .args .within in
+    let low : l .d ≤ lowestOf devices within =
+    omega (arith, c .loop-test .left, c .before .before .last-looked-at .ensures) in (
+      l .inv .1 ∙ into-whole rs devices (l .d) within (start .pre) (l .inv .0) low (start .args .s),
+      l .inv .2 ∙ onward-whole rs devices (l .d) within (start .pre) (l .inv .0) low,
+    )
 
-pub lead-into-spec : {M : Type 1} → statement M
-lead-into-spec =
+pub look-spec : {M : Type 1} → statement M
+look-spec =
     tie.close
     (tie.spec Inv-loop μ-loop (λ c κs. search needs) loop-holds (λ c. search needs) (λ c. omega arith)
     (λ c κs. search needs) (λ c. search needs) (λ c. search needs) (λ c κs. search needs) (λ c κs. search needs)
-    (λ c κs. search needs) (λ c. search needs) loop-again returns)
+    (λ c κs. search needs) (λ c κs. search needs) (λ c. search needs) loop-again returns)
