@@ -59,7 +59,8 @@ loop-again c =
           (l .inv .1),
       c .union2 .ensures
           ∙ ap (λ (x : ℕ). union x (l .onto)) (row-is at-of)
-          ∙ joined-grows devices (l .d) (rowIn (a .rows .now) (a .within)) (l .onto) (omega arith) (l .inv .0) (l .inv .2),
+          ∙ joined-grows devices (l .d) (rowIn (a .rows .now) (a .within)) (l .onto) (omega arith) (l .inv .0)
+          (l .inv .2),
     )
 
 returns : tie.Need-returns Inv-loop μ-loop

@@ -33,7 +33,8 @@ loop-again c =
     let at-loop = c .before .before .before in
     let a = at-loop .before .before .args in
     let l = at-loop .loop in
-    rw (c .both .ensures, c .before .look .ensures .0, c .before .look .ensures .1) (taking-on (a .rows .now) (a .left) (l .stays) (l .before) (l .inv))
+    rw (c .both .ensures, c .before .look .ensures .0, c .before .look .ensures .1)
+    (taking-on (a .rows .now) (a .left) (l .stays) (l .before) (l .inv))
 
 returns : tie.Need-returns Inv-loop μ-loop
 returns c =
