@@ -1,6 +1,6 @@
 /*
- * A screen in C: shows a plan with its lines, its order and its claims, judges an order of another's making, and then
- * moves a claim.
+ * A screen in C: shows a plan with its lines, its order and its claims, judges an order of another's making, moves a
+ * claim with a quick verdict before and after, and then moves it once more by the table alone.
  *
  *   example [FILE [LINE DEVICE]]
  *
@@ -130,6 +130,47 @@ static int show_judge(const uint32_t *plan, size_t lines) {
     return 0;
 }
 
+/* What is kept beside a plan, for a verdict after each move. */
+struct beside {
+    uint32_t sets[GIMMERSKIP_MAX_LINES];
+    uint32_t rows[GIMMERSKIP_ROWS];
+    uint32_t held[1];
+};
+
+/* One line for each device that is held to the end: what is claimed behind the line that keeps it. Then the quick
+   verdict: no order, but whether there is one. */
+static int show_quick(const uint32_t *plan, size_t lines, const struct beside *kept) {
+    for (unsigned device = 0; device < GIMMERSKIP_ROWS; device++)
+        if (kept->held[0] >> device & 1) {
+            printf("row of device %u:", device);
+            show_set(kept->rows[device]);
+            printf("\n");
+        }
+    uint64_t held = gimmerskip_quick(plan, lines, kept->rows, GIMMERSKIP_ROWS);
+    if (refused("quick", held))
+        return 1;
+    printf("quick: there is an order, %u held\n", (unsigned)held);
+    return 0;
+}
+
+/* Moves the claim of a line in a copy of the plan, with rows and held set kept: they are built once, and could be moved
+   and looked at all morning. A claim may be moved in a plan without an order too. */
+static int show_kept(const uint32_t *before, size_t lines, uint32_t line, uint32_t device) {
+    uint32_t plan[GIMMERSKIP_MAX_LINES];
+    struct beside kept;
+    memcpy(plan, before, lines * sizeof plan[0]);
+    if (refused("build", gimmerskip_build(plan, lines, kept.sets, GIMMERSKIP_MAX_LINES, kept.rows, GIMMERSKIP_ROWS,
+                                          kept.held, 1)))
+        return 1;
+    int status = show_quick(plan, lines, &kept);
+    uint64_t changed = gimmerskip_move_kept(plan, lines, kept.sets, GIMMERSKIP_MAX_LINES, kept.rows, GIMMERSKIP_ROWS,
+                                            kept.held, 1, line, device);
+    if (refused("move_kept", changed))
+        return 1;
+    printf("move_kept: line %u to device %u, %u sets changed\n", (unsigned)line, (unsigned)device, (unsigned)changed);
+    return status | show_quick(plan, lines, &kept);
+}
+
 /* The plan as text. */
 static int show_text(const uint32_t *plan, size_t lines) {
     uint8_t text[GIMMERSKIP_MAX_BYTES];
@@ -140,7 +181,7 @@ static int show_text(const uint32_t *plan, size_t lines) {
     return fwrite(text, 1, (size_t)bytes, stdout) != (size_t)bytes;
 }
 
-/* Moves the claim of a line, and shows the plan and the table that this leaves. */
+/* Moves the claim of a line by the table alone, and shows the plan and the table that this leaves. */
 static int show_move(uint32_t *plan, uint32_t *sets, size_t lines, uint32_t line, uint32_t device) {
     uint64_t changed = gimmerskip_move(plan, lines, sets, lines, line, device);
     if (refused("move", changed))
@@ -166,6 +207,7 @@ static int show(const uint8_t *text, size_t n, uint32_t line, uint32_t device) {
     show_sets(sets, (size_t)lines);
     status |= show_order(plan, (size_t)lines);
     status |= show_judge(plan, (size_t)lines);
+    status |= show_kept(plan, (size_t)lines, line, device);
     return status | show_move(plan, sets, (size_t)lines, line, device);
 }
 

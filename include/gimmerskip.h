@@ -1,9 +1,9 @@
 /*
  * Gimmerskip for C and C++: plans as text or as packed numbers, their tables of claims, their orders, orders from
- * elsewhere, and moved claims.
+ * elsewhere, and moved claims, with rows kept for a quick verdict after each move.
  *
  * The archives are for x86-64 Linux, with the calls of the System V ABI. Link libscreen.a for gimmerskip_order,
- * libreader.a for gimmerskip_line and libport.a for the other six; each stands by itself. The commands `rt staticlib
+ * libreader.a for gimmerskip_line and libport.a for the other nine; each stands by itself. The commands `rt staticlib
  * screen`, `rt staticlib reader` and `rt staticlib port` leave them in target/staticlib, and `install-archives PREFIX`
  * puts them with this header and a file for pkg-config under a prefix. Of other libraries they need `memcpy` and
  * `memset` alone, and the only names they define for others are those declared here. No entry keeps anything of what it
@@ -34,12 +34,13 @@ extern "C" {
 /*
  * The version, in three numbers and as a text; it is that of the wrapper for Rust and of the command too. A new entry
  * or refusal raises the second number, and so does what an entry answers otherwise than before: gimmerskip_judge came
- * with 0.2.0, and since 0.3.0 a job may take again what it holds.
+ * with 0.2.0, since 0.3.0 a job may take again what it holds, and gimmerskip_build, gimmerskip_move_kept and
+ * gimmerskip_quick came with 0.4.0.
  */
 #define GIMMERSKIP_VERSION_MAJOR 0
-#define GIMMERSKIP_VERSION_MINOR 3
-#define GIMMERSKIP_VERSION_PATCH 1
-#define GIMMERSKIP_VERSION "0.3.1"
+#define GIMMERSKIP_VERSION_MINOR 4
+#define GIMMERSKIP_VERSION_PATCH 0
+#define GIMMERSKIP_VERSION "0.4.0"
 
 /* The most lines of a plan. Lists of so many entries are long enough for every plan. */
 #define GIMMERSKIP_MAX_LINES 1024
@@ -47,6 +48,8 @@ extern "C" {
 #define GIMMERSKIP_MAX_BYTES 12288
 /* The least room that gimmerskip_order asks for: the longest print there is. */
 #define GIMMERSKIP_SCREEN_ROOM 4027
+/* The rows that are kept beside a table: one set for each device. */
+#define GIMMERSKIP_ROWS 32
 
 /*
  * The bytes of stack that are enough for each entry, its return address counted. What the compiled code can need at
@@ -64,7 +67,10 @@ extern "C" {
 #define GIMMERSKIP_STACK_TABLE 8096
 #define GIMMERSKIP_STACK_VERDICT 9552
 #define GIMMERSKIP_STACK_JUDGE 8352
-#define GIMMERSKIP_STACK_MOVE 8624
+#define GIMMERSKIP_STACK_MOVE 8768
+#define GIMMERSKIP_STACK_BUILD 9280
+#define GIMMERSKIP_STACK_MOVE_KEPT 10368
+#define GIMMERSKIP_STACK_QUICK 8096
 
 /* Why an entry refuses. Each comment says what the place of that refusal is. 8 is free: it was given where a job takes
    a device that it holds, which is allowed now. */
@@ -78,7 +84,7 @@ enum gimmerskip_refusal {
     GIMMERSKIP_GIVE_WITHOUT_TAKE = 7,    /* the given device is not the latest its job still holds; that line */
     GIMMERSKIP_TWO_LASTING = 9,          /* more than one lasting take of a device; the lowest such device */
     GIMMERSKIP_LEADS_BACK = 10,          /* a device leads to itself again; the lowest such device */
-    GIMMERSKIP_LIST_TOO_SHORT = 11,      /* the list to fill is too short; the length it needs */
+    GIMMERSKIP_LIST_TOO_SHORT = 11,      /* a lent list is too short; the length it needs */
     GIMMERSKIP_NOT_A_TAKE = 12,          /* the line to move is no take of the plan; the line that was asked */
     GIMMERSKIP_NO_SUCH_DEVICE = 13,      /* a claim cannot move to a device over 31; the device that was asked */
     GIMMERSKIP_STALE_TABLE = 14,         /* a set that the move may change does not fit; the first such line */
@@ -180,6 +186,60 @@ uint64_t gimmerskip_judge(const uint32_t *plan, size_t n, const uint16_t *order,
  *         device that its job holds, and from one, and a plan without a legal order can be moved too.
  */
 uint64_t gimmerskip_move(uint32_t *plan, size_t n, uint32_t *sets, size_t room, uint32_t line, uint32_t device);
+
+/*
+ * Kept rows: a verdict after each of many moves. Beside a plan and its table are lent its rows, one set a device, and
+ * its held set, a list of one set: the devices that are held to the end. The row of such a device has whatever is
+ * claimed behind its lasting takes, which are those without a give; other devices have an empty row. gimmerskip_build
+ * is called once; then each move is made by gimmerskip_move_kept, in place of gimmerskip_move, and gimmerskip_quick,
+ * in place of gimmerskip_verdict, says whether the plan has a legal order by then:
+ *
+ *     uint32_t sets[GIMMERSKIP_MAX_LINES], rows[GIMMERSKIP_ROWS], held[1];
+ *     gimmerskip_build(plan, n, sets, GIMMERSKIP_MAX_LINES, rows, GIMMERSKIP_ROWS, held, 1);
+ *     gimmerskip_move_kept(plan, n, sets, GIMMERSKIP_MAX_LINES, rows, GIMMERSKIP_ROWS, held, 1, line, device);
+ *     answer = gimmerskip_quick(plan, n, rows, GIMMERSKIP_ROWS);
+ *
+ * So kept, all three are after any number of moves, refused ones among them, what gimmerskip_build makes of the plan as
+ * it is by then. Do not use gimmerskip_move between: it mends the table alone. Rows and held set are not tested for
+ * being the plan's own, as the table is by 14; what the entries do with others is said at each.
+ */
+
+/*
+ * Makes what is kept beside a plan.
+ * Reads   the n packed numbers at plan.
+ * Writes  into sets the claim set of each line, as gimmerskip_table does, into rows the GIMMERSKIP_ROWS rows, and into
+ *         held one set.
+ * Answers the number of lines, n. Refuses with 2 to 7 where the list is no plan, then with 11 where sets has less room
+ *         than n, then where rows has less than GIMMERSKIP_ROWS, then where held has none; the lists are then as they
+ *         were.
+ */
+uint64_t gimmerskip_build(const uint32_t *plan, size_t n, uint32_t *sets, size_t room, uint32_t *rows, size_t rows_room,
+                          uint32_t *held, size_t held_room);
+
+/*
+ * Moves the claim of a line as gimmerskip_move does, and keeps rows and held set.
+ * Reads   what gimmerskip_move reads, GIMMERSKIP_ROWS rows and one held set.
+ * Writes  into plan and sets what gimmerskip_move writes; into rows those of the old device, of the new one, and of
+ *         each device that is taken for good on the way or under the take, as the edited plan and the mended sets
+ *         give them; into held the bits of the old device and of the new one, as the edited plan has them. All
+ *         other rows and bits stay as they were lent, so that of rows and a held set that are not the plan's own just
+ *         these are mended. It is so too for a move to the device where the claim is, which answers 0.
+ * Answers what gimmerskip_move answers: the number of lines whose set is now another. Refuses with 2 to 7, then with 11
+ *         for sets, rows and held, in this order, then with 12, 13 or 14; all four lists are then as they were.
+ */
+uint64_t gimmerskip_move_kept(uint32_t *plan, size_t n, uint32_t *sets, size_t room, uint32_t *rows, size_t rows_room,
+                              uint32_t *held, size_t held_room, uint32_t line, uint32_t device);
+
+/*
+ * The quick verdict, by kept rows.
+ * Reads   the n packed numbers at plan and the first GIMMERSKIP_ROWS rows.
+ * Writes  nothing, and hands out no order.
+ * Answers the number of devices that are held to the end, by the plan. Refuses with 2 to 7 where the list is no plan,
+ *         then with 11 where there are fewer rows, then with 9 by the plan, then with 10 where by the rows, as they are
+ *         lent, a device leads back to itself. Where the rows are the plan's own, answer and refusal are those of
+ *         gimmerskip_verdict; of other rows a 10, or that there is none, says no more than this.
+ */
+uint64_t gimmerskip_quick(const uint32_t *plan, size_t n, const uint32_t *rows, size_t rows_room);
 
 #ifdef __cplusplus
 }

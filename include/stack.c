@@ -17,9 +17,12 @@
 #include <stdlib.h>
 #include <string.h>
 
-enum { ROUNDS = 5000, LINES = GIMMERSKIP_MAX_LINES, BYTES = GIMMERSKIP_MAX_BYTES, DEVICES = 32, JOBS = 64 };
+enum { LINES = GIMMERSKIP_MAX_LINES, BYTES = GIMMERSKIP_MAX_BYTES, DEVICES = GIMMERSKIP_ROWS };
+enum { ROUNDS = 5000, JOBS = 64 };
 enum kind { DO, TAKE, GIVE, START };
-enum entry { NOTHING, ORDER, LINE, READ, WRITE, TABLE, VERDICT, JUDGE, MOVE, CIRCLES, ENTRIES };
+enum entry {
+    NOTHING, ORDER, LINE, READ, WRITE, TABLE, VERDICT, JUDGE, MOVE, BUILD, MOVE_KEPT, QUICK, CIRCLES, ENTRIES
+};
 
 /* The circle search by itself: no entry of the library, and so in an archive of its own. */
 uint32_t bare_circles(const uint32_t rows[DEVICES]);
@@ -43,6 +46,9 @@ static struct {
     [VERDICT] = {"verdict", GIMMERSKIP_STACK_VERDICT, 0xefd, 0, 0, 0},
     [JUDGE] = {"judge", GIMMERSKIP_STACK_JUDGE, 0x80fd, 0, 0, 0},
     [MOVE] = {"move", GIMMERSKIP_STACK_MOVE, 0x78fd, 0, 0, 0},
+    [BUILD] = {"build", GIMMERSKIP_STACK_BUILD, 0x8fd, 0, 0, 0},
+    [MOVE_KEPT] = {"move_kept", GIMMERSKIP_STACK_MOVE_KEPT, 0x78fd, 0, 0, 0},
+    [QUICK] = {"quick", GIMMERSKIP_STACK_QUICK, 0xefd, 0, 0, 0},
     [CIRCLES] = {"circles", STACK_OF_CIRCLES, 0x1, 0, 0, 0},
 };
 
@@ -52,9 +58,13 @@ struct call {
     const uint8_t *text;
     uint32_t *plan;
     uint32_t *sets;
+    uint32_t *rows;
+    uint32_t *held;
     const uint16_t *order;
     size_t n;
     size_t room;
+    size_t rows_room;
+    size_t held_room;
     size_t offset;
     uint32_t line;
     uint32_t device;
@@ -64,6 +74,8 @@ struct call {
 static uint8_t out_bytes[BYTES];
 static uint32_t out_plan[LINES + 1];
 static uint32_t out_sets[LINES + 1];
+static uint32_t out_rows[DEVICES + 1];
+static uint32_t out_held[2];
 static uint16_t out_order[LINES + 1];
 
 /* Needs its return address and no more. */
@@ -95,7 +107,15 @@ static __attribute__((noinline)) void make_call(struct call *c) {
     case VERDICT: c->answer = gimmerskip_verdict(c->plan, c->n, out_order, c->room); break;
     case JUDGE: c->answer = gimmerskip_judge(c->plan, c->n, c->order, c->room); break;
     case MOVE: c->answer = gimmerskip_move(c->plan, c->n, c->sets, c->room, c->line, c->device); break;
-    case CIRCLES: c->answer = bare_circles(c->sets); break;
+    case BUILD:
+        c->answer = gimmerskip_build(c->plan, c->n, out_sets, c->room, out_rows, c->rows_room, out_held, c->held_room);
+        break;
+    case MOVE_KEPT:
+        c->answer = gimmerskip_move_kept(c->plan, c->n, c->sets, c->room, c->rows, c->rows_room, c->held, c->held_room,
+                                         c->line, c->device);
+        break;
+    case QUICK: c->answer = gimmerskip_quick(c->plan, c->n, c->rows, c->rows_room); break;
+    case CIRCLES: c->answer = bare_circles(c->rows); break;
     default: c->answer = nothing(); break;
     }
 }
@@ -129,13 +149,19 @@ static size_t overhead;
 
 /* A move changes what it is lent, so that it works on copies, made anew for each paint. */
 static size_t depth_of_copy(const struct call *c, int paint, uint64_t *answer) {
-    static uint32_t plan[LINES + 1], sets[LINES + 1];
+    static uint32_t plan[LINES + 1], sets[LINES + 1], rows[DEVICES + 1], held[2];
     struct call copy = *c;
-    if (c->which == MOVE) {
+    if (c->which == MOVE || c->which == MOVE_KEPT) {
         memcpy(plan, c->plan, sizeof plan);
         memcpy(sets, c->sets, sizeof sets);
         copy.plan = plan;
         copy.sets = sets;
+    }
+    if (c->which == MOVE_KEPT) {
+        memcpy(rows, c->rows, sizeof rows);
+        memcpy(held, c->held, sizeof held);
+        copy.rows = rows;
+        copy.held = held;
     }
     size_t depth = depth_on(&copy, paint);
     *answer = copy.which == ORDER ? printed_number((size_t)copy.answer) : copy.answer;
@@ -199,29 +225,66 @@ static void try_text(const uint8_t *text, size_t n) {
     }
 }
 
+/* Both moves, the plain one and the one that keeps rows. */
+static void measure_moves(struct call c) {
+    c.which = MOVE;
+    measure(c);
+    c.which = MOVE_KEPT;
+    measure(c);
+}
+
 /* Moves: of a line and a device that may be, of some that are not, with a table that is short and one that is stale. */
-static void try_moves(struct list *l, uint32_t *sets) {
-    struct call c = {.which = MOVE, .plan = l->lines, .sets = sets, .n = l->n, .room = LINES};
+static void try_moves(struct list *l, uint32_t *sets, uint32_t *rows, uint32_t *held) {
+    struct call c = {.plan = l->lines, .sets = sets, .rows = rows, .held = held, .n = l->n, .room = LINES};
     uint32_t stale;
+    c.rows_room = DEVICES;
+    c.held_room = 1;
     for (size_t k = 0; k < 6; k++) {
         c.line = l->n ? 1 + below((uint32_t)l->n) : 1;
         c.device = below(DEVICES);
-        measure(c);
+        measure_moves(c);
     }
     stale = below(l->n ? (uint32_t)l->n : 1);
     sets[stale] ^= (uint32_t)1 << below(DEVICES);
     c.line = stale + 1;
-    measure(c);
+    measure_moves(c);
     sets[0] ^= 0x80000001u;
-    measure(c);
+    measure_moves(c);
     c.device = DEVICES + below(100);
-    measure(c);
+    measure_moves(c);
     c.line = (uint32_t)l->n + below(3);
-    measure(c);
+    measure_moves(c);
     c.line = 0;
+    measure_moves(c);
+    c.room = l->n ? below((uint32_t)l->n) : 0;
+    measure_moves(c);
+}
+
+/* What is kept beside a list: built with room and without, quick verdicts by the rows that were built, by others, and
+   by too few; and moves, with the rows that were built or others. */
+static void try_kept(struct list *l) {
+    static uint32_t sets[LINES + 1], rows[DEVICES + 1], held[2];
+    struct call c = {.which = BUILD, .plan = l->lines, .rows = rows, .n = l->n, .room = LINES};
+    c.rows_room = below(DEVICES);
     measure(c);
+    c.rows_room = DEVICES;
+    measure(c);
+    c.held_room = 1;
+    measure(c);
+    memcpy(sets, out_sets, sizeof sets);
+    memcpy(rows, out_rows, sizeof rows);
+    memcpy(held, out_held, sizeof held);
     c.room = l->n ? below((uint32_t)l->n) : 0;
     measure(c);
+    c.which = QUICK;
+    measure(c);
+    c.rows_room = below(DEVICES);
+    measure(c);
+    c.rows_room = DEVICES;
+    for (uint32_t d = below(2) * DEVICES; d < DEVICES; d++)
+        rows[d] = below(UINT32_MAX) & below(UINT32_MAX) & below(UINT32_MAX) & below(UINT32_MAX);
+    measure(c);
+    try_moves(l, sets, rows, held);
 }
 
 /* Orders from elsewhere: the one handed out last, whole, with another entry, cut off, and going on. */
@@ -241,7 +304,6 @@ static void try_orders(struct list *l) {
 
 /* The entries that are lent a packed list, whatever it holds. */
 static void try_list(struct list *l) {
-    static uint32_t sets[LINES + 1];
     struct call c = {.plan = l->lines, .n = l->n, .room = BYTES};
     c.which = WRITE;
     measure(c);
@@ -250,7 +312,6 @@ static void try_list(struct list *l) {
     c.which = TABLE;
     c.room = LINES;
     measure(c);
-    memcpy(sets, out_sets, sizeof sets);
     c.which = VERDICT;
     measure(c);
     try_orders(l);
@@ -258,7 +319,7 @@ static void try_list(struct list *l) {
     measure(c);
     c.which = TABLE;
     measure(c);
-    try_moves(l, sets);
+    try_kept(l);
 }
 
 /* The text of a packed list of lines, plan or no plan; a number that is no line's is left as it comes out. */
@@ -433,7 +494,7 @@ static void ring_rows(uint32_t rows[DEVICES], uint32_t length, uint32_t jump, in
 /* The circle search by itself, on any rows. */
 static void try_rows(void) {
     static uint32_t rows[DEVICES];
-    const struct call c = {.which = CIRCLES, .sets = rows};
+    const struct call c = {.which = CIRCLES, .rows = rows};
     for (uint32_t round = 0; round < ROUNDS; round++) {
         fill_rows(rows, round % 8);
         measure(c);
@@ -545,7 +606,7 @@ static int report(enum entry e) {
     int over = known[e].most > known[e].bound;
     int missed = known[e].seen != known[e].numbers;
     int few = e != NOTHING && known[e].calls < ROUNDS;
-    printf("%-8s %8zu calls, at most %6zu bytes of stack, bound %6zu\n", known[e].name, known[e].calls, known[e].most,
+    printf("%-9s %8zu calls, at most %6zu bytes of stack, bound %6zu\n", known[e].name, known[e].calls, known[e].most,
            known[e].bound);
     if (over)
         printf("%s: the bound is passed\n", known[e].name);

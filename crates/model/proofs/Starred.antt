@@ -1,8 +1,9 @@
 -- 01, "Plans with their verdicts": the starred cases A to I, with B's move, as one table, and J to N for what 02,
--- request 2, says of a device that is taken again. Each row has what an entry makes of a case, computed from the
--- definitions, and what 01 or 02 says it is: the values of the answer (0 and the value, or a refusal's number and
--- place), then each lent list. The record is the one statement.
-use Prim.Native.Nat.{ℕ, _+_}
+-- request 2, says of a device that is taken again. Then tables of the same form for 02, request 4: what is built beside
+-- a plan, what moves make of rows and of the held set, and the quick verdict. Each row has what an entry makes of a
+-- case, computed from the definitions, and what 01 or 02 says it is: the values of the answer (0 and the value, or a
+-- refusal's number and place), then each lent list. The records are the statements.
+use Prim.Native.Nat.{ℕ, _+_, _-_}
 use mathlib.Core.List.{List, [], _∷_, _++_}
 use mathlib.Core.Path.{_≡_, refl}
 use lib.ListN.{length, replicate}
@@ -13,6 +14,7 @@ use Rattle.model.specs.declared.TableAnswer.{TableAnswer}
 use Rattle.model.specs.declared.VerdictAnswer.{VerdictAnswer}
 use Rattle.model.specs.declared.MoveAnswer.{MoveAnswer}
 use Rattle.model.specs.Entries.{Outcome, Lent, tabling, ordering, moving}
+use Rattle.model.specs.Kept.{Beside, besideOf, building, LentBeside, movingKept, quick}
 use Rattle.model.specs.Board.{devices}
 
 infix 90 _does_
@@ -199,4 +201,154 @@ starred =
       M-back = refl;
       N = refl;
       N-table = refl;
+    }
+
+-- ---- 02, request 4: rows and held set kept beside the table
+
+-- C with line 3, a pair's take, moved to device 2; and with line 2, a lasting take, moved to device 3
+pub planC′ : List ℕ
+unfolding _takes_ _gives_ _starts_
+planC′ = 1 starts 2 ∷ 1 takes 0 ∷ 1 takes 2 ∷ 1 gives 2 ∷ 2 takes 1 ∷ 2 takes 0 ∷ 2 gives 0 ∷ []
+
+pub planC″ : List ℕ
+unfolding _takes_ _gives_ _starts_
+planC″ = 1 starts 2 ∷ 1 takes 3 ∷ 1 takes 1 ∷ 1 gives 1 ∷ 2 takes 1 ∷ 2 takes 0 ∷ 2 gives 0 ∷ []
+
+-- J with its lasting take moved to device 1, so that the take again comes to be outermost, and lasts
+pub planJ′ : List ℕ
+unfolding _takes_
+planJ′ = 1 takes 1 ∷ 1 takes 3 ∷ []
+
+-- O: two lasting takes of a device, at lines 2 and 5, and a pair after each; its row has 1 for the first and 0 for the
+-- other. O with line 3 moved to device 2.
+pub planO : List ℕ
+unfolding _takes_ _gives_ _starts_
+planO = 1 starts 2 ∷ 1 takes 3 ∷ 1 takes 1 ∷ 1 gives 1 ∷ 2 takes 3 ∷ 2 takes 0 ∷ 2 gives 0 ∷ []
+
+pub planO′ : List ℕ
+unfolding _takes_ _gives_ _starts_
+planO′ = 1 starts 2 ∷ 1 takes 3 ∷ 1 takes 2 ∷ 1 gives 2 ∷ 2 takes 3 ∷ 2 takes 0 ∷ 2 gives 0 ∷ []
+
+-- Lists to lend, one place longer than needed, with 99 in that place: the plan's own; and its table with rows and a
+-- held set that are not its own, 99 in each place. As a set 99 has the devices 0, 1, 5 and 6.
+unfoldable pub ownLent : List ℕ → Beside
+unfolding besideOf
+ownLent p =
+    let b : Beside = besideOf devices p in
+    record { sets = b .sets ++ (99 ∷ []); rows = b .rows ++ (99 ∷ []); held = b .held ++ (99 ∷ []) }
+
+unfoldable pub foreign : List ℕ → Beside
+foreign sets = record { sets = sets; rows = replicate (devices + 1) 99; held = 99 ∷ 99 ∷ [] }
+
+-- 33 rows: the first four, the others up to 32, and the place past them
+unfoldable pub fourOf : ℕ → ℕ → ℕ → ℕ → ℕ → List ℕ
+fourOf a b c d others = a ∷ b ∷ c ∷ d ∷ replicate (devices - 4) others ++ (99 ∷ [])
+
+unfoldable pub built : List ℕ → Beside → List (List ℕ)
+unfolding building
+built p b =
+    let o : Outcome TableAnswer Beside = building devices p b in
+    tableValues (o .answer) ∷ o .left .sets ∷ o .left .rows ∷ o .left .held ∷ []
+
+unfoldable pub rowsAfter : List ℕ → Beside → ℕ → ℕ → List (List ℕ)
+unfolding movingKept
+rowsAfter p b line device =
+    let o : Outcome MoveAnswer LentBeside = movingKept devices p b line device in
+    moveValues (o .answer) ∷ o .left .plan ∷ o .left .beside .rows ∷ []
+
+unfoldable pub heldAfter : List ℕ → Beside → ℕ → ℕ → List ℕ
+unfolding movingKept
+heldAfter p b line device = movingKept devices p b line device .left .beside .held
+
+unfoldable pub quickly : List ℕ → List ℕ → List ℕ
+unfolding quick
+quickly p rs = verdictValues (quick devices p rs)
+
+-- Building: C's row of 0 is {1}, since line 3 takes 1 after line 2, and that of 1 is {0}; both are held to the end. A
+-- list too short is told in the order table, rows, held set, and nothing is written.
+pub record StarredBuilt : Type 0 where
+  pub C : built planC (foreign (lent planC))
+      ≡ (0 ∷ 7 ∷ []) ∷ (3 ∷ 3 ∷ 2 ∷ 0 ∷ 3 ∷ 1 ∷ 0 ∷ 99 ∷ []) ∷ fourOf 2 1 0 0 0 ∷ (3 ∷ 99 ∷ []) ∷ []
+  pub O : built planO (foreign (lent planO))
+      ≡ (0 ∷ 7 ∷ []) ∷ (11 ∷ 10 ∷ 2 ∷ 0 ∷ 9 ∷ 1 ∷ 0 ∷ 99 ∷ []) ∷ fourOf 0 0 0 3 0 ∷ (8 ∷ 99 ∷ []) ∷ []
+  pub no-room : built planC (record { sets = 99 ∷ []; rows = 99 ∷ []; held = [] })
+      ≡ (11 ∷ 7 ∷ []) ∷ (99 ∷ []) ∷ (99 ∷ []) ∷ [] ∷ []
+  pub no-rows : built planC (record { sets = lent planC; rows = 99 ∷ []; held = [] })
+      ≡ (11 ∷ 32 ∷ []) ∷ lent planC ∷ (99 ∷ []) ∷ [] ∷ []
+  pub no-held : built planC (record { sets = lent planC; rows = lent planC ++ replicate 24 99; held = [] })
+      ≡ (11 ∷ 1 ∷ []) ∷ lent planC ∷ (lent planC ++ replicate 24 99) ∷ [] ∷ []
+
+-- Rows after a move. C: on the way of line 3 nothing lasts but line 2, so that the row of 0 changes with the new
+-- device; moved to device 3, line 2 takes its row along. J: the row of 1 gets what the take again of 3 now claims.
+-- O: the row of 3 keeps the part of its other take. Of rows that are not the plan's own those of the devices concerned
+-- are written, also by a move to the present device, and no others. The last table is not the plan's own at lines 5
+-- and 6, nor at line 1, which joins line 5's: the row of 1 is what it has for line 6.
+pub record StarredRows : Type 0 where
+  pub C : rowsAfter planC (ownLent planC) 3 2 ≡ (0 ∷ 3 ∷ []) ∷ planC′ ∷ fourOf 4 1 0 0 0 ∷ []
+  pub C-lasting : rowsAfter planC (ownLent planC) 2 3 ≡ (0 ∷ 2 ∷ []) ∷ planC″ ∷ fourOf 0 1 0 2 0 ∷ []
+  pub J : rowsAfter planJ (ownLent planJ) 1 1 ≡ (0 ∷ 2 ∷ []) ∷ planJ′ ∷ fourOf 0 8 0 0 0 ∷ []
+  pub O : rowsAfter planO (ownLent planO) 3 2 ≡ (0 ∷ 3 ∷ []) ∷ planO′ ∷ fourOf 0 0 0 5 0 ∷ []
+  pub C-foreign : rowsAfter planC (foreign (table planC)) 3 2 ≡ (0 ∷ 3 ∷ []) ∷ planC′ ∷ fourOf 4 1 0 99 99 ∷ []
+  pub C-lasting-foreign : rowsAfter planC (foreign (table planC)) 2 3
+      ≡ (0 ∷ 2 ∷ []) ∷ planC″ ∷ fourOf 0 99 99 2 99 ∷ []
+  pub C-present : rowsAfter planC (foreign (table planC)) 3 1 ≡ (0 ∷ 0 ∷ []) ∷ planC ∷ fourOf 2 1 99 99 99 ∷ []
+  pub C-table : rowsAfter planC (foreign (99 ∷ 3 ∷ 2 ∷ 0 ∷ 99 ∷ 8 ∷ 0 ∷ [])) 3 2
+      ≡ (0 ∷ 3 ∷ []) ∷ planC′ ∷ fourOf 4 8 0 99 99 ∷ []
+
+-- The held set after the same moves: a pair's take changes nothing of it; a lasting take's old device goes and its new
+-- one comes, unless the old one is taken to the end all the same (J, and line 5 of O). Other bits stay as lent.
+pub record StarredHeld : Type 0 where
+  pub C : heldAfter planC (ownLent planC) 3 2 ≡ 3 ∷ 99 ∷ []
+  pub C-lasting : heldAfter planC (ownLent planC) 2 3 ≡ 10 ∷ 99 ∷ []
+  pub J : heldAfter planJ (ownLent planJ) 1 1 ≡ 10 ∷ 99 ∷ []
+  pub O : heldAfter planO (ownLent planO) 5 2 ≡ 12 ∷ 99 ∷ []
+  pub C-foreign : heldAfter planC (foreign (table planC)) 3 2 ≡ 99 ∷ 99 ∷ []
+  pub C-lasting-foreign : heldAfter planC (foreign (table planC)) 2 3 ≡ 106 ∷ 99 ∷ []
+
+-- The quick verdict: by the plan's own rows as the verdict. 9 is of the plan, whatever the rows, also where they have a
+-- circle; 10 is of the rows as lent, where the plan has a circle and where it has none. The count is of the plan.
+pub record StarredQuick : Type 0 where
+  pub A : quickly planA (ownLent planA .rows) ≡ 0 ∷ 2 ∷ []
+  pub C : quickly planC (ownLent planC .rows) ≡ 10 ∷ 0 ∷ []
+  pub C-mended : quickly planC′ (ownLent planC′ .rows) ≡ 0 ∷ 2 ∷ []
+  pub G : quickly planG (ownLent planG .rows) ≡ 9 ∷ 5 ∷ []
+  pub C-no-rows : quickly planC (replicate devices 0) ≡ 0 ∷ 2 ∷ []
+  pub D-circle : quickly planD (0 ∷ 4 ∷ 2 ∷ replicate 29 0) ≡ 10 ∷ 1 ∷ []
+  pub G-circle : quickly planG (1 ∷ replicate 31 0) ≡ 9 ∷ 5 ∷ []
+  pub too-short : quickly planG (replicate 31 0) ≡ 11 ∷ 32 ∷ []
+
+pub starred-built : StarredBuilt
+unfolding built foreign lent fourOf planC planO
+starred-built = record { C = refl; O = refl; no-room = refl; no-rows = refl; no-held = refl }
+
+pub starred-rows : StarredRows
+unfolding rowsAfter ownLent foreign fourOf planC planC′ planC″ planJ planJ′ planO planO′
+starred-rows =
+    record {
+      C = refl;
+      C-lasting = refl;
+      J = refl;
+      O = refl;
+      C-foreign = refl;
+      C-lasting-foreign = refl;
+      C-present = refl;
+      C-table = refl;
+    }
+
+pub starred-held : StarredHeld
+unfolding heldAfter ownLent foreign planC planJ planO
+starred-held = record { C = refl; C-lasting = refl; J = refl; O = refl; C-foreign = refl; C-lasting-foreign = refl }
+
+pub starred-quick : StarredQuick
+unfolding quickly ownLent planA planC planC′ planD planG
+starred-quick =
+    record {
+      A = refl;
+      C = refl;
+      C-mended = refl;
+      G = refl;
+      C-no-rows = refl;
+      D-circle = refl;
+      G-circle = refl;
+      too-short = refl;
     }

@@ -16,6 +16,7 @@ pub mod Handed
 pub mod Verdict
 pub mod Move
 pub mod Entries
+pub mod Kept
 pub mod Printed
 pub mod Judged
 pub mod Board

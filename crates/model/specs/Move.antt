@@ -95,14 +95,18 @@ unfolding isTake
 isTakeOf p zero = false
 isTakeOf p (suc i) = isTake (at p i)
 
--- The tests, in their order. Of a plan without a fault the edited one has none (shown in `theory`, Edited).
-unfoldable pub moveRefusal : ℕ → List ℕ → List ℕ → ℕ → ℕ → Option Refusal
-unfolding firstRefusal fault tooShort refuseIf isTakeOf refuseAt firstOf stale mayChange askedAt lineNumber
-moveRefusal D p t line device =
+-- The tests, in their order, with one for the room in what is lent beside the plan. Of a plan without a fault the
+-- edited one has none (shown in `theory`, Edited).
+abbrev pub moveTests : ℕ → List ℕ → List ℕ → Option Refusal → ℕ → ℕ → Option Refusal
+moveTests D p t room line device =
     firstRefusal
     (fault D p
-    ∷ tooShort (length t) (length p)
+    ∷ room
     ∷ refuseIf (not (isTakeOf p line)) (NotATake line)
     ∷ refuseIf (leb D device) (NoSuchDevice device)
     ∷ refuseAt (λ k. StaleTable (lineNumber k)) (firstOf (stale p t) (mayChange p (askedAt line)))
     ∷ [])
+
+unfoldable pub moveRefusal : ℕ → List ℕ → List ℕ → ℕ → ℕ → Option Refusal
+unfolding firstRefusal fault tooShort refuseIf isTakeOf refuseAt firstOf stale mayChange askedAt lineNumber
+moveRefusal D p t line device = moveTests D p t (tooShort (length t) (length p)) line device

@@ -17,10 +17,14 @@ unfoldable pub twoLasting : ℕ → List ℕ → Option Refusal
 unfolding refuseAt firstOf lastingTakes upFrom
 twoLasting D p = refuseAt TwoLasting (firstOf (λ d. leb 2 (length (lastingTakes p d))) (upFrom 0 D))
 
--- 10: the lowest device that leads back to itself
+-- 10: the lowest device that leads back to itself, by any rows, one for each device; by the plan's own
+unfoldable pub circleOf : ℕ → List ℕ → Option Refusal
+unfolding refuseAt firstOf leadsBack upFrom
+circleOf D rs = refuseAt LeadsBack (firstOf (leadsBack rs) (upFrom 0 D))
+
 unfoldable pub circle : ℕ → List ℕ → Option Refusal
-unfolding refuseAt firstOf leadsBack rows upFrom
-circle D p = let rs : List ℕ = rows D p in refuseAt LeadsBack (firstOf (leadsBack rs) (upFrom 0 D))
+unfolding circleOf rows
+circle D p = circleOf D (rows D p)
 
 -- 9 before 10; none where an order is handed out
 unfoldable pub noOrder : ℕ → List ℕ → Option Refusal

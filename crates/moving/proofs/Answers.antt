@@ -6,6 +6,7 @@ use mathlib.Core.Option.{Option, none, some}
 use mathlib.Core.Path.{_≡_, refl, sym, _∙_}
 use native.Mathlib.Omega.{arith}
 use Rattle.model.specs.declared.Refusal.{Refusal}
+use Rattle.model.specs.declared.MoveAnswer.{MoveAnswer}
 use Rattle.model.specs.Line.{job, at}
 use Rattle.model.specs.Mate.{mate}
 use Rattle.mates.specs.Found.{found}
@@ -16,7 +17,9 @@ use Rattle.plan.specs.Checked.{checked}
 use Rattle.plan.specs.declared.Checked.{Checked}
 use Rattle.plan.proofs.Answers.{told, untold}
 use Rattle.moving.specs.Tested.{testedBy}
+use Rattle.moving.specs.Through.{throughBy}
 use Rattle.moving.specs.declared.TestAnswer.{TestAnswer}
+use Rattle.moving.specs.declared.Through.{Through}
 
 pub found-some : (o : Option ℕ) (k : ℕ) (x : Found) → x ≡ Found.At k → x ≡ found o → o ≡ some k
 found-some none k x e f = cc
@@ -42,6 +45,17 @@ pub told-passes : (o : Option Refusal) (span s : Span) (x : TestAnswer) → x �
     → (o ≡ none) × (s ≡ span)
 told-passes none span s x e f = (refl, cc)
 told-passes (some y) span s x e f = let z : _≡_ {A = ℕ} 0 1 = cc in absurd (omega arith)
+
+-- what a move that is told answered
+pub told-not : (a : MoveAnswer) (stop : ℕ) (r : Refusal) → Through.Refused r ≡ throughBy a stop
+    → MoveAnswer.Refused r ≡ a
+told-not (MoveAnswer.Changed n) stop r e = let z : _≡_ {A = ℕ} 0 1 = cc in absurd (omega arith)
+told-not (MoveAnswer.Refused s) stop r e = cc
+
+pub told-moved : (a : MoveAnswer) (end count stop : ℕ) → Through.Moved count stop ≡ throughBy a end
+    → (MoveAnswer.Changed count ≡ a) × (stop ≡ end)
+told-moved (MoveAnswer.Changed n) end count stop e = (cc, cc)
+told-moved (MoveAnswer.Refused r) end count stop e = let z : _≡_ {A = ℕ} 0 1 = cc in absurd (omega arith)
 
 -- what a span says of the take's mate
 pub span-given : (p : List ℕ) (i m : ℕ) → Span.Given m ≡ spanOf p i → mate p i ≡ some m

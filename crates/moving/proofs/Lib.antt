@@ -5,3 +5,4 @@ pub mod Refusing
 pub mod SameScan
 pub mod Marking
 pub mod Outcome
+pub mod Tight

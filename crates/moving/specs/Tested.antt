@@ -10,7 +10,7 @@ use lib.ListN.{length}
 use Rattle.model.specs.Lists.{firstOf}
 use Rattle.model.specs.Answers.{refuseIf, refuseAt, tooShort}
 use Rattle.model.specs.Line.{isTake, at, lineNumber}
-use Rattle.model.specs.WellFormed.{WellFormed}
+use Rattle.model.specs.WellFormed.{WellFormed, fault}
 use Rattle.model.specs.Move.{edited, mayChange, stale, changed, askedAt, isTakeOf, moveRefusal}
 use Rattle.model.specs.Board.{devices}
 use Rattle.model.specs.declared.Refusal.{Refusal}
@@ -18,9 +18,10 @@ use Rattle.model.specs.declared.Refusal.the-variants.{NotATake, NoSuchDevice, S
 use Rattle.mates.specs.Span.{spanOf, stopOf}
 use Rattle.mates.specs.declared.Span.{Span}
 use Rattle.plan.specs.Again.{againFlags}
+use Rattle.plan.specs.Ends.{leftBy}
+use Rattle.plan.specs.Jobs.{firstLines, starters}
 use Rattle.way.specs.Back.{wayBy}
 use Rattle.way.specs.Join.{mendedBy}
-use Rattle.way.specs.Known.{Scanned}
 use Rattle.moving.specs.declared.TestAnswer.{TestAnswer}
 
 -- a line of a well-formed plan
@@ -52,12 +53,16 @@ askedTests D p t line device =
     ∷ lastTests p t (askedAt line)
 
 -- what all tests answer, and leave in the arrays
-pub record TestsAs (p t : List ℕ) (line device : ℕ) (answer : TestAnswer) (first starter again : List ℕ) : Type 0 where
+pub record TestsAs (p t : List ℕ) (line device : ℕ) (first starter again : List ℕ) (answer : TestAnswer)
+    (first′ starter′ again′ : List ℕ) : Type 0 where
   pub answers : answer ≡ testedBy (moveRefusal devices p t line device) (spanOf p (askedAt line))
-  pub scans : moveRefusal devices p t line device ≡ none → Scanned p first starter again
+  pub firsts : first′ ≡ leftBy (fault devices p) (firstLines p) first
+  pub starts : starter′ ≡ leftBy (fault devices p) (starters p) starter
+  pub agains : again′ ≡ leftBy (fault devices p) (againFlags p) again
 
--- what the rewriting answers and leaves: the plan as p′, the table as t′
-pub record RewritesAs (p t first starter : List ℕ) (i device count : ℕ) (p′ t′ : List ℕ) : Type 0 where
+-- what the rewriting answers and leaves: the plan as p′, the table as t′, the flags as again′
+pub record RewritesAs (p t first starter : List ℕ) (i device count : ℕ) (p′ t′ again′ : List ℕ) : Type 0 where
   pub counts : count ≡ changed p′ t t′
   pub plan : p′ ≡ edited p i device
+  pub agains : again′ ≡ againFlags p′
   pub sets : t′ ≡ mendedBy p′ (againFlags p′) first t (wayBy p′ t starter (stopOf (spanOf p i) - 1))

@@ -28,6 +28,7 @@ ghost use Rattle.promises.specs.Move.{MovesAs};
 ghost use Rattle.way.specs.Known.{Scanned, Known};
 ghost use Rattle.moving.specs.Tested.{At, Take, testedBy, lastTests, askedTests, TestsAs, RewritesAs};
 ghost use Rattle.moving.specs.Marked.{Marked};
+ghost use Rattle.moving.specs.Through.{MovesThrough};
 
 // ---- the lines that take again, once the take has another device
 
@@ -226,8 +227,8 @@ fn asked(
     TestAnswer::Refused(Refusal::NotATake(line))
 }
 
-// All tests of a move, in their order: 2 to 7, 11, 12, 13, 14. Where none refuses, the arrays have each job's first
-// line, the line that starts it, and the flags of the lines that take again.
+// All tests of a move, in their order: 2 to 7, 11, 12, 13, 14. Of a plan without a fault the arrays have each job's
+// first line, the line that starts it, and the flags of the lines that take again.
 fn tested(
     plan: &[u32],
     sets: &[Set],
@@ -237,8 +238,8 @@ fn tested(
     starter: &mut [u32; EACH_JOB],
     again: &mut [u8; MOST_LINES],
 ) -> TestAnswer
-    ensures { λ r. ⌜ TestsAs (now (plan .entry)) (now (sets .entry)) line device r (now (first .exit))
-        (now (starter .exit)) (now (again .exit)) ⌝ }
+    ensures { λ r. ⌜ TestsAs (now (plan .entry)) (now (sets .entry)) line device (now (first .entry))
+        (now (starter .entry)) (now (again .entry)) r (now (first .exit)) (now (starter .exit)) (now (again .exit)) ⌝ }
 {
     if let Checked::Refused(r) = plan::scan(plan, first, starter, again) {
         return TestAnswer::Refused(r);
@@ -283,11 +284,44 @@ fn rewrite(
 ) -> u32
     requires { ⌜ Take (now plan) i device × (span ≡ spanOf (now plan) i) × (now again ≡ againFlags (now plan)) ⌝ }
     ensures { λ r. ⌜ RewritesAs (now (plan .entry)) (now (sets .entry)) (now (first .entry)) (now (starter .entry)) i
-        device r (now (plan .exit)) (now (sets .exit)) ⌝ }
+        device r (now (plan .exit)) (now (sets .exit)) (now (again .exit)) ⌝ }
 {
     mark(plan, again, i, device, span);
     edit(plan, i, device, span);
     way::mend_way(plan, again, sets, stop_of(span) - 1, first, starter) as u32
+}
+
+// What a move does for a caller that keeps more than the table: a refusal; or how many sets are another than before,
+// and the position before which the lines under the take end.
+pub enum Through {
+    Refused(Refusal),
+    Moved(u32, usize),
+}
+
+// The move, with what it has worked out on the way left in the lent arrays, as the edited plan has it: the first line
+// of each job, the line that starts it, and the flags of the lines that take again. Where the plan has a fault, they
+// are left as they were.
+pub fn move_through(
+    plan: &mut [u32],
+    sets: &mut [Set],
+    line: u32,
+    device: u32,
+    first: &mut [u32; EACH_JOB],
+    starter: &mut [u32; EACH_JOB],
+    again: &mut [u8; MOST_LINES],
+) -> Through
+    ensures { λ r. ⌜ MovesThrough (now (plan .entry)) (now (sets .entry)) line device (now (first .entry))
+        (now (starter .entry)) (now (again .entry)) r (now (plan .exit)) (now (sets .exit)) (now (first .exit))
+        (now (starter .exit)) (now (again .exit)) ⌝ }
+{
+    match tested(plan, sets, line, device, first, starter, again) {
+        TestAnswer::Refused(r) => Through::Refused(r),
+        TestAnswer::Passes(span) => {
+            let i = (line - 1) as usize;
+            let count = rewrite(plan, sets, i, device, span, first, starter, again);
+            Through::Moved(count, stop_of(span))
+        }
+    }
 }
 
 // Moves the claim of a line, by its number from 1, to a device: the take and its give get the device, and the sets on
@@ -299,7 +333,7 @@ pub fn move_claim(plan: &mut [u32], sets: &mut [Set], line: u32, device: u32) ->
     let mut first = [0u32; EACH_JOB];
     let mut starter = [0u32; EACH_JOB];
     let mut again = [0u8; MOST_LINES];
-    match tested(
+    match move_through(
         plan,
         sets,
         line,
@@ -308,10 +342,7 @@ pub fn move_claim(plan: &mut [u32], sets: &mut [Set], line: u32, device: u32) ->
         &mut starter,
         &mut again,
     ) {
-        TestAnswer::Refused(r) => MoveAnswer::Refused(r),
-        TestAnswer::Passes(span) => {
-            let i = (line - 1) as usize;
-            MoveAnswer::Changed(rewrite(plan, sets, i, device, span, &first, &starter, &mut again))
-        }
+        Through::Refused(r) => MoveAnswer::Refused(r),
+        Through::Moved(count, stop) => MoveAnswer::Changed(count),
     }
 }

@@ -11,7 +11,7 @@ use mathlib.Core.Option.{Option, none, some}
 use mathlib.Core.Path.{_≡_, refl, sym, _∙_, ap}
 use native.Mathlib.Omega.{arith}
 use lib.Dec.{lit≤, eqb}
-use lib.ListN.{length, getD}
+use lib.ListN.{length, getD, take}
 use Rattle.model.specs.Board.{devices}
 use Rattle.model.specs.Lists.{upFrom, positions}
 use Rattle.model.specs.Answers.{numberOf, placeOf, lineValues, readValues, writeValues, tableValues, verdictValues}
@@ -19,8 +19,10 @@ use Rattle.model.specs.Answers.{moveValues, judgeValues}
 use Rattle.model.specs.Line.{job, isLine, lineNumber}
 use Rattle.model.specs.Text.{spelt, cursorAfter, cursorFrom, lineFrom}
 use Rattle.model.specs.WellFormed.{WellFormed}
+use Rattle.model.specs.Rows.{rows}
 use Rattle.model.specs.Move.{edited, fromLast, rewritten, changed, askedAt, moveRefusal}
 use Rattle.model.specs.Entries.{outcome, reading, writing, tabling, ordering, moving}
+use Rattle.model.specs.Kept.{lastsIn, heldNumber, Beside, building, movingKept, quick}
 use Rattle.model.specs.Judged.{judging}
 use Rattle.model.specs.declared.Refusal.{Refusal}
 use Rattle.model.specs.declared.LineAnswer.{LineAnswer}
@@ -31,7 +33,7 @@ use Rattle.model.specs.declared.VerdictAnswer.{VerdictAnswer}
 use Rattle.model.specs.declared.MoveAnswer.{MoveAnswer}
 use Rattle.model.specs.declared.JudgeAnswer.{JudgeAnswer}
 use Rattle.theory.specs.WellFormed.{Broken}
-use Rattle.theory.specs.Verdict.{NoOrder, twice, back}
+use Rattle.theory.specs.Verdict.{NoOrderBy, twice, back}
 use Rattle.theory.specs.Text.{TextBroken, tooLong, spells}
 use Rattle.theory.specs.Judged.{LegalEntries}
 use Rattle.theory.proofs.Answers.{number-range, one-refusal}
@@ -47,13 +49,15 @@ use Rattle.theory.proofs.Offsets.{StandsAt, from-stands, one-past}
 use Rattle.theory.proofs.Judged.{stray-exactly, stray-bounds}
 use Rattle.theory.proofs.Printed.{broken-bounds, held-few}
 use Rattle.model.specs.InOne.{half, inOne}
-use Rattle.promises.specs.Outcome.{MeetsInOne, faulty, short, further}
+use Rattle.promises.specs.Outcome.{MeetsInOne, faulty, short, further, NoFurther}
 use Rattle.promises.specs.Text.{ReadsAs, Asked}
 use Rattle.promises.specs.Move.{NotMoved, notATake, noSuchDevice, staleTable}
+use Rattle.promises.specs.Kept.{beside, QuickAs, alsoShort, beyond, AfterTable}
 use Rattle.promises.specs.Judge as judge
 use Rattle.promises.specs.Judge.{JudgesAs, NotPassed}
 use Rattle.promises.specs.ForC.{HandsOutForC, ReadsForC, WritesForC, TablesForC, OrdersForC, MovesForC}
 use Rattle.promises.specs.ForC.{StandsFor, aCount, aRefusal, ReadOff, LineStandsFor, theEnd, aLine, noLine}
+use Rattle.promises.specs.ForC.{BuildsForC, MovesKeptForC, QuickForC}
 use Rattle.promises.specs.ForC.{AskedForC, JudgesForC, JudgeStandsFor, aLegal, notPassed}
 use Rattle.promises.proofs.Tight.{by-refusal, by-none}
 use Rattle.promises.proofs.Outcome.{Answers, Entry, tests, outcomeOf, Case, listed-exactly, passed-exactly}
@@ -62,6 +66,7 @@ use Rattle.promises.proofs.Text.{readEntry, writeEntry, read-line-by-li
 use Rattle.promises.proofs.Table as table
 use Rattle.promises.proofs.Verdict as verdict
 use Rattle.promises.proofs.Move as move
+use Rattle.promises.proofs.Kept as kept
 use Rattle.promises.proofs.Judge.{accepted-exactly, refused-exactly}
 
 -- ---- one law
@@ -180,19 +185,62 @@ table-number plan lent = says (table.entry plan lent) (record {
   count = λ w. omega (arith, w .few);
 })
 
+-- 9 and 10 are at devices
+device-small : (p rs : List ℕ) (r : Refusal) → NoOrderBy devices p rs r → placeOf r < half
+device-small p rs r (twice d h l f) = omega arith
+device-small p rs r (back d f h l g) = omega arith
+
 pub verdict-number : (plan lent : List ℕ) (n : ℕ) (left : List ℕ) → OrdersForC plan lent n left
     → ReadOff verdictValues VerdictAnswer.Held VerdictAnswer.Refused (ordering devices plan lent) lent n left
 unfolding ordering
 verdict-number plan lent = says (verdict.entry plan lent) (record {
   broken = fault-small plan;
   needed = λ w. omega (arith, w .few);
-  further = λ w. device-small;
+  further = λ w. device-small plan (rows devices plan);
   count = λ w. omega (arith, held-few devices plan);
 })
+
+-- what is read off the quick verdict's number is its answer
+pub quick-number : (plan rs : List ℕ) (n : ℕ) → QuickForC plan rs n
+    → (a : VerdictAnswer) × QuickAs plan rs a × StandsFor VerdictAnswer.Held VerdictAnswer.Refused n a
+    × ((n < half) ↔ ((k : ℕ) × (a ≡ VerdictAnswer.Held k)))
+unfolding heldNumber
+quick-number plan rs n m =
+    let r =
+    says (kept.quickEntry plan rs)
+    (record {
+      broken = fault-small plan;
+      needed = λ w. omega arith;
+      further = λ w. device-small plan (take devices rs);
+      count = λ w. omega (arith, those-length (lastsIn plan) (upFrom 0 devices), length-upFrom 0 devices);
+    })
+    n tt
+    (record { answers = m .answers ∙ ap (λ (a : VerdictAnswer). inOne (verdictValues a)) is; leaves = refl }) in
+    (r .answer, record { answers = r .behind .answers ∙ ap verdictValues (sym is) }, r .stands, r .below)
   where
-    device-small : (r : Refusal) → NoOrder devices plan r → placeOf r < half
-    device-small r (twice d h l f) = omega arith
-    device-small r (back d f h l g) = omega arith
+    is : quick devices plan rs ≡ outcomeOf (kept.quickEntry plan rs) .answer
+    is = kept.quick-is plan rs
+
+-- 11 for the lists beside the table, and what is tested after it
+after-table-small : (lent : Beside) (F : Refusal → Type 0) → ((r : Refusal) → F r → placeOf r < half) → (r : Refusal)
+    → AfterTable lent F r → placeOf r < half
+after-table-small lent F small r (alsoShort h) = omega arith
+after-table-small lent F small r (beyond q h (alsoShort k)) = omega arith
+after-table-small lent F small r (beyond q h (beyond s k f)) = small s f
+
+pub build-number : (plan sets rs held : List ℕ) (n : ℕ) (sets′ rs′ held′ : List ℕ)
+    → BuildsForC plan sets rs held n sets′ rs′ held′
+    → ReadOff tableValues TableAnswer.Lines TableAnswer.Refused (building devices plan (beside sets rs held))
+    (beside sets rs held) n (beside sets′ rs′ held′)
+build-number plan sets rs held n sets′ rs′ held′ =
+    let lent = beside sets rs held in
+    rw (kept.building-is plan lent)
+    (says (kept.buildEntry plan lent) (record {
+      broken = fault-small plan;
+      needed = λ w. omega (arith, w .few);
+      further = λ w. after-table-small lent NoFurther (λ r f. absurd f);
+      count = λ w. omega (arith, w .few);
+    }) n (beside sets′ rs′ held′))
 
 -- no move changes more sets than the plan has lines
 changed-few : (p t u : List ℕ) → changed p t u ≤ length p
@@ -205,34 +253,47 @@ changed-few p t u =
     )
 
 -- line and device are numbers of 32 bits
-pub move-number : (p t : List ℕ) (line device : ℕ) → line < half → device < half → (n : ℕ) (p′ t′ : List ℕ)
-    → MovesForC p t line device n p′ t′
-    → ReadOff moveValues MoveAnswer.Changed MoveAnswer.Refused (moving devices p t line device)
-    (record { plan = p; sets = t }) n (record { plan = p′; sets = t′ })
-unfolding moving moveRefusal lineNumber
-move-number p t line device lineSmall deviceSmall n p′ t′ =
-    says (move.entry p t line device) (record {
-      broken = fault-small p;
-      needed = λ w. omega (arith, w .few);
-      further = place-fits;
-      count = λ w. omega (
-        arith,
-        w .few,
-        changed-few p t
-            (rewritten (edited p (askedAt line) device) t (fromLast p (askedAt line))),
-      );
-    })
-    n (record { plan = p′; sets = t′ })
-  where
-    i : ℕ
-    i = askedAt line
+module _ (p t : List ℕ) (line device : ℕ) (lineSmall : line < half) (deviceSmall : device < half) where
+  not-moved-small : WellFormed devices p → (r : Refusal) → NotMoved p t line device r → placeOf r < half
+  unfolding lineNumber
+  not-moved-small w r (notATake x) = lineSmall
+  not-moved-small w r (noSuchDevice x h) = deviceSmall
+  not-moved-small w r (staleTable k x h s) =
+      let i = askedAt line in
+      let inPlan = take-line p i (asked-take p line x) in
+      omega (arith, may-change-line p i inPlan k (nearest-may-change p t i k s), w .few)
 
-    place-fits : WellFormed devices p → (r : Refusal) → NotMoved p t line device r → placeOf r < half
-    place-fits w r (notATake x) = lineSmall
-    place-fits w r (noSuchDevice x h) = deviceSmall
-    place-fits w r (staleTable k x h s) =
-        let inPlan = take-line p i (asked-take p line x) in
-        omega (arith, may-change-line p i inPlan k (nearest-may-change p t i k s), w .few)
+  count-small : WellFormed devices p → (u : List ℕ) → changed p t u < half
+  count-small w u = omega (arith, w .few, changed-few p t u)
+
+  pub move-number : (n : ℕ) (p′ t′ : List ℕ) → MovesForC p t line device n p′ t′
+      → ReadOff moveValues MoveAnswer.Changed MoveAnswer.Refused (moving devices p t line device)
+      (record { plan = p; sets = t }) n (record { plan = p′; sets = t′ })
+  unfolding moving moveRefusal
+  move-number n p′ t′ =
+      says (move.entry p t line device) (record {
+        broken = fault-small p;
+        needed = λ w. omega (arith, w .few);
+        further = not-moved-small;
+        count = λ w. count-small w (rewritten (edited p (askedAt line) device) t (fromLast p (askedAt line)));
+      })
+      n (record { plan = p′; sets = t′ })
+
+  pub move-kept-number : (rs held : List ℕ) (n : ℕ) (p′ t′ rs′ held′ : List ℕ)
+      → MovesKeptForC p t rs held line device n p′ t′ rs′ held′
+      → ReadOff moveValues MoveAnswer.Changed MoveAnswer.Refused
+      (movingKept devices p (beside t rs held) line device) (record { plan = p; beside = beside t rs held }) n
+      (record { plan = p′; beside = beside t′ rs′ held′ })
+  move-kept-number rs held n p′ t′ rs′ held′ =
+      let lent = beside t rs held in
+      rw (kept.moving-is p lent line device)
+      (says (kept.moveEntry p lent line device) (record {
+        broken = fault-small p;
+        needed = λ w. omega (arith, w .few);
+        further = λ w. after-table-small lent (NotMoved p t line device) (not-moved-small w);
+        count = λ w. count-small w (rewritten (edited p (askedAt line) device) t (fromLast p (askedAt line)));
+      })
+      n (record { plan = p′; beside = beside t′ rs′ held′ }))
 
 -- ---- the line entry
 

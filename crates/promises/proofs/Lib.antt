@@ -10,6 +10,7 @@ pub mod Verdict
 pub mod Judge
 pub mod JudgePrinting
 pub mod Move
+pub mod Kept
 pub mod Screen
 pub mod Printing
 pub mod ForC

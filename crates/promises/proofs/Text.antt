@@ -9,7 +9,6 @@ use mathlib.Core.Path.{_≡_, refl, sym, _∙_, ap}
 use native.Mathlib.Omega.{arith}
 use lib.Dec.{lit≤}
 use lib.ListN.{length, getD, take, drop, List·getD-append}
-use lib.Seq.{take-append-seam}
 use borrow.Author.Tests.{lt-ltb}
 use Rattle.model.specs.Board.{devices}
 use Rattle.model.specs.Lists.{over}
@@ -24,6 +23,7 @@ use Rattle.model.specs.declared.ReadAnswer.{ReadAnswer}
 use Rattle.model.specs.declared.WriteAnswer.{WriteAnswer}
 use Rattle.theory.specs.WellFormed.{Broken}
 use Rattle.theory.specs.Text.{FirstLines, NoLine, ended, TextBroken}
+use Rattle.theory.proofs.Lists.{over-front}
 use Rattle.theory.proofs.WellFormed.{fault-exactly, no-fault-exactly}
 use Rattle.theory.proofs.Answers.{one-read-answer, one-write-answer}
 use Rattle.theory.proofs.Text.{no-text-fault, text-fault-exactly, reading-written, writing-read}
@@ -130,8 +130,7 @@ module _ (plan lent : List ℕ) where
 
 -- what was written to the front of a list is its front
 pub front-of : (new old left : List ℕ) (n : ℕ) → n ≡ length new → left ≡ over new old → take n left ≡ new
-unfolding over
-front-of new old left n e f = rw (e, f) (take-append-seam new (drop (length new) old))
+front-of new old left n e f = rw f (over-front n new old (sym e))
 
 -- What was read, written again from the entries that reading wrote, is the text, byte for byte.
 pub read-then-written : (text lent left : List ℕ) (n : ℕ) → ReadsAs text lent (ReadAnswer.Lines n) left

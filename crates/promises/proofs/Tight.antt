@@ -6,21 +6,29 @@ use mathlib.Core.List.{List}
 use mathlib.Core.Option.{Option, none, some}
 use mathlib.Core.Path.{_≡_, refl, sym, _∙_, ap}
 use Rattle.model.specs.Board.{devices}
-use Rattle.model.specs.Answers.{judgeValues}
+use Rattle.model.specs.Answers.{verdictValues, judgeValues}
 use Rattle.model.specs.Text.{nextLine}
 use Rattle.model.specs.Entries.{Outcome, outcome}
+use Rattle.model.specs.Kept.{quick}
 use Rattle.model.specs.Judged.{judging}
 use Rattle.model.specs.declared.Refusal.{Refusal}
 use Rattle.model.specs.declared.Cursor.{Cursor}
 use Rattle.model.specs.declared.LineAnswer.{LineAnswer}
+use Rattle.model.specs.declared.VerdictAnswer.{VerdictAnswer}
 use Rattle.model.specs.declared.JudgeAnswer.{JudgeAnswer}
-use Rattle.theory.proofs.Answers.{one-line-answer, one-judge-answer}
+use Rattle.theory.proofs.Answers.{one-line-answer, one-verdict-answer, one-judge-answer}
 use Rattle.model.specs.InOne.{inOne}
 use Rattle.promises.specs.Outcome.{Meets, MeetsInOne}
 use Rattle.promises.specs.Text.{HandsOutAs}
 use Rattle.promises.specs.Screen.{ScreensAs}
 use Rattle.promises.specs.Judge.{JudgesAs}
-use Rattle.promises.specs.ForC.{HandsOutForC, JudgesForC}
+use Rattle.promises.specs.Kept.{QuickAs}
+use Rattle.promises.specs.ForC.{HandsOutForC, QuickForC, JudgesForC}
+
+-- an answer handed on as one number
+handed-on : {A : Type 0} (values : A → List ℕ) {a b : A} {vs : List ℕ} {n : ℕ} → values a ≡ vs → a ≡ b
+    → n ≡ inOne (values b) → n ≡ inOne vs
+handed-on values x e m = m ∙ ap inOne (ap values (sym e) ∙ x)
 
 module _ {A L : Type 0} {values : A → List ℕ} {o : Outcome A L} where
   -- what has the outcome's answer and leaves its lists meets the promise
@@ -37,10 +45,10 @@ module _ {A L : Type 0} {values : A → List ℕ} {o : Outcome A L} where
       → (a ≡ o .answer) × (left ≡ o .left)
   the-outcome same a left x = one-outcome same a (o .answer) left (o .left) x (meets refl refl)
 
-  -- an answer handed on as one number
+  -- and so does its number, handed on
   pub in-one : {a b : A} {left : L} {n : ℕ} → Meets values o a left → a ≡ b → n ≡ inOne (values b)
       → MeetsInOne values o n left
-  in-one x e m = record { answers = m ∙ ap inOne (ap values (sym e) ∙ x .answers); leaves = x .leaves }
+  in-one x e m = record { answers = handed-on values (x .answers) e m; leaves = x .leaves }
 
   pub one-in-one : (m n : ℕ) (left other : L) → MeetsInOne values o m left → MeetsInOne values o n other
       → (m ≡ n) × (left ≡ other)
@@ -59,7 +67,7 @@ module _ {A L : Type 0} {values : A → List ℕ} (refused : Refusal → A) (a :
   unfolding outcome
   by-none tests left e f = rw e (meets refl f)
 
--- ---- the line reader, the judge and the screens' entry
+-- ---- the line reader, the judge, the quick verdict and the screens' entry
 
 pub one-line : (text : List ℕ) (c : Cursor) (a b : LineAnswer) → HandsOutAs text c a → HandsOutAs text c b → a ≡ b
 one-line text c a b x y = one-line-answer a b (x .answers ∙ sym (y .answers))
@@ -81,11 +89,24 @@ the-judgement plan entries a x = one-judge-answer a (judging devices plan entrie
 -- handed on as one number
 pub judged-in-one : {plan entries : List ℕ} {a b : JudgeAnswer} {n : ℕ} → JudgesAs plan entries a → a ≡ b
     → n ≡ inOne (judgeValues b) → JudgesForC plan entries n
-judged-in-one x e m = record { answers = m ∙ ap inOne (ap judgeValues (sym e) ∙ x .answers) }
+judged-in-one x e m = record { answers = handed-on judgeValues (x .answers) e m }
 
 pub one-judgement-in-one : (plan entries : List ℕ) (a b : ℕ) → JudgesForC plan entries a → JudgesForC plan entries b
     → a ≡ b
 one-judgement-in-one plan entries a b p q = cc
+
+pub one-quick : (plan rs : List ℕ) (a b : VerdictAnswer) → QuickAs plan rs a → QuickAs plan rs b → a ≡ b
+one-quick plan rs a b x y = one-verdict-answer a b (x .answers ∙ sym (y .answers))
+
+pub the-quick : (plan rs : List ℕ) (a : VerdictAnswer) → QuickAs plan rs a → a ≡ quick devices plan rs
+the-quick plan rs a x = one-verdict-answer a (quick devices plan rs) (x .answers)
+
+pub quick-in-one : {plan rs : List ℕ} {a b : VerdictAnswer} {n : ℕ} → QuickAs plan rs a → a ≡ b
+    → n ≡ inOne (verdictValues b) → QuickForC plan rs n
+quick-in-one x e m = record { answers = handed-on verdictValues (x .answers) e m }
+
+pub one-quick-in-one : (plan rs : List ℕ) (a b : ℕ) → QuickForC plan rs a → QuickForC plan rs b → a ≡ b
+one-quick-in-one plan rs a b p q = cc
 
 pub one-screen : (text lent : List ℕ) (m n : ℕ) (left other : List ℕ) → ScreensAs text lent m left
     → ScreensAs text lent n other → (m ≡ n) × (left ≡ other)

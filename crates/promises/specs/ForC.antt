@@ -1,5 +1,5 @@
--- What the entries for C and Rust promise (01, "Refusal numbers"; 02, request 1): the outcome of the entry behind each,
--- its answer as one number of 64 bits. Then the words for what a caller reads off the number.
+-- What the entries for C and Rust promise (01, "Refusal numbers"; 02, requests 1 and 4): the outcome of the entry
+-- behind each, its answer as one number of 64 bits. Then the words for what a caller reads off the number.
 use Prim.Native.Nat.{ℕ, suc, _/_, _%_, _<_, _≤_}
 use mathlib.Core.List.{List}
 use mathlib.Core.Logic.{_↔_}
@@ -9,6 +9,7 @@ use Rattle.model.specs.Answers.{numberOf, placeOf, lineValues, readValues, writ
 use Rattle.model.specs.Answers.{verdictValues, moveValues, judgeValues}
 use Rattle.model.specs.Text.{lineFrom}
 use Rattle.model.specs.Entries.{Outcome, reading, writing, tabling, ordering, moving}
+use Rattle.model.specs.Kept.{building, movingKept, quick}
 use Rattle.model.specs.Judged.{judging}
 use Rattle.model.specs.declared.Refusal.{Refusal}
 use Rattle.model.specs.declared.Cursor.{Cursor}
@@ -17,6 +18,7 @@ use Rattle.model.specs.declared.JudgeAnswer.{JudgeAnswer}
 use Rattle.theory.specs.Text.{PastNewline}
 use Rattle.model.specs.InOne.{half, inOne}
 use Rattle.promises.specs.Outcome.{Meets, MeetsInOne}
+use Rattle.promises.specs.Kept.{beside}
 
 -- the line that a reader of the text hands out at an offset
 pub record HandsOutForC (text : List ℕ) (offset answer : ℕ) : Type 0 where
@@ -37,6 +39,19 @@ OrdersForC plan lent answer left = MeetsInOne verdictValues (ordering devices pl
 abbrev pub MovesForC : List ℕ → List ℕ → ℕ → ℕ → ℕ → List ℕ → List ℕ → Type 0
 MovesForC p t line device answer p′ t′ =
     MeetsInOne moveValues (moving devices p t line device) answer (record { plan = p′; sets = t′ })
+
+-- the three that are lent rows (02, request 4), of which the quick verdict writes to nothing that is lent
+abbrev pub BuildsForC : List ℕ → List ℕ → List ℕ → List ℕ → ℕ → List ℕ → List ℕ → List ℕ → Type 0
+BuildsForC plan sets rows held answer sets′ rows′ held′ =
+    MeetsInOne tableValues (building devices plan (beside sets rows held)) answer (beside sets′ rows′ held′)
+
+abbrev pub MovesKeptForC : List ℕ → List ℕ → List ℕ → List ℕ → ℕ → ℕ → ℕ → List ℕ → List ℕ → List ℕ → List ℕ → Type 0
+MovesKeptForC p sets rows held line device answer p′ sets′ rows′ held′ =
+    MeetsInOne moveValues (movingKept devices p (beside sets rows held) line device) answer
+    (record { plan = p′; beside = beside sets′ rows′ held′ })
+
+pub record QuickForC (plan rows : List ℕ) (answer : ℕ) : Type 0 where
+  pub answers : answer ≡ inOne (verdictValues (quick devices plan rows))
 
 -- the judge, who is lent nothing to write to
 pub record JudgesForC (plan entries : List ℕ) (answer : ℕ) : Type 0 where

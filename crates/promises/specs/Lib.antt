@@ -5,5 +5,6 @@ pub mod Table
 pub mod Verdict
 pub mod Judge
 pub mod Move
+pub mod Kept
 pub mod Screen
 pub mod ForC

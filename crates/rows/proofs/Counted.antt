@@ -1,5 +1,5 @@
 -- The sets of the devices held to the end and held twice, by counting lasting takes going back (01, "Claims and rows").
-use Prim.Native.Nat.{ℕ, zero, suc, _-_, _^_, _<_, _≤_}
+use Prim.Native.Nat.{ℕ, zero, suc, _-_, _%_, _^_, _<_, _≤_}
 use mathlib.Core.Bool.{Bool, true, false, cond, _&&_, _||_}
 use mathlib.Core.List.{List, [], _∷_}
 use mathlib.Core.Option.{none}
@@ -26,9 +26,10 @@ use Rattle.sets.proofs.Members.{member-only-of, member-both, only-of-below, bot
 use Rattle.plan.specs.Again.{againFlags}
 use Rattle.plan.proofs.Again.{plain-is}
 use Rattle.rows.specs.declared.Passed.{Passed}
-use Rattle.rows.specs.Lasting.{heldToEnd, heldTwice}
+use Rattle.model.specs.Kept.{lastsAmong, lastsIn, heldToEnd}
+use Rattle.rows.specs.Lasting.{heldTwice, wantedBefore, wantedAfter}
 use Rattle.rows.specs.Holds.{HeldAs, PassedOn}
-use Rattle.rows.proofs.Where.{is-where}
+use Rattle.theory.proofs.Where.{is-where}
 use Rattle.rows.proofs.Wanted.{wanted-few, Wanting, none-wanting, wanting-on, lasts-is}
 
 -- ---- the lasting takes of a device from a line on
@@ -103,20 +104,8 @@ none-counted p = record {
   twiceIs = λ d h. member-empty d ∙ sym (ap (λ xs. leb 2 (length xs)) (takes-past p d));
 }
 
--- no more is wanted than a plan has lines
-pub wanted-in : (p : List ℕ) (passed : Passed) (i : ℕ) → fault devices p ≡ none → Counted p passed i
-    → passed .wanted ≤ maxLines
-wanted-in p passed i fine m =
-    omega (
-      arith,
-      m .wanting .wantedIs,
-      wanted-few (job (at (drop i p) 0)) (drop i p),
-      length-drop i p,
-      no-fault-exactly devices p .0 fine .few,
-    )
-
 -- one line further back
-module _ (p : List ℕ) (old new : Passed) (k : ℕ) (m : Counted p old (suc k))
+module _ (p : List ℕ) (few : length p ≤ maxLines) (old new : Passed) (k : ℕ) (m : Counted p old (suc k))
     (n : PassedOn new old (at p k) (plainAt p k)) where
   pub lasts-made : new .lasts ≡ lastingAt p k
   lasts-made = n .lastsIs ∙ lasts-is (at p k) (drop (suc k) p) (old .job) (old .wanted) (m .wanting) p k refl refl
@@ -160,11 +149,24 @@ module _ (p : List ℕ) (old new : Passed) (k : ℕ) (m : Counted p old (suc k))
       go true (suc n) = rw (le-leb 1 (suc n) (omega arith), le-leb 2 (suc (suc n)) (omega arith))
       go false n = rw (and-right (leb 1 n) false refl)
 
+  -- no more is wanted than there are lines, so the count is far from the word's end
+  wanting-here : Wanting (at p k ∷ drop (suc k) p) (new .job) (new .wanted)
+  wanting-here =
+      let w = wanting-on (at p k) (drop (suc k) p) (old .job) (old .wanted) (m .wanting) in
+      let n′ : ℕ = wantedBefore (at p k) (wantedAfter (at p k) (old .job) (old .wanted)) in
+      let small : n′ % 2 ^ 32 ≡ n′ = omega (
+        arith,
+        w .wantedIs,
+        wanted-few (job (at p k)) (at p k ∷ drop (suc k) p),
+        length-drop (suc k) p,
+        few,
+      ) in
+      rw (n .jobIs, n .wantedIs, small) w
+
   pub counted-on : Counted p new k
   counted-on = record {
     inPlan = omega (arith, m .inPlan);
-    wanting = rw (drop-cons p k 0 (m .inPlan), n .jobIs, n .wantedIs)
-        (wanting-on (at p k) (drop (suc k) p) (old .job) (old .wanted) (m .wanting));
+    wanting = rw (drop-cons p k 0 (m .inPlan)) wanting-here;
     heldBelow = rw (n .heldIs) (union-below devices one (old .held) one-below (m .heldBelow));
     twiceBelow = rw (n .twiceIs)
         (union-below devices (both (old .held) one) (old .twice) (both-below devices (old .held) one (m .heldBelow))
@@ -185,7 +187,7 @@ some-take f (x ∷ xs) = go (f x) (some-take f xs)
     go false ih = ih
 
 pub all-counted : (p : List ℕ) (passed : Passed) → Counted p passed 0 → HeldAs passed p
-unfolding heldToEnd heldTwice
+unfolding heldToEnd lastsIn lastsAmong heldTwice
 all-counted p passed m = record {
   toEnd =
       is-where (λ d. any (λ k. lasting p k d) (positions p)) devices (passed .held) (m .heldBelow)

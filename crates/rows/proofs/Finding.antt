@@ -19,7 +19,7 @@ use Rattle.sets.proofs.Members.{member-without}
 use Rattle.rows.specs.declared.search.Ended.{Ended}
 use Rattle.rows.specs.Where.{circlesOf}
 use Rattle.rows.specs.Search.{rowAt, inRows, Trimmed, WalkEnds, WholeIn, CircleOf, Searching}
-use Rattle.rows.proofs.Where.{is-where}
+use Rattle.theory.proofs.Where.{is-where}
 use Rattle.rows.proofs.Smaller.{within-le, taken-out-less}
 use Rattle.rows.proofs.Looked.{stands}
 use Rattle.rows.proofs.Reaching.{leads-join}

@@ -22,9 +22,10 @@ use Rattle.sets.specs.Only.{onlyOf}
 use Rattle.sets.specs.Both.{both}
 use Rattle.sets.proofs.Members.{Lowest, found, nothing, lowest, member-both, member-asked, member-only-of}
 use Rattle.sets.proofs.Members.{only-of-below}
-use Rattle.rows.specs.Where.{onlyIf, devicesWhere}
+use Rattle.model.specs.Sets.{onlyIf, devicesWhere}
 use Rattle.rows.specs.Search.{meet, rowAt, inRows, rowIn, leadInto}
-use Rattle.rows.proofs.Where.{member-where, where-below, one-where, joinedFrom, joined-whole}
+use Rattle.theory.proofs.Where.{member-where, where-below}
+use Rattle.rows.proofs.Where.{one-where, joinedFrom, joined-whole}
 
 -- a device of a set, where its row has a member of s
 abbrev pub intoAt : List ℕ → ℕ → ℕ → ℕ → ℕ

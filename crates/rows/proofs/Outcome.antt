@@ -1,17 +1,20 @@
 -- The outcomes of the entries of this room by the fault of the plan (01, "Refusal numbers", 2 to 7).
 use Prim.Native.Nat.{ℕ}
 use mathlib.Core.List.{List}
-use mathlib.Core.Option.{none, some}
-use mathlib.Core.Path.{_≡_}
+use mathlib.Core.Option.{Option, none, some}
+use mathlib.Core.Path.{_≡_, refl}
+use native.Mathlib.Omega.{arith}
 use Rattle.model.specs.Board.{devices}
 use Rattle.model.specs.WellFormed.{fault}
+use Rattle.model.specs.Kept.{heldToEnd}
 use Rattle.model.specs.declared.Refusal.{Refusal}
 use Rattle.plan.specs.Jobs.{firstLines}
 use Rattle.plan.specs.Again.{againFlags}
 use Rattle.plan.specs.Ends.{leftBy}
 use Rattle.rows.specs.declared.Passed.{Passed}
 use Rattle.rows.specs.declared.HoldsAnswer.{HoldsAnswer}
-use Rattle.rows.specs.Holds.{HeldAs, WalkedAs, HoldsAs, holdsBy}
+use Rattle.rows.specs.Lasting.{heldTwice}
+use Rattle.rows.specs.Holds.{HeldAs, WalkedAs, HoldsAs, TabledAs, holdsBy}
 
 module _ (p : List ℕ) where
   pub held-refused : (r : Refusal) → fault devices p ≡ some r
@@ -21,6 +24,23 @@ module _ (p : List ℕ) where
   pub held-made : (r : Passed) → fault devices p ≡ none → HeldAs r p
       → HoldsAnswer.Made (r .held) (r .twice) ≡ holdsBy (fault devices p) p
   held-made r f h = rw (f, h .toEnd, h .twice)
+
+  -- and what such an answer says of the plan: for the rooms above
+  pub told-fault : {r : Refusal} → HoldsAnswer.Refused r ≡ holdsBy (fault devices p) p → fault devices p ≡ some r
+  told-fault {r} e = go (fault devices p) e
+    where
+      go : (o : Option Refusal) → HoldsAnswer.Refused r ≡ holdsBy o p → o ≡ some r
+      go none q = cc
+      go (some s) q = cc
+
+  pub told-sets : {held twice : ℕ} → HoldsAnswer.Made held twice ≡ holdsBy (fault devices p) p
+      → (fault devices p ≡ none) × (held ≡ heldToEnd devices p) × (twice ≡ heldTwice devices p)
+  told-sets {held} {twice} e = go (fault devices p) e
+    where
+      go : (o : Option Refusal) → HoldsAnswer.Made held twice ≡ holdsBy o p
+          → (o ≡ none) × (held ≡ heldToEnd devices p) × (twice ≡ heldTwice devices p)
+      go none q = (refl, (cc), (cc))
+      go (some s) q = let z : _≡_ {A = ℕ} 0 1 = cc in absurd (omega arith)
 
 module _ (p first first′ again again′ rs flags : List ℕ)
     (firsts : first′ ≡ leftBy (fault devices p) (firstLines p) first)
@@ -47,3 +67,15 @@ module _ (p first first′ again again′ rs flags : List ℕ)
     rowsAre = rw f (w .rowsAre);
     flagsAre = rw f (w .flagsAre);
   }
+
+-- the same with the table
+module _ (p rs table : List ℕ) where
+  pub not-tabled : (r : Refusal) → fault devices p ≡ some r
+      → TabledAs p rs table (HoldsAnswer.Refused r) rs table
+  not-tabled r f = record { answers = held-refused p r f; rowsAre = rw f; tableIs = rw f }
+
+  pub is-tabled : (rs′ flags′ table′ : List ℕ) (r : Passed) → fault devices p ≡ none
+      → WalkedAs p table r rs′ flags′ table′
+      → TabledAs p rs table (HoldsAnswer.Made (r .held) (r .twice)) rs′ table′
+  is-tabled rs′ flags′ table′ r f w =
+      record { answers = held-made p r f (w .held); rowsAre = rw f (w .rowsAre); tableIs = rw f (w .tableIs) }

@@ -35,11 +35,11 @@ pub record Walked (p lent rs flags table claimed : List ℕ) (passed : Passed) (
 
 -- ---- the flags
 
-length-flags : (p : List ℕ) → length (lastingFlags p) ≡ maxLines
+pub length-flags : (p : List ℕ) → length (lastingFlags p) ≡ maxLines
 unfolding lastingFlags
 length-flags p = length-entries (lastingFlag p) 0 0 maxLines
 
-none-flagged : (p : List ℕ) → EndOf (lastingFlags p) (replicate maxLines 0) (length p)
+pub none-flagged : (p : List ℕ) → EndOf (lastingFlags p) (replicate maxLines 0) (length p)
 unfolding lastingFlag
 none-flagged p = record {
   long = length-replicate {A = ℕ} maxLines 0 ∙ sym (length-flags p);
@@ -56,7 +56,7 @@ none-flagged p = record {
         go false e = refl
         go true e = absurd (omega (arith, take-line p k (outermost p k (lasting-takes p k e) .0)))
 
-one-flagged : (p flags : List ℕ) (k : ℕ) (b : Bool) → b ≡ lastingAt p k → EndOf (lastingFlags p) flags (suc k)
+pub one-flagged : (p flags : List ℕ) (k : ℕ) (b : Bool) → b ≡ lastingAt p k → EndOf (lastingFlags p) flags (suc k)
     → EndOf (lastingFlags p) (set flags k (boolByte b)) k
 unfolding lastingFlag
 one-flagged p flags k b e m =
@@ -83,6 +83,9 @@ none-walked p lent = record {
 -- one line further back
 module _ {p lent rs flags table claimed : List ℕ} {old new : Passed} {k : ℕ} (fine : fault devices p ≡ none)
     (m : Walked p lent rs flags table claimed old (suc k)) (n : PassedOn new old (at p k) (plainAt p k)) where
+  few : length p ≤ maxLines
+  few = no-fault-exactly devices p .0 fine .few
+
   is-line : isLine devices (at p k) ≡ true
   is-line = no-fault-exactly devices p .0 fine .lines k (m .counted .inPlan)
 
@@ -90,7 +93,7 @@ module _ {p lent rs flags table claimed : List ℕ} {old new : Passed} {k : ℕ}
   counts-line = plain-line (againAt p k) (at p k) devices is-line
 
   lasts-here : new .lasts ≡ lastingAt p k
-  lasts-here = lasts-made p old new k (m .counted) n
+  lasts-here = lasts-made p few old new k (m .counted) n
 
   pub is-take : new .lasts ≡ true → isTake (plainAt p k) ≡ true
   is-take e = plain-take p k ∙ lasting-takes p k (sym lasts-here ∙ e)
@@ -100,7 +103,7 @@ module _ {p lent rs flags table claimed : List ℕ} {old new : Passed} {k : ℕ}
   one-walked {rs′} {claimed′} {s} j =
       let i = rw lasts-here at j in
       let h = m .counted .inPlan in record {
-        counted = counted-on p old new k (m .counted) n;
+        counted = counted-on p few old new k (m .counted) n;
         rowsFrom = from-on p rs claimed k (m .rowsFrom) h is-line rs′ claimed′ s i;
         flagged = one-flagged p flags k (new .lasts) lasts-here (m .flagged);
         written = one-written p lent table k s h (set-made p rs claimed k (m .rowsFrom) h is-line rs′ claimed′ s i)

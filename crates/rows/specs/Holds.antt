@@ -1,5 +1,5 @@
 -- What a walk back over a plan finds, and the outcomes of the entries above it (01, "Claims and rows"; 02, request 2).
-use Prim.Native.Nat.{ℕ}
+use Prim.Native.Nat.{ℕ, _%_, _^_}
 use mathlib.Core.Bool.{Bool, cond, _&&_}
 use mathlib.Core.List.{List}
 use mathlib.Core.Option.{Option, none, some}
@@ -20,7 +20,8 @@ use Rattle.sets.specs.Both.{both}
 use Rattle.claims.specs.Claim.{claimOf, tableIn}
 use Rattle.rows.specs.declared.Passed.{Passed}
 use Rattle.rows.specs.declared.HoldsAnswer.{HoldsAnswer}
-use Rattle.rows.specs.Lasting.{lastingFlags, heldToEnd, heldTwice, wantedBefore, wantedAfter, rowJoined}
+use Rattle.model.specs.Kept.{heldToEnd}
+use Rattle.rows.specs.Lasting.{lastingFlags, heldTwice, wantedBefore, wantedAfter, rowJoined}
 
 -- the rows of the board's devices
 abbrev pub rowsOf : List ℕ → List ℕ
@@ -30,7 +31,7 @@ rowsOf p = rows devices p
 -- its device if it does; the rows with what lies beyond it, the line's claim set, and that set as what its job claims.
 pub record PassedOn (r old : Passed) (l plain : ℕ) : Type 0 where
   pub jobIs : r .job ≡ job l
-  pub wantedIs : r .wanted ≡ wantedBefore l (wantedAfter l (old .job) (old .wanted))
+  pub wantedIs : r .wanted ≡ wantedBefore l (wantedAfter l (old .job) (old .wanted)) % 2 ^ 32
   pub lastsIs : r .lasts ≡ (isTake plain && eqb (wantedAfter l (old .job) (old .wanted)) 0)
   pub heldIs : r .held ≡ union (cond (r .lasts) (onlyOf devices (operand l)) empty) (old .held)
   pub twiceIs : r .twice
@@ -65,3 +66,9 @@ pub record HoldsAs (p first again rs flags : List ℕ) (answer : HoldsAnswer) (f
   pub againsAre : again′ ≡ leftBy (fault devices p) (againFlags p) again
   pub rowsAre : rs′ ≡ leftBy (fault devices p) (rowsOf p) rs
   pub flagsAre : flags′ ≡ leftBy (fault devices p) (lastingFlags p) flags
+
+-- the same with the table, as far as its list has room
+pub record TabledAs (p rs table : List ℕ) (answer : HoldsAnswer) (rs′ table′ : List ℕ) : Type 0 where
+  pub answers : answer ≡ holdsBy (fault devices p) p
+  pub rowsAre : rs′ ≡ leftBy (fault devices p) (rowsOf p) rs
+  pub tableIs : table′ ≡ leftBy (fault devices p) (tableIn p table) table

@@ -1,16 +1,15 @@
--- The lasting takes of a plan (01, "Rules of a well-formed plan" and "Claims and rows"): a flag for each line, the set
--- of the devices held to the end and the set of those with two lasting takes. Below them the steps of the walk back.
+-- The lasting takes of a plan (01, "Rules of a well-formed plan" and "Claims and rows"): a flag for each line, and the
+-- set of the devices with two lasting takes. Below them the steps of the walk back.
 use Prim.Native.Nat.{ℕ, suc, _-_}
 use mathlib.Core.Bool.{Bool, cond}
 use mathlib.Core.List.{List, map}
 use lib.Dec.{eqb, leb}
 use lib.ListN.{length, getD, set}
-use Rattle.model.specs.Lists.{upFrom, positions, any}
+use Rattle.model.specs.Lists.{upFrom}
 use Rattle.model.specs.Line.{job, operand, isTake, isGive, maxLines}
-use Rattle.model.specs.Mate.{lastingAt, lasting}
-use Rattle.model.specs.Sets.{union}
+use Rattle.model.specs.Mate.{lastingAt}
+use Rattle.model.specs.Sets.{union, devicesWhere}
 use Rattle.model.specs.Rows.{lastingTakes}
-use Rattle.rows.specs.Where.{devicesWhere}
 
 -- 1 at a lasting take, else 0; past the plan 0
 unfoldable pub lastingFlag : List ℕ → ℕ → ℕ
@@ -20,11 +19,6 @@ lastingFlag p i = cond (lastingAt p i) 1 0
 unfoldable pub lastingFlags : List ℕ → List ℕ
 unfolding lastingFlag upFrom
 lastingFlags p = map (lastingFlag p) (upFrom 0 maxLines)
-
--- the devices with a lasting take
-unfoldable pub heldToEnd : ℕ → List ℕ → ℕ
-unfolding devicesWhere any lasting positions
-heldToEnd D p = devicesWhere D (λ d. any (λ i. lasting p i d) (positions p))
 
 -- the devices with two lasting takes
 unfoldable pub heldTwice : ℕ → List ℕ → ℕ

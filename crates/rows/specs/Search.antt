@@ -8,10 +8,9 @@ use mathlib.Core.Path.{_≡_}
 use lib.Dec.{eqb}
 use lib.ListN.{length, getD}
 use Rattle.model.specs.Lists.{upFrom}
-use Rattle.model.specs.Sets.{empty, unionOf, member}
+use Rattle.model.specs.Sets.{empty, unionOf, member, devicesWhere}
 use Rattle.model.specs.Rows.{Leads}
 use Rattle.sets.specs.Both.{both}
-use Rattle.rows.specs.Where.{devicesWhere}
 use Rattle.rows.specs.declared.search.Ended.{Ended}
 use Rattle.rows.specs.declared.search.Search.{Search}
 

@@ -1,6 +1,7 @@
 // The devices that stay held, what they wait for, and circles (01, "Claims and rows"): the lasting takes of a plan, its
 // rows, and the devices that lead back to themselves. A line that takes again what its job holds counts as a do: it
 // never lasts and makes no row (02, request 2).
+use board::DEVICES;
 use board::EACH_DEVICE;
 use board::EACH_JOB;
 use board::MOST_LINES;
@@ -9,17 +10,19 @@ use line::EACH_OPERAND;
 use model::Refusal;
 use plan::Checked;
 ghost use mathlib.Core.Path.{_≡_};
-ghost use mathlib.Core.Bool.{true};
+ghost use mathlib.Core.Bool.{true, _&&_};
 ghost use mathlib.Core.Option.{none};
-ghost use Prim.Native.Nat.{_≤_, _<_};
+ghost use Prim.Native.Nat.{_%_, _^_};
+ghost use lib.Dec.{ltb};
 ghost use lib.ListN.{set};
 ghost use Rattle.model.specs.Board.{devices};
-ghost use Rattle.model.specs.Line.{isTake, isLine, maxLines};
+ghost use Rattle.model.specs.Line.{operand, isTake, isLine};
 ghost use Rattle.model.specs.WellFormed.{fault};
 ghost use Rattle.plan.specs.Again.{againFlags};
 ghost use Rattle.rows.specs.Where.{circlesOf};
 ghost use Rattle.rows.specs.Lasting.{wantedBefore, rowJoined};
-ghost use Rattle.rows.specs.Holds.{PassedOn, JoinedOn, HeldAs, WalkedAs, HoldsAs, holdsBy};
+ghost use Rattle.rows.specs.Holds.{PassedOn, JoinedOn, HeldAs, WalkedAs, HoldsAs};
+ghost use Rattle.rows.specs.Holds.{TabledAs, holdsBy};
 
 mod search;
 
@@ -38,16 +41,16 @@ pub fn circles(rows: &[Set; EACH_DEVICE]) -> Set
 
 // What a walk back knows of the lines that it has passed: the job of the line passed last, how many gives of that job
 // still want their takes, whether that line is a lasting take, and the devices with a lasting take and with two.
-struct Passed {
-    job: u32,
-    wanted: u32,
-    lasts: bool,
-    held: Set,
-    twice: Set,
+pub struct Passed {
+    pub job: u32,
+    pub wanted: u32,
+    pub lasts: bool,
+    pub held: Set,
+    pub twice: Set,
 }
 
 // What it knows at the plan's end.
-const NONE_PASSED: Passed = Passed {
+pub const NONE_PASSED: Passed = Passed {
     job: 0,
     wanted: 0,
     lasts: false,
@@ -56,19 +59,19 @@ const NONE_PASSED: Passed = Passed {
 };
 
 // How many gives want their takes before a line, where so many want them after it: a take serves one, if there is one.
+// In a plan they are far from the word's end, past which they would be counted from 0 on.
 fn wanted_before(l: u32, after: u32) -> u32
-    requires { ⌜ after ≤ maxLines ⌝ }
-    ensures { λ r. ⌜ r ≡ wantedBefore l after ⌝ }
+    ensures { λ r. ⌜ r ≡ wantedBefore l after % 2 ^ 32 ⌝ }
 {
     let served = after - (0 < after) as u32;
-    let given = line::choose(line::is_give(l), after + 1, after);
+    let more = std::num::wrapping_add_u32(after, 1);
+    let given = line::choose(line::is_give(l), more, after);
     line::choose(line::is_take(l), served, given)
 }
 
 // One line further back, as it stands and as it counts. Gives match every take, so these are counted as they stand; a
 // line that counts as a take and serves no give lasts. A device that was held already is held twice.
-fn pass_line(passed: Passed, l: u32, plain: u32) -> Passed
-    requires { ⌜ passed .wanted ≤ maxLines ⌝ }
+pub fn pass_line(passed: Passed, l: u32, plain: u32) -> Passed
     ensures { λ r. ⌜ PassedOn r passed l plain ⌝ }
 {
     let j = line::job(l);
@@ -84,13 +87,13 @@ fn pass_line(passed: Passed, l: u32, plain: u32) -> Passed
     }
 }
 
-// What lies beyond a lasting take is joined to the row of its device.
-fn join_row(l: u32, lasts: bool, next: Set, rows: &mut [Set; EACH_DEVICE])
-    requires { ⌜ (isLine devices l ≡ true) × (lasts ≡ true → isTake l ≡ true) ⌝ }
-    ensures { λ r. ⌜ now (rows .exit) ≡ rowJoined l lasts next (now (rows .entry)) ⌝ }
+// What lies beyond a lasting take is joined to the row of its device, if the board has it.
+pub fn join_row(l: u32, lasts: bool, next: Set, rows: &mut [Set; EACH_DEVICE])
+    ensures { λ r. ⌜ now (rows .exit) ≡ rowJoined l (lasts && ltb (operand l) devices) next (now (rows .entry)) ⌝ }
 {
-    if lasts {
-        let d = line::operand(l) as usize;
+    let o = line::operand(l);
+    if lasts & (o < DEVICES) {
+        let d = o as usize;
         rows[d] = sets::union(next, rows[d]);
     }
 }
@@ -213,5 +216,22 @@ pub fn holds(
         return HoldsAnswer::Refused(r);
     }
     let made = walk_back(plan, again, rows, lasting, &mut []);
+    HoldsAnswer::Made(made.held, made.twice)
+}
+
+// The rows of a plan, tested by 2 to 7, and as much of its table as the lent list has room for; the answer is as above.
+pub fn tabled(plan: &[u32], rows: &mut [Set; EACH_DEVICE], table: &mut [Set]) -> HoldsAnswer
+    ensures { λ r. ⌜
+        TabledAs (now (plan .entry)) (now (rows .entry)) (now (table .entry)) r (now (rows .exit)) (now (table .exit))
+        ⌝ }
+{
+    let mut first = [0u32; EACH_JOB];
+    let mut starter = [0u32; EACH_JOB];
+    let mut again = [0u8; MOST_LINES];
+    let mut lasting = [0u8; MOST_LINES];
+    if let Checked::Refused(r) = plan::scan(plan, &mut first, &mut starter, &mut again) {
+        return HoldsAnswer::Refused(r);
+    }
+    let made = walk_back(plan, &again, rows, &mut lasting, table);
     HoldsAnswer::Made(made.held, made.twice)
 }

@@ -1,21 +1,22 @@
 -- Members of what code makes of sets: of one device of a board, of both of two sets, of one of them alone, of one
 -- without the other; how many members there are with one more or less; and the lowest. All of it over the number of
 -- devices D. With `theory/proofs/Sets.antt` this is every law about sets as numbers.
-use Prim.Native.Nat.{ℕ, zero, suc, _-_, _/_, _%_, _^_, _<_, _≤_, min}
+use Prim.Native.Nat.{ℕ, _/_, _%_, _^_, _<_, _≤_, min}
 use mathlib.Core.Bool.{Bool, true, false, cond, not, _&&_}
 use mathlib.Core.Logic.{_⊎_, inl, inr}
 use mathlib.Core.Option.{Option, none, some, Option·getD}
 use mathlib.Core.Path.{_≡_, refl, sym, _∙_, ap}
 use native.Mathlib.Nat.{lt-of-le-of-lt}
 use native.Mathlib.Omega.{arith}
-use lib.Bits.{bitAnd, bitXor, and-shr, and-step, and-le-l, and-zero-r, or-zero-r, xor-shr, xor-step, xor-lt, xor-zero-r}
+use lib.Bits.{bitAnd, and-shr, and-step, and-le-l, and-zero-r, or-zero-r, xor-lt, xor-zero-r}
 use lib.Dec.{eqb, ltb}
 use borrow.Author.Tests.{eqb-true, eq-eqb, ne-eqb, lt-ltb, le-ltb}
 use Rattle.model.specs.Lists.{upFrom, firstOf}
 use Rattle.model.specs.Sets.{empty, only, union, member, lowestOf}
 use Rattle.theory.proofs.Tests.{clash, test, and-split, le-or-lt}
 use Rattle.theory.proofs.Lists.{has-upFrom, upFrom-has, Answer, first-answer, first-lowest}
-use Rattle.theory.proofs.Sets.{member-empty, member-only, member-past, empty-below, only-below, same-members}
+use Rattle.theory.proofs.Sets.{digits, member-xor, member-empty, member-only, member-past, empty-below, only-below}
+use Rattle.theory.proofs.Sets.{same-members}
 use Rattle.sets.specs.Only.{onlyOf}
 use Rattle.sets.specs.Both.{both, differ, without}
 
@@ -49,16 +50,6 @@ only-of-below D d = go (le-or-lt D d)
 
 -- ---- two sets
 
--- binary digits: a test of every pair of them
-digits : (P : ℕ → ℕ → Type 0) → P 0 0 → P 0 1 → P 1 0 → P 1 1 → (u v : ℕ) → u < 2 → v < 2 → P u v
-digits P a b c d zero zero h k = a
-digits P a b c d zero (suc zero) h k = b
-digits P a b c d zero (suc (suc v)) h k = absurd (omega arith)
-digits P a b c d (suc zero) zero h k = c
-digits P a b c d (suc zero) (suc zero) h k = d
-digits P a b c d (suc zero) (suc (suc v)) h k = absurd (omega arith)
-digits P a b c d (suc (suc u)) v h k = absurd (omega arith)
-
 pub member-both : (s t d : ℕ) → member (both s t) d ≡ (member s d && member t d)
 unfolding member both
 member-both s t d =
@@ -70,21 +61,8 @@ member-both s t d =
     (s / 2 ^ d % 2) (t / 2 ^ d % 2) (omega arith) (omega arith)
 
 pub member-differ : (s t d : ℕ) → member (differ s t) d ≡ cond (member t d) (not (member s d)) (member s d)
-unfolding member differ
-member-differ s t d =
-    ap (λ (x : ℕ). eqb (x % 2) 1) (xor-shr s t d)
-    ∙ ap (λ (x : ℕ). eqb x 1) (low (s / 2 ^ d) (t / 2 ^ d))
-    ∙ digits (λ u v. eqb (lib.Bits.differ u v) 1 ≡ cond (eqb v 1) (not (eqb u 1)) (eqb u 1)) refl refl refl refl
-    (s / 2 ^ d % 2) (t / 2 ^ d % 2) (omega arith) (omega arith)
-  where
-    low : (x y : ℕ) → bitXor x y % 2 ≡ lib.Bits.differ (x % 2) (y % 2)
-    low x y =
-        omega (
-          arith,
-          xor-step x y,
-          digits (λ u v. lib.Bits.differ u v < 2) (omega arith) (omega arith) (omega arith) (omega arith)
-              (x % 2) (y % 2) (omega arith) (omega arith),
-        )
+unfolding differ
+member-differ s t d = member-xor s t d
 
 pub member-without : (s t d : ℕ) → member (without s t) d ≡ (member s d && not (member t d))
 unfolding without

@@ -19,6 +19,9 @@ ghost use Rattle.sets.specs.Both.{both, differ, without};
 // No device.
 pub const NONE: Set = 0;
 
+// Every device of the board.
+pub const EVERY: Set = u32::MAX;
+
 // The set of one device, if it is put in; no device where the board has none of that number. There is no branch on
 // whether it is put in.
 pub fn only_if(put: bool, d: u32) -> Set

@@ -7,9 +7,11 @@ use mathlib.Core.List.{List, [], _∷_}
 use mathlib.Core.Option.{Option, none, some, Option·some-injective, Option·none-ne-some}
 use mathlib.Core.Path.{_≡_, refl, sym, _∙_, ap, ap₂}
 use native.Mathlib.Omega.{arith}
+use lib.Dec.{ltb}
 use lib.ListN.{getD}
+use borrow.Author.Tests.{ltb-false}
 use Rattle.model.specs.Answers.{numberOf, placeOf, refusalValues, lineValues, readValues, writeValues, tableValues}
-use Rattle.model.specs.Answers.{verdictValues, moveValues, judgeValues, refuseIf, refuseAt, firstRefusal}
+use Rattle.model.specs.Answers.{verdictValues, moveValues, judgeValues, refuseIf, refuseAt, firstRefusal, tooShort}
 use Rattle.model.specs.declared.Refusal.{Refusal}
 use Rattle.model.specs.declared.Refusal.the-variants.{TextTooLong, Malformed, TooManyLines, JobOutOfSequence}
 use Rattle.model.specs.declared.Refusal.the-variants.{BadStart, NeverStarted, GiveWithoutTake}
@@ -196,3 +198,11 @@ pub not-found : (r : ℕ → Refusal) (o : Option ℕ) → refuseAt r o ≡ none
 unfolding refuseAt
 not-found r none e = refl
 not-found r (some k) e = absurd (Option·none-ne-some (r k) (sym e))
+
+pub long-enough : (room needed : ℕ) → tooShort room needed ≡ none → needed ≤ room
+unfolding tooShort refuseIf
+long-enough room needed = go (ltb room needed) refl
+  where
+    go : (b : Bool) → ltb room needed ≡ b → refuseIf b (ListTooShort needed) ≡ none → needed ≤ room
+    go true e h = absurd (Option·none-ne-some (ListTooShort needed) (sym h))
+    go false e h = ltb-false room needed e

@@ -1,14 +1,15 @@
--- The theorems about the definitions of `model`, in the order in which they build on each other; the one that a user
--- of a file wants stands last in it. A legal order exists exactly if the verdict is an order: `Verdict`. An order from
--- elsewhere passes exactly if it is legal, and otherwise strays at its first wrong entry: `Judged`; how much of it
--- decides: `Cut`; of a text that has one, what is refused: `JudgedText`; and that what is past the judge's room changes
--- nothing: `LaterBytes`. The round trips: `Text`. The line reader: `Reader`; by an offset alone: `Offsets`. What is
--- printed fits the screens' buffer: `Printed`; and some print fills it: `Longest`. Contracts that are equations leave
--- one outcome: `Tight`.
+-- The theorems about the definitions of `model`, in the order in which they build on each other; the one that a user of
+-- a file wants stands last in it. A legal order exists exactly if the verdict is an order: `Verdict`. Over moves rows
+-- stay what they are afresh: `Kept`. An order from elsewhere passes exactly if it is legal, and otherwise strays at its
+-- first wrong entry: `Judged`; how much of it decides: `Cut`; of a text that has one, what is refused: `JudgedText`;
+-- and that what is past the judge's room changes nothing: `LaterBytes`. The round trips: `Text`. The line reader:
+-- `Reader`; by an offset alone: `Offsets`. What is printed fits the screens' buffer: `Printed`; and some print fills
+-- it: `Longest`. Contracts that are equations leave one outcome: `Tight`.
 pub mod Tests
 pub mod Tight
 pub mod Lists
 pub mod Sets
+pub mod Where
 pub mod Answers
 pub mod Line
 pub mod Held
@@ -21,6 +22,7 @@ pub mod Outer
 pub mod Way
 pub mod Edited
 pub mod Move
+pub mod LastingKept
 pub mod Again
 pub mod Around
 pub mod Depth
@@ -33,6 +35,7 @@ pub mod Handed
 pub mod LineByLine
 pub mod Steps
 pub mod Verdict
+pub mod Kept
 pub mod Judged
 pub mod Cut
 pub mod Numbers

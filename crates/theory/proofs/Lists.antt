@@ -1,17 +1,20 @@
 -- What the words of `model/Lists` mean: members of a list, of the positions, of those that pass; what a search finds,
--- and that where it finds nothing nothing passes. One law for each word serves order, verdict, faults and moves.
-use Prim.Native.Nat.{ℕ, zero, suc, _+_, _<_, _≤_}
+-- and that where it finds nothing nothing passes; what a lent list has in front and past it, once it was written to.
+-- One law for each word serves order, verdict, faults and moves.
+use Prim.Native.Nat.{ℕ, zero, suc, _+_, _-_, _<_, _≤_}
 use mathlib.Core.Bool.{Bool, true, false, cond, _&&_, _||_}
 use mathlib.Core.List.{List, [], _∷_, _++_, map}
 use mathlib.Core.Logic.{_⊎_, inl, inr, _≢_, _↔_}
 use mathlib.Core.Option.{Option, none, some, Option·some-injective}
-use mathlib.Core.Path.{_≡_, refl, sym, ap, subst}
+use mathlib.Core.Path.{_≡_, refl, sym, _∙_, ap, subst}
 use native.Mathlib.Omega.{arith}
 use lib.Dec.{eqb, ltb}
-use lib.ListN.{length}
+use lib.ListN.{length, getD, take, drop, length-append, length-drop, length-take, take-append-drop}
+use lib.Seq.{getD-take, getD-drop, take-at, drop-at}
 use borrow.Author.Tests.{eqb-true, eq-eqb, eqb-false, ltb-true, ltb-false}
-use Rattle.model.specs.Lists.{upFrom, positions, any, all, has, those, firstOf, lower, leastBy, orElse}
+use Rattle.model.specs.Lists.{upFrom, positions, any, all, has, those, firstOf, lower, leastBy, orElse, over}
 use Rattle.theory.proofs.Tests.{clash, no-some, test, or-split, or-left, or-right, and-split, and-both}
+use Rattle.theory.proofs.Tests.{le-or-lt}
 
 -- ---- members
 
@@ -470,3 +473,49 @@ pub left-every : (n : ℕ) → left (among []) n ≡ n
 unfolding left has
 left-every zero = refl
 left-every (suc n) = ap suc (left-every n)
+
+-- ---- lent lists that were written to
+
+pub over-front : (n : ℕ) (new old : List ℕ) → length new ≡ n → take n (over new old) ≡ new
+unfolding over
+over-front n new old h = take-at new (drop (length new) old) n h
+
+pub over-rest : (n : ℕ) (new old : List ℕ) → length new ≡ n → drop n (over new old) ≡ drop n old
+unfolding over
+over-rest n new old h = drop-at new (drop (length new) old) n h ∙ rw h
+
+pub over-length : (new old : List ℕ) → length new ≤ length old → length (over new old) ≡ length old
+unfolding over
+over-length new old h = simp (length-append, length-drop) (omega arith)
+
+-- written over again, by as many
+pub over-again : (new mid old : List ℕ) → length new ≡ length mid → over new (over mid old) ≡ over new old
+unfolding over
+over-again new mid old h =
+    ap (λ (xs : List ℕ). new ++ xs) (drop-at mid (drop (length mid) old) (length new) (sym h) ∙ rw h)
+
+-- with what stands there
+pub over-own : (n : ℕ) (new old : List ℕ) → take n old ≡ new → length new ≡ n → over new old ≡ old
+unfolding over
+over-own n new old h k = rw (k, ← h) (take-append-drop n old)
+
+pub own-room : (n : ℕ) (new old : List ℕ) → take n old ≡ new → length new ≡ n → n ≤ length old
+own-room n new old h k = omega (arith, ap length h, length-take n old)
+
+-- an entry of a list that was written to, from its front or from past it
+pub over-entry : (new old : List ℕ) (d v : ℕ) → (d < length new → getD new d 0 ≡ v)
+    → (length new ≤ d → getD old d 0 ≡ v) → getD (over new old) d 0 ≡ v
+over-entry new old d v f g = go (le-or-lt (length new) d)
+  where
+    n : ℕ
+    n = length new
+
+    go : (length new ≤ d) ⊎ (d < length new) → getD (over new old) d 0 ≡ v
+    go (inr h) =
+        sym (getD-take n (over new old) d 0 h) ∙ ap (λ (xs : List ℕ). getD xs d 0) (over-front n new old refl) ∙ f h
+    go (inl h) = past (d - n) (omega arith)
+      where
+        past : (k : ℕ) → d ≡ n + k → getD (over new old) d 0 ≡ v
+        past k z =
+            let c = ap (λ (xs : List ℕ). getD xs k 0) (over-rest n new old refl) in
+            rw z (sym (getD-drop n (over new old) k 0) ∙ c ∙ getD-drop n old k 0 ∙ (rw (← z) (g h)))

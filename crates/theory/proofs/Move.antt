@@ -7,7 +7,7 @@ use Prim.Native.Nat.{ℕ, zero, suc, _+_, _<_, _≤_}
 use mathlib.Core.Bool.{Bool, true, false, cond, not}
 use mathlib.Core.List.{List, [], _∷_, _++_}
 use mathlib.Core.Logic.{_⊎_, inl, inr, _≢_, _↔_}
-use mathlib.Core.Option.{Option, none, some, Option·none-ne-some, Option·some-injective}
+use mathlib.Core.Option.{Option, none, some, Option·none-ne-some}
 use mathlib.Core.Path.{_≡_, refl, sym, _∙_, ap, subst}
 use native.Mathlib.Omega.{arith}
 use lib.Dec.{eqb, leb, ltb}
@@ -22,7 +22,7 @@ use Rattle.model.specs.Line.{isTake, isGive, at, lineNumber}
 use Rattle.model.specs.WellFormed.{Rules, WellFormed, fault}
 use Rattle.model.specs.Mate.{deviceAt}
 use Rattle.model.specs.Claims.{successors, own, joined, table, beyond}
-use Rattle.model.specs.Move.{edited, way, under, mayChange, fromLast, rejoined, stale, rewritten, changed, askedAt}
+use Rattle.model.specs.Move.{edited, mayChange, fromLast, rejoined, stale, rewritten, changed, askedAt}
 use Rattle.model.specs.Move.{isTakeOf, moveRefusal}
 use Rattle.model.specs.Entries.{Outcome, Lent, outcome, moving}
 use Rattle.model.specs.declared.Refusal.{Refusal}
@@ -30,8 +30,8 @@ use Rattle.model.specs.declared.Refusal.the-variants.{ListTooShort, NotATake, N
 use Rattle.model.specs.declared.MoveAnswer.{MoveAnswer}
 use Rattle.theory.specs.Move.{Refused, notATake, noSuchDevice, differing, Accepted, Step}
 use Rattle.theory.specs.Move.{refused, accepted, Ask, moved, movedBy, Kept, NearestStale}
-use Rattle.theory.proofs.Tests.{clash, no-some, test, or-left, or-neither}
-use Rattle.theory.proofs.Lists.{has-none, has-head, has-tail, has-cases, Answer, first-answer, none-exactly}
+use Rattle.theory.proofs.Tests.{clash, test, or-left, or-neither}
+use Rattle.theory.proofs.Lists.{has-none, has-head, has-tail, has-cases, none-exactly}
 use Rattle.theory.proofs.Lists.{has-right, first-split, split-first}
 use Rattle.theory.proofs.Answers.{all-tests, also, first-each, none-refuses, not-refused, not-found}
 use Rattle.theory.proofs.Line.{device-line}
@@ -41,7 +41,7 @@ use Rattle.theory.proofs.WellFormed.{take-line, FaultView, broken, faul
 use Rattle.theory.proofs.Successors.{successor-after}
 use Rattle.theory.proofs.Edited.{Alike, edit, edited-same, same-successors, own-elsewhere, edited-well-formed}
 use Rattle.theory.specs.Move.{Falls, ends, falls}
-use Rattle.theory.proofs.Way.{falls-below, way-falls, may-change-line, off-take}
+use Rattle.theory.proofs.Way.{falls-below, may-change-line, off-take}
 use Rattle.theory.proofs.Way.{from-last-falls, from-last-same, from-last-off}
 
 -- ---- a table is determined by the joining
@@ -53,7 +53,7 @@ joined-same t u [] h = refl
 joined-same t u (o ∷ os) h = cc (h o (has-head o os), joined-same t u os (λ x m. h x (has-tail x o os m)))
 
 -- what lies beyond a line is the same of tables that have the same for its successors
-beyond-same : (p t u : List ℕ) (k : ℕ)
+pub beyond-same : (p t u : List ℕ) (k : ℕ)
     → ((o : ℕ) → has o (successors (at p k) (drop (suc k) p)) ≡ true → getD t (suc k + o) 0 ≡ getD u (suc k + o) 0)
     → beyond p t k ≡ beyond p u k
 unfolding beyond
@@ -249,6 +249,12 @@ unfolding isTakeOf askedAt
 asked-take p zero h = clash false h refl
 asked-take p (suc i) h = h
 
+-- the device of a take is one of the board's
+pub taken-device : (D : ℕ) (p : List ℕ) (i : ℕ) → WellFormed D p → isTake (at p i) ≡ true → deviceAt p i < D
+unfolding deviceAt
+taken-device D p i w t =
+    device-line D (at p i) (w .lines i (take-line p i t)) (or-left (isTake (at p i)) (isGive (at p i)) t)
+
 -- the tests that are left, by their outcomes
 refusedBy : ℕ → ℕ → Bool → Bool → Option ℕ → Option Refusal
 refusedBy line device isTake′ noDevice old =
@@ -281,10 +287,10 @@ module _ (D : ℕ) (p t : List ℕ) (line device : ℕ) (w : WellFormed D p) (mi
 
 -- ---- the tests of any move
 
-abbrev tests : ℕ → List ℕ → List ℕ → ℕ → ℕ → List (Option Refusal)
-tests D p t line device =
+abbrev pub tests : ℕ → List ℕ → List ℕ → Option Refusal → ℕ → ℕ → List (Option Refusal)
+tests D p t room line device =
     fault D p
-    ∷ tooShort (length t) (length p)
+    ∷ room
     ∷ refuseIf (not (isTakeOf p line)) (NotATake line)
     ∷ refuseIf (leb D device) (NoSuchDevice device)
     ∷ refuseAt (λ k. StaleTable (lineNumber k)) (firstOf (stale p t) (mayChange p (askedAt line)))
@@ -319,7 +325,7 @@ module _ (D : ℕ) (p t : List ℕ) (line device : ℕ) where
   unfolding moveRefusal tooShort
   no-verdict-refuses r h =
       subst NoVerdict h
-      (first-each NoVerdict (tests D p t line device) tt
+      (first-each NoVerdict (tests D p t (tooShort (length t) (length p)) line device) tt
       (also (fault-no-verdict D p)
       (also
       (if-no-verdict (ltb (length t) (length p)) (ListTooShort (length p)) (λ e. omega arith, λ e. omega arith))
@@ -332,7 +338,7 @@ module _ (D : ℕ) (p t : List ℕ) (line device : ℕ) where
       → (fault D p ≡ none) × (isTakeOf p line ≡ true) × (firstOf (stale p t) (mayChange p (askedAt line)) ≡ none)
   unfolding moveRefusal
   tests-passed h =
-      let e = none-refuses (tests D p t line device) h in (
+      let e = none-refuses (tests D p t (tooShort (length t) (length p)) line device) h in (
         e 0,
         not-refused (isTakeOf p line) (NotATake line) (e 2),
         not-found (λ k. StaleTable (lineNumber k)) (firstOf (stale p t) (mayChange p (askedAt line))) (e 4),
@@ -403,7 +409,7 @@ tested p t i device x =
 
 module _ (D : ℕ) (p t : List ℕ) (line device : ℕ) (w : WellFormed D p) (small : D ≤ 256)
     (mine : take (length p) t ≡ table p) where
-  accepts : isTakeOf p line ≡ true → device < D → Accepted D p t line device (tested p t (askedAt line) device none)
+  pub accepts : isTakeOf p line ≡ true → device < D → Accepted D p t line device (tested p t (askedAt line) device none)
   unfolding outcome
   accepts a b = record {
     plan = refl;
@@ -499,17 +505,13 @@ module _ (D : ℕ) (p t : List ℕ) (line device : ℕ) (present : deviceAt p (a
   -- and none does, from a plan without a fault and its own table, where the line is a take
   pub same-device-passes : WellFormed D p → take (length p) t ≡ table p → isTakeOf p line ≡ true
       → moveRefusal D p t line device ≡ none
-  unfolding deviceAt
   same-device-passes w mine a = go (moveRefusal D p t line device) (test-view D p t line device w mine)
     where
       taken : isTake (at p (askedAt line)) ≡ true
       taken = asked-take p line a
 
       onBoard : device < D
-      onBoard =
-          rw (← present)
-          (device-line D (at p (askedAt line)) (w .lines (askedAt line) (take-line p (askedAt line) taken))
-          (or-left (isTake (at p (askedAt line))) (isGive (at p (askedAt line))) taken))
+      onBoard = rw (← present) (taken-device D p (askedAt line) w taken)
 
       go : (x : Option Refusal) → TestView D p line device x → x ≡ none
       go none v = refl

@@ -24,7 +24,7 @@ use Rattle.model.specs.Move.{edited, until, under}
 use Rattle.theory.specs.Outer.{holdsBeneath, freesAt, againAt, plain, plainAt}
 use Rattle.theory.specs.Remarked.{names, againAfter, openAfter}
 use Rattle.theory.proofs.Tests.{clash, test, falsely, and-split, and-right, or-right, le-or-lt, tests-agree}
-use Rattle.theory.proofs.Tests.{leb-agree}
+use Rattle.theory.proofs.Tests.{leb-agree, or-false, and-true}
 use Rattle.theory.proofs.Held.{held-take, held-give, held-other, none-held}
 use Rattle.theory.proofs.Line.{take-no-give}
 use Rattle.theory.proofs.WellFormed.{take-line, give-line}
@@ -201,14 +201,6 @@ verb l = go (isTake l) (isGive l) refl refl
 
 give-no-take : (l : ℕ) → isGive l ≡ true → isTake l ≡ false
 give-no-take l g = falsely (isTake l) (λ t. clash (isGive l) g (take-no-give l t))
-
-or-false : (b : Bool) → (b || false) ≡ b
-or-false true = refl
-or-false false = refl
-
-and-true : (b : Bool) → (b && true) ≡ b
-and-true true = refl
-and-true false = refl
 
 -- the stack is asked for the device at a take, and beneath its first at a give
 module _ (p : List ℕ) (k : ℕ) where

@@ -1,8 +1,8 @@
--- Sets of devices by their members: of no device, of one, of a union, of a union over a list; two sets below 2 ^ D
--- with the same members are the same; how many members a set has, and the lowest. All of it over the number of
--- devices D.
+-- Sets of devices by their members: of no device, of one, of a union, of a union over a list, of a set with a device
+-- put in or left out; two sets below 2 ^ D with the same members are the same; how many members a set has, and the
+-- lowest. All of it over the number of devices D.
 use Prim.Native.Nat.{ℕ, zero, suc, _+_, _-_, _*_, _/_, _%_, _^_, _<_, _≤_, max}
-use mathlib.Core.Bool.{Bool, true, false, cond, _||_}
+use mathlib.Core.Bool.{Bool, true, false, cond, not, _||_}
 use mathlib.Core.List.{List, [], _∷_, map}
 use mathlib.Core.Logic.{_⊎_, inl, inr}
 use mathlib.Core.Path.{_≡_, refl, sym, _∙_, ap}
@@ -11,35 +11,55 @@ use native.Mathlib.Nat.{zero-add, add-zero, zero-div, div-one, div-eq-of-lt, lt-
 use native.Mathlib.Nat.{mod-eq-of-lt}
 use native.Mathlib.Numerals.{add-one}
 use native.Mathlib.Omega.{arith}
-use lib.Bits.{bitOr, or-shr, or-step, or-lt}
+use lib.Bits.{bitOr, bitXor, differ, or-shr, or-step, or-lt, xor-shr, xor-step, xor-lt}
 use lib.Count.{ones, onesIn, ones-step, under, trailingZeros}
 use lib.Dec.{eqb}
 use lib.ListN.{length}
 use lib.Pow.{pow-add, pow-pos, pow-lt, pow-mono, shl-shr, shr-shr, shr-lt}
 use borrow.Author.Tests.{eqb-true, eqb-false, eq-eqb, ne-eqb}
 use Rattle.model.specs.Lists.{upFrom, has, those, firstOf}
-use Rattle.model.specs.Sets.{empty, only, union, unionOf, member, lowestOf}
+use Rattle.model.specs.Sets.{empty, only, union, unionOf, member, put, lowestOf}
 use Rattle.theory.proofs.Tests.{clash, or-split, or-left, or-right, le-or-lt}
 use Rattle.theory.proofs.Lists.{has-none, has-head, has-tail, has-cases}
 
+-- binary digits: a test of every pair of them
+pub digits : (P : ℕ → ℕ → Type 0) → P 0 0 → P 0 1 → P 1 0 → P 1 1 → (u v : ℕ) → u < 2 → v < 2 → P u v
+digits P a b c d zero zero h k = a
+digits P a b c d zero (suc zero) h k = b
+digits P a b c d zero (suc (suc v)) h k = absurd (omega arith)
+digits P a b c d (suc zero) zero h k = c
+digits P a b c d (suc zero) (suc zero) h k = d
+digits P a b c d (suc zero) (suc (suc v)) h k = absurd (omega arith)
+digits P a b c d (suc (suc u)) v h k = absurd (omega arith)
+
 or-low : (x y : ℕ) → bitOr x y % 2 ≡ max (x % 2) (y % 2)
 or-low x y = omega (arith, or-step x y)
-
-bit : (u v : ℕ) → u < 2 → v < 2 → eqb (max u v) 1 ≡ (eqb u 1 || eqb v 1)
-bit zero zero h k = refl
-bit zero (suc zero) h k = refl
-bit zero (suc (suc v)) h k = absurd (omega arith)
-bit (suc zero) zero h k = refl
-bit (suc zero) (suc zero) h k = refl
-bit (suc zero) (suc (suc v)) h k = absurd (omega arith)
-bit (suc (suc u)) v h k = absurd (omega arith)
 
 pub member-union : (a b d : ℕ) → member (union a b) d ≡ (member a d || member b d)
 unfolding member union
 member-union a b d =
     ap (λ (x : ℕ). eqb (x % 2) 1) (or-shr a b d)
     ∙ ap (λ (x : ℕ). eqb x 1) (or-low (a / 2 ^ d) (b / 2 ^ d))
-    ∙ bit (a / 2 ^ d % 2) (b / 2 ^ d % 2) (omega arith) (omega arith)
+    ∙ digits (λ u v. eqb (max u v) 1 ≡ (eqb u 1 || eqb v 1)) refl refl refl refl
+    (a / 2 ^ d % 2) (b / 2 ^ d % 2) (omega arith) (omega arith)
+
+xor-low : (x y : ℕ) → bitXor x y % 2 ≡ differ (x % 2) (y % 2)
+xor-low x y =
+    omega (
+      arith,
+      xor-step x y,
+      digits (λ u v. differ u v < 2) (omega arith) (omega arith) (omega arith) (omega arith)
+          (x % 2) (y % 2) (omega arith) (omega arith),
+    )
+
+-- of the members of one of two sets alone
+pub member-xor : (a b d : ℕ) → member (bitXor a b) d ≡ cond (member b d) (not (member a d)) (member a d)
+unfolding member
+member-xor a b d =
+    ap (λ (x : ℕ). eqb (x % 2) 1) (xor-shr a b d)
+    ∙ ap (λ (x : ℕ). eqb x 1) (xor-low (a / 2 ^ d) (b / 2 ^ d))
+    ∙ digits (λ u v. eqb (differ u v) 1 ≡ cond (eqb v 1) (not (eqb u 1)) (eqb u 1)) refl refl refl refl
+    (a / 2 ^ d % 2) (b / 2 ^ d % 2) (omega arith) (omega arith)
 
 pub member-empty : (d : ℕ) → member empty d ≡ false
 unfolding member empty
@@ -213,3 +233,46 @@ lowest-from (suc D) e s =
 pub lowest-member : (D s : ℕ) → lowestOf D s ≡ trailingZeros D s
 unfolding lowestOf
 lowest-member D s = simp (zero-add, div-one) at (lowest-from D 0 s)
+
+-- ---- a device put in, or left out
+
+-- what holds of a set, and of it with one bit turned, holds of it with a device put in or left out
+put-either : (P : ℕ → Type 0) (b : Bool) (d s : ℕ) → P s → P (bitXor s (only d)) → P (put b d s)
+unfolding put
+put-either P true d s x y = go (member s d)
+  where
+    go : (m : Bool) → P (cond m s (bitXor s (only d)))
+    go true = x
+    go false = y
+put-either P false d s x y = go (member s d)
+  where
+    go : (m : Bool) → P (cond m (bitXor s (only d)) s)
+    go true = y
+    go false = x
+
+member-turned : (d s x : ℕ) → member (bitXor s (only d)) x ≡ cond (eqb d x) (not (member s x)) (member s x)
+member-turned d s x = rw (member-xor s (only d) x, member-only d x)
+
+put-there : (b : Bool) (d s : ℕ) → member (put b d s) d ≡ b
+unfolding put
+put-there b d s = go b (member s d) refl
+  where
+    turned : member (bitXor s (only d)) d ≡ not (member s d)
+    turned = member-turned d s d ∙ rw (eq-eqb d d refl)
+
+    go : (b m : Bool) → member s d ≡ m → member (put b d s) d ≡ b
+    go true true e = rw e e
+    go true false e = rw e (turned ∙ rw e)
+    go false true e = rw e (turned ∙ rw e)
+    go false false e = rw e e
+
+-- the device is in it as asked, the others as they were
+pub member-put : (b : Bool) (d s x : ℕ) → member (put b d s) x ≡ cond (eqb d x) b (member s x)
+member-put b d s x = go (eqb d x) refl
+  where
+    go : (z : Bool) → eqb d x ≡ z → member (put b d s) x ≡ cond z b (member s x)
+    go true e = rw (← eqb-true d x e) (put-there b d s)
+    go false e = put-either (λ t. member t x ≡ member s x) b d s refl (member-turned d s x ∙ rw e)
+
+pub put-below : (D : ℕ) (b : Bool) (d s : ℕ) → d < D → s < 2 ^ D → put b d s < 2 ^ D
+put-below D b d s h k = put-either (λ t. t < 2 ^ D) b d s k (xor-lt D s (only d) k (only-below D d h))

@@ -60,6 +60,15 @@ pub and-right : (a b : Bool) → b ≡ false → (a && b) ≡ false
 and-right true b e = e
 and-right false b e = refl
 
+-- a test beside one that changes nothing
+pub or-false : (b : Bool) → (b || false) ≡ b
+or-false true = refl
+or-false false = refl
+
+pub and-true : (b : Bool) → (b && true) ≡ b
+and-true true = refl
+and-true false = refl
+
 -- the second fails, where both fail and the first passes
 pub and-second : (a b : Bool) → a ≡ true → (a && b) ≡ false → b ≡ false
 and-second true b e h = h

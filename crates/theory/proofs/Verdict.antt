@@ -18,10 +18,10 @@ use Rattle.model.specs.WellFormed.{WellFormed, fault}
 use Rattle.model.specs.Legal.{givenBack, held, Legal}
 use Rattle.model.specs.Rows.{lastingTakes, rows, Leads, leadsBack}
 use Rattle.model.specs.Handed.{handed}
-use Rattle.model.specs.Verdict.{twoLasting, circle, noOrder, heldAtEnd}
+use Rattle.model.specs.Verdict.{twoLasting, circleOf, circle, noOrder, heldAtEnd}
 use Rattle.model.specs.declared.Refusal.{Refusal}
 use Rattle.model.specs.declared.Refusal.the-variants.{TwoLasting, LeadsBack}
-use Rattle.theory.specs.Verdict.{LastsTwice, NoOrder, twice, back}
+use Rattle.theory.specs.Verdict.{LastsTwice, NoOrderBy, NoOrder, twice, back}
 use Rattle.theory.proofs.Tests.{clash, test, and-split, and-both, le-or-lt}
 use Rattle.theory.proofs.Lists.{has-none, has-head, has-tail, has-cases, has-upFrom, upFrom-has, position-has}
 use Rattle.theory.proofs.Lists.{has-those}
@@ -101,13 +101,14 @@ lasts-twice-exactly p d =
 
 -- ---- the verdict's refusals
 
-pub data OrderView (D : ℕ) (p : List ℕ) : Option Refusal → Type 0 where
-  accepted : ((e : ℕ) → e < D → LastsTwice p e → ⊥) → ((e : ℕ) → e < D → Leads (rows D p) e e → ⊥) → OrderView D p none
-  refused : (r : Refusal) → NoOrder D p r → OrderView D p (some r)
+-- by any rows
+pub data ViewBy (D : ℕ) (p rs : List ℕ) : Option Refusal → Type 0 where
+  accepted : ((e : ℕ) → e < D → LastsTwice p e → ⊥) → ((e : ℕ) → e < D → Leads rs e e → ⊥) → ViewBy D p rs none
+  refused : (r : Refusal) → NoOrderBy D p rs r → ViewBy D p rs (some r)
 
-pub order-view : (D : ℕ) (p : List ℕ) → OrderView D p (noOrder D p)
-unfolding noOrder firstRefusal twoLasting circle refuseAt
-order-view D p =
+pub view-by : (D : ℕ) (p rs : List ℕ) → ViewBy D p rs (firstRefusal (twoLasting D p ∷ circleOf D rs ∷ []))
+unfolding firstRefusal twoLasting circleOf refuseAt
+view-by D p rs =
     go (firstOf two (upFrom 0 D)) refl (first-answer two (upFrom 0 D)) (firstOf leads (upFrom 0 D)) refl
     (first-answer leads (upFrom 0 D))
   where
@@ -115,20 +116,20 @@ order-view D p =
     two d = leb 2 (length (lastingTakes p d))
 
     leads : ℕ → Bool
-    leads = leadsBack (rows D p)
+    leads = leadsBack rs
 
     not-two : (e : ℕ) → two e ≡ false → LastsTwice p e → ⊥
     not-two e q t = clash (two e) (lasts-twice-exactly p e .1 t) q
 
-    not-back : (e : ℕ) → leads e ≡ false → Leads (rows D p) e e → ⊥
-    not-back e q l = clash (leads e) (leads-back-exactly (rows D p) e .1 l) q
+    not-back : (e : ℕ) → leads e ≡ false → Leads rs e e → ⊥
+    not-back e q l = clash (leads e) (leads-back-exactly rs e .1 l) q
 
     below : (d : ℕ) → has d (upFrom 0 D) ≡ true → d < D
     below d h = omega (arith, has-upFrom 0 D d h .1)
 
     go : (x : Option ℕ) → firstOf two (upFrom 0 D) ≡ x → Answer two (upFrom 0 D) x
         → (y : Option ℕ) → firstOf leads (upFrom 0 D) ≡ y → Answer leads (upFrom 0 D) y
-        → OrderView D p (firstRefusal (refuseAt TwoLasting x ∷ refuseAt LeadsBack y ∷ []))
+        → ViewBy D p rs (firstRefusal (refuseAt TwoLasting x ∷ refuseAt LeadsBack y ∷ []))
     go (some d) xe xa y ye ya =
         refused (TwoLasting d)
         (twice d (below d (xa .0)) (lasts-twice-exactly p d .0 (xa .1))
@@ -136,11 +137,19 @@ order-view D p =
     go none xe xa (some d) ye ya =
         refused (LeadsBack d)
         (back d (λ e h. not-two e (xa e (upFrom-has 0 D e (omega arith) (omega arith)))) (below d (ya .0))
-        (leads-back-exactly (rows D p) d .0 (ya .1))
+        (leads-back-exactly rs d .0 (ya .1))
         (λ e h. not-back e (first-lowest leads 0 D d ye e (omega arith) h)))
     go none xe xa none ye ya =
         accepted (λ e h. not-two e (xa e (upFrom-has 0 D e (omega arith) (omega arith))))
         (λ e h. not-back e (ya e (upFrom-has 0 D e (omega arith) (omega arith))))
+
+-- by the plan's own
+abbrev pub OrderView : ℕ → List ℕ → Option Refusal → Type 0
+OrderView D p = ViewBy D p (rows D p)
+
+pub order-view : (D : ℕ) (p : List ℕ) → OrderView D p (noOrder D p)
+unfolding noOrder circle
+order-view D p = view-by D p (rows D p)
 
 -- a reason why there is no order excludes every legal one
 pub no-legal-order : (D : ℕ) (p : List ℕ) (r : Refusal) → NoOrder D p r → (o : List ℕ) → Legal p o → ⊥
@@ -214,13 +223,31 @@ lowest-one P d e x y low under = go (le-or-lt d e) (le-or-lt e d)
     go (inr a) b = absurd (low e a y)
 
 -- there is one such reason at most: the lowest device of the twice held, otherwise the lowest that leads back
-one-reason : (D : ℕ) (p : List ℕ) (r s : Refusal) → NoOrder D p r → NoOrder D p s → r ≡ s
-one-reason D p r s (twice d l t low) (twice e m u under) =
+one-reason : (D : ℕ) (p rs : List ℕ) (r s : Refusal) → NoOrderBy D p rs r → NoOrderBy D p rs s → r ≡ s
+one-reason D p rs r s (twice d l t low) (twice e m u under) =
     ap {B = Refusal} TwoLasting (lowest-one (LastsTwice p) d e t u low under)
-one-reason D p r s (twice d l t low) (back e n m c under) = absurd (n d l t)
-one-reason D p r s (back d n l c low) (twice e m u under) = absurd (n e m u)
-one-reason D p r s (back d n l c low) (back e o m x under) =
-    ap {B = Refusal} LeadsBack (lowest-one (λ g. Leads (rows D p) g g) d e c x low under)
+one-reason D p rs r s (twice d l t low) (back e n m c under) = absurd (n d l t)
+one-reason D p rs r s (back d n l c low) (twice e m u under) = absurd (n e m u)
+one-reason D p rs r s (back d n l c low) (back e o m x under) =
+    ap {B = Refusal} LeadsBack (lowest-one (λ g. Leads rs g g) d e c x low under)
+
+-- what is seen by some rows is refused exactly for its reason
+pub seen-exactly : (D : ℕ) (p rs : List ℕ) (x : Option Refusal) → ViewBy D p rs x → (r : Refusal)
+    → (x ≡ some r) ↔ NoOrderBy D p rs r
+seen-exactly D p rs x v r = (λ e. to x e v, λ h. from x refl v h)
+  where
+    to : (x : Option Refusal) → x ≡ some r → ViewBy D p rs x → NoOrderBy D p rs r
+    to none q v = absurd (Option·none-ne-some r q)
+    to (some s) q (refused t h) = subst (λ (y : Refusal). NoOrderBy D p rs y) (Option·some-injective s r q) h
+
+    none-left : ((e : ℕ) → e < D → LastsTwice p e → ⊥) → ((e : ℕ) → e < D → Leads rs e e → ⊥)
+        → (t : Refusal) → NoOrderBy D p rs t → ⊥
+    none-left f g t (twice d l u low) = f d l u
+    none-left f g t (back d n l c low) = g d l c
+
+    from : (y : Option Refusal) → x ≡ y → ViewBy D p rs y → NoOrderBy D p rs r → x ≡ some r
+    from none q (accepted f g) h = absurd (none-left f g r h)
+    from (some s) q (refused t k) h = q ∙ ap {B = Option Refusal} some (one-reason D p rs s r k h)
 
 module _ (D : ℕ) (p : List ℕ) (sound : fault D p ≡ none) where
   well-formed : WellFormed D p
@@ -239,20 +266,7 @@ module _ (D : ℕ) (p : List ℕ) (sound : fault D p ≡ none) where
 
   -- 9 or 10 exactly for its reason
   pub refused-exactly : (r : Refusal) → (noOrder D p ≡ some r) ↔ NoOrder D p r
-  refused-exactly r = (λ e. to (noOrder D p) e (order-view D p), λ h. from (noOrder D p) refl (order-view D p) h)
-    where
-      to : (x : Option Refusal) → x ≡ some r → OrderView D p x → NoOrder D p r
-      to none q v = absurd (Option·none-ne-some r q)
-      to (some s) q (refused t h) = subst (λ (y : Refusal). NoOrder D p y) (Option·some-injective s r q) h
-
-      none-left : ((e : ℕ) → e < D → LastsTwice p e → ⊥) → ((e : ℕ) → e < D → Leads (rows D p) e e → ⊥)
-          → (t : Refusal) → NoOrder D p t → ⊥
-      none-left f g t (twice d l u low) = f d l u
-      none-left f g t (back d n l c low) = g d l c
-
-      from : (x : Option Refusal) → noOrder D p ≡ x → OrderView D p x → NoOrder D p r → noOrder D p ≡ some r
-      from none q (accepted f g) h = absurd (none-left f g r h)
-      from (some s) q (refused t k) h = q ∙ ap {B = Option Refusal} some (one-reason D p s r k h)
+  refused-exactly = seen-exactly D p (rows D p) (noOrder D p) (order-view D p)
 
   -- The theorem: a legal order exists exactly if the verdict refuses by neither 9 nor 10.
   pub legal-order-exactly : ((o : List ℕ) × Legal p o) ↔ (noOrder D p ≡ none)

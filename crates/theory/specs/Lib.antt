@@ -5,6 +5,7 @@ pub mod Outer
 pub mod Claims
 pub mod Verdict
 pub mod Move
+pub mod Kept
 pub mod Remarked
 pub mod Text
 pub mod Judged

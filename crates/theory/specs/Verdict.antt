@@ -18,8 +18,11 @@ pub record LastsTwice (p : List ℕ) (d : ℕ) : Type 0 where
   pub i-lasts : lasting p i d ≡ true
   pub k-lasts : lasting p k d ≡ true
 
--- why there is no order, and the lowest device for which
-pub data NoOrder (D : ℕ) (p : List ℕ) : Refusal → Type 0 where
-  twice : (d : ℕ) → d < D → LastsTwice p d → ((e : ℕ) → e < d → LastsTwice p e → ⊥) → NoOrder D p (TwoLasting d)
-  back : (d : ℕ) → ((e : ℕ) → e < D → LastsTwice p e → ⊥) → d < D → Leads (rows D p) d d
-      → ((e : ℕ) → e < d → Leads (rows D p) e e → ⊥) → NoOrder D p (LeadsBack d)
+-- why there is no order, going by some rows, and the lowest device for which; going by the plan's own
+pub data NoOrderBy (D : ℕ) (p rs : List ℕ) : Refusal → Type 0 where
+  twice : (d : ℕ) → d < D → LastsTwice p d → ((e : ℕ) → e < d → LastsTwice p e → ⊥) → NoOrderBy D p rs (TwoLasting d)
+  back : (d : ℕ) → ((e : ℕ) → e < D → LastsTwice p e → ⊥) → d < D → Leads rs d d
+      → ((e : ℕ) → e < d → Leads rs e e → ⊥) → NoOrderBy D p rs (LeadsBack d)
+
+abbrev pub NoOrder : ℕ → List ℕ → Refusal → Type 0
+NoOrder D p = NoOrderBy D p (rows D p)

@@ -22,7 +22,7 @@ use Rattle.model.specs.WellFormed.{WellFormed}
 use Rattle.model.specs.Board.{devices}
 use Rattle.theory.specs.Outer.{againAt, plainAt}
 use Rattle.theory.proofs.Tests.{clash, test, falsely, tests-agree, or-left, or-right, and-split, and-both, and-second}
-use Rattle.theory.proofs.Tests.{and-right, le-or-lt}
+use Rattle.theory.proofs.Tests.{and-right, and-true, le-or-lt}
 use Rattle.theory.proofs.Lists.{any-none, none-any, left, left-zero, left-none, left-same, left-one, left-all}
 use Rattle.theory.proofs.Sets.{member-union, member-empty}
 use Rattle.theory.proofs.Outer.{plain-operand, plain-take}
@@ -33,10 +33,6 @@ use Rattle.sets.proofs.Members.{member-only-if}
 use Rattle.verdict.specs.declared.waiting.Waiting.{Waiting}
 use Rattle.verdict.specs.Waiting.{slot, takesOne, added, tallied, scarceIf, scarceBelow, counted, settled}
 use Rattle.verdict.specs.Waiting.{CanRise, CanFall}
-
-and-true : (b : Bool) → (b && true) ≡ b
-and-true true = refl
-and-true false = refl
 
 -- ---- undone lines that take a device
 

@@ -2,84 +2,51 @@
 -- held.
 use Prim.Native.Nat.{ℕ, _<_, _≤_}
 use mathlib.Core.List.{List}
-use mathlib.Core.Option.{Option, none, some, Option·getD}
-use mathlib.Core.Path.{_≡_, refl, sym, _∙_, ap}
-use native.Mathlib.Omega.{arith}
+use mathlib.Core.Option.{none, some}
+use mathlib.Core.Path.{_≡_, sym, _∙_, ap}
+use lib.Dec.{ltb}
 use lib.ListN.{length}
-use Rattle.model.specs.Lists.{upFrom, those, firstOf}
+use borrow.Author.Tests.{lt-ltb, le-ltb}
+use Rattle.model.specs.Lists.{upFrom, those}
 use Rattle.model.specs.Sets.{member, lowestOf}
-use Rattle.model.specs.Answers.{refuseAt, firstRefusal}
-use Rattle.model.specs.Rows.{leadsBack}
+use Rattle.model.specs.Answers.{refuseIf, firstRefusal}
 use Rattle.model.specs.WellFormed.{fault}
 use Rattle.model.specs.Verdict.{noOrder, twoLasting, circle, heldAtEnd}
 use Rattle.model.specs.Board.{devices}
 use Rattle.model.specs.declared.Refusal.{Refusal}
 use Rattle.model.specs.declared.Refusal.the-variants.{TwoLasting, LeadsBack}
-use Rattle.theory.proofs.Lists.{has-upFrom, first-answer, Answer}
 use Rattle.theory.proofs.OnlyIf.{length-rows}
 use Rattle.theory.proofs.Verdict.{held-number, accepted-is-legal}
-use Rattle.plan.specs.Again.{againFlags}
-use Rattle.plan.specs.Jobs.{firstLines}
-use Rattle.plan.specs.Ends.{leftBy}
-use Rattle.rows.specs.Lasting.{lastingFlags}
 use Rattle.rows.specs.Where.{circlesOf}
-use Rattle.rows.specs.Holds.{HoldsAs, holdsBy, rowsOf}
+use Rattle.rows.specs.Holds.{HoldsAs, rowsOf}
 use Rattle.rows.specs.declared.HoldsAnswer.{HoldsAnswer}
-use Rattle.rows.proofs.Searched.{circles-first, twice-first, held-those}
+use Rattle.rows.proofs.Outcome.{told-fault, told-sets}
+use Rattle.rows.proofs.Searched.{two-lasting-at, leads-back-at, held-those}
 use Rattle.verdict.specs.Findings.{Findings}
-
--- ---- the lowest device of a set, by the number that stands for it
-
-abbrev lowestIn : ℕ → Option ℕ
-lowestIn s = firstOf (member s) (upFrom 0 devices)
-
-module _ (s : ℕ) {d : ℕ} (e : d ≡ lowestOf devices s) where
-  lowest-found : d < devices → lowestIn s ≡ some d
-  unfolding lowestOf
-  lowest-found h = go (lowestIn s) e
-    where
-      go : (o : Option ℕ) → d ≡ Option·getD o devices → o ≡ some d
-      go none q = absurd (omega (arith, q))
-      go (some x) q = ap {B = Option ℕ} some (sym q)
-
-  none-found : devices ≤ d → lowestIn s ≡ none
-  unfolding lowestOf
-  none-found n = go (lowestIn s) e (first-answer (member s) (upFrom 0 devices))
-    where
-      go : (o : Option ℕ) → d ≡ Option·getD o devices → Answer (member s) (upFrom 0 devices) o → o ≡ none
-      go none q a = refl
-      go (some x) q a = absurd (omega (arith, n, q, has-upFrom 0 devices x (a .0) .1))
 
 -- ---- 9 and 10 by the sets, and how many devices stay held
 
 module _ {p first again rs lasting : List ℕ} {held twice : ℕ} (f : Findings p first again rs lasting held twice) where
-  nine : twoLasting devices p ≡ refuseAt TwoLasting (lowestIn twice)
-  unfolding twoLasting
-  nine = ap (refuseAt TwoLasting) (sym (twice-first devices p) ∙ ap lowestIn (sym (f .twiceAre)))
+  nine : {d : ℕ} → d ≡ lowestOf devices twice → twoLasting devices p ≡ refuseIf (ltb d devices) (TwoLasting d)
+  nine e = rw (e, f .twiceAre) (two-lasting-at devices p)
 
-  ten : circle devices p ≡ refuseAt LeadsBack (lowestIn (circlesOf rs))
+  ten : {d : ℕ} → d ≡ lowestOf devices (circlesOf rs) → circle devices p ≡ refuseIf (ltb d devices) (LeadsBack d)
   unfolding circle
-  ten =
-      ap (refuseAt LeadsBack)
-      (sym (back devices (length-rows devices p)) ∙ ap (λ (x : List ℕ). lowestIn (circlesOf x)) (sym (f .rowsAre)))
-    where
-      back : (n : ℕ) → length (rowsOf p) ≡ n
-          → firstOf (member (circlesOf (rowsOf p))) (upFrom 0 n) ≡ firstOf (leadsBack (rowsOf p)) (upFrom 0 n)
-      back n e = rw (← e) (circles-first (rowsOf p))
+  ten e = rw (e, f .rowsAre) (leads-back-at devices (rowsOf p) (length-rows devices p))
 
   pub two-lasting : {d : ℕ} → d ≡ lowestOf devices twice → d < devices → noOrder devices p ≡ some (TwoLasting d)
-  unfolding noOrder firstRefusal refuseAt
-  two-lasting e h = rw (nine, lowest-found twice e h)
+  unfolding noOrder firstRefusal refuseIf
+  two-lasting {d} e h = rw (nine e, lt-ltb d devices h)
 
   module _ {d e : ℕ} (q : d ≡ lowestOf devices twice) (no-9 : devices ≤ d)
       (r : e ≡ lowestOf devices (circlesOf rs)) where
     pub leads-back : e < devices → noOrder devices p ≡ some (LeadsBack e)
-    unfolding noOrder firstRefusal refuseAt
-    leads-back h = rw (nine, none-found twice q no-9, ten, lowest-found (circlesOf rs) r h)
+    unfolding noOrder firstRefusal refuseIf
+    leads-back h = rw (nine q, le-ltb d devices no-9, ten r, lt-ltb e devices h)
 
     pub has-order : devices ≤ e → noOrder devices p ≡ none
-    unfolding noOrder firstRefusal refuseAt
-    has-order h = rw (nine, none-found twice q no-9, ten, none-found (circlesOf rs) r h)
+    unfolding noOrder firstRefusal refuseIf
+    has-order h = rw (nine q, le-ltb d devices no-9, ten r, le-ltb e devices h)
 
   pub count-held : noOrder devices p ≡ none → length (those (member held) (upFrom 0 devices)) ≡ heldAtEnd devices p
   count-held e =
@@ -92,27 +59,18 @@ module _ {p first again rs lasting : List ℕ} {held twice : ℕ} (f : Findings 
 module _ {p first again rs lasting first′ again′ rs′ lasting′ : List ℕ} {answer : HoldsAnswer}
     (h : HoldsAs p first again rs lasting answer first′ again′ rs′ lasting′) where
   pub holds-refused : {r : Refusal} → answer ≡ HoldsAnswer.Refused r → fault devices p ≡ some r
-  holds-refused {r} e = go (fault devices p) (sym e ∙ h .answers)
-    where
-      go : (o : Option Refusal) → HoldsAnswer.Refused r ≡ holdsBy o p → o ≡ some r
-      go none q = cc
-      go (some s) q = cc
+  holds-refused e = told-fault p (sym e ∙ h .answers)
 
   pub holds-made : {held twice : ℕ} → answer ≡ HoldsAnswer.Made held twice
       → Findings p first′ again′ rs′ lasting′ held twice
-  holds-made {held} {twice} e =
-      go (fault devices p) refl (sym e ∙ h .answers) (h .firstsAre) (h .againsAre) (h .rowsAre) (h .flagsAre)
-    where
-      go : (o : Option Refusal) → fault devices p ≡ o → HoldsAnswer.Made held twice ≡ holdsBy o p
-          → first′ ≡ leftBy o (firstLines p) first → again′ ≡ leftBy o (againFlags p) again
-          → rs′ ≡ leftBy o (rowsOf p) rs → lasting′ ≡ leftBy o (lastingFlags p) lasting
-          → Findings p first′ again′ rs′ lasting′ held twice
-      go none f q a g b c = record {
-        marked = record { sound = f; marks = c };
-        listed = record { sound = f; firsts = a };
-        againsAre = g;
-        rowsAre = b;
-        toEnd = cc;
-        twiceAre = cc;
+  holds-made e =
+      let t = told-sets p (sym e ∙ h .answers) in
+      let f = t .0 in
+      record {
+        marked = record { sound = f; marks = rw f at (h .flagsAre) };
+        listed = record { sound = f; firsts = rw f at (h .firstsAre) };
+        againsAre = rw f at (h .againsAre);
+        rowsAre = rw f at (h .rowsAre);
+        toEnd = t .1;
+        twiceAre = t .2;
       }
-      go (some r) f q a g b c = let z : _≡_ {A = ℕ} 0 1 = cc in absurd (omega arith)

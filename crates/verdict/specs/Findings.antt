@@ -4,7 +4,8 @@ use Prim.Native.Nat.{ℕ}
 use mathlib.Core.List.{List}
 use mathlib.Core.Path.{_≡_}
 use Rattle.model.specs.Board.{devices}
-use Rattle.rows.specs.Lasting.{heldToEnd, heldTwice}
+use Rattle.model.specs.Kept.{heldToEnd}
+use Rattle.rows.specs.Lasting.{heldTwice}
 use Rattle.rows.specs.Holds.{rowsOf}
 use Rattle.plan.specs.Again.{againFlags}
 use Rattle.plan.specs.Jobs.{FirstsListed}

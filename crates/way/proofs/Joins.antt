@@ -12,12 +12,11 @@ use lib.Seq.{drop-cons, getD-drop}
 use borrow.Author.Tests.{eqb-true, eqb-false, ne-eqb}
 use Rattle.model.specs.Lists.{has}
 use Rattle.model.specs.Sets.{empty, unionOf}
-use Rattle.model.specs.Line.{job, kind, operand, isTake, isStart, starts, at, lineNumber, hasLines, firstLine}
+use Rattle.model.specs.Line.{job, kind, operand, isStart, starts, at, lineNumber, hasLines, firstLine}
 use Rattle.model.specs.Board.{devices}
-use Rattle.model.specs.WellFormed.{Rules, WellFormed}
+use Rattle.model.specs.WellFormed.{WellFormed}
 use Rattle.model.specs.Claims.{joined}
 use Rattle.model.specs.Move.{rejoined}
-use Rattle.sets.specs.Only.{onlyOf}
 use Rattle.plan.specs.Jobs.{numberOfFirst, firstLines}
 use Rattle.plan.specs.Again.{againFlags}
 use Rattle.plan.proofs.Again.{plain-is}
@@ -71,7 +70,7 @@ module _ (p t : List ℕ) (w : WellFormed devices p) (room : length p ≤ length
             jobs-grow p (w .rules) (suc i) (suc i + o) (omega arith) b,
           ))
 
-  next-is : nextSet p t i ≡ setOf (drop (suc i) t) (drop (suc i) p) (job (at p i))
+  pub next-is : nextSet p t i ≡ setOf (drop (suc i) t) (drop (suc i) p) (job (at p i))
   unfolding nextSet job
   next-is = go (test (eqb (job (at p (suc i))) (job (at p i))))
     where

@@ -1,4 +1,5 @@
--- The two walks along the way: the search for a stale line, and the mending of the sets with its count.
+-- The walks along the way: the search for a stale line, the devices of lines with a flag, and the mending of the sets
+-- with its count.
 use Prim.Native.Nat.{ℕ, zero, suc, _+_, _-_, _<_, _≤_}
 use mathlib.Core.Bool.{Bool, true, false, cond, not, _&&_}
 use mathlib.Core.List.{List, [], _∷_}
@@ -11,14 +12,18 @@ use lib.ListN.{length, getD, set, length-set}
 use lib.Seq.{getD-set-same, getD-set-other}
 use borrow.Author.Tests.{eqb-true, eq-eqb, eqb-false, ne-eqb, ltb-true, ltb-false}
 use Rattle.model.specs.Lists.{upFrom, positions, those, firstOf}
-use Rattle.model.specs.Line.{job, at}
+use Rattle.model.specs.Board.{devices}
+use Rattle.model.specs.Sets.{empty, union}
+use Rattle.model.specs.Line.{job, operand, at}
 use Rattle.model.specs.Move.{changed}
 use Rattle.theory.proofs.Tests.{test, tests-agree}
 use Rattle.theory.proofs.Lists.{has-upFrom, those-same}
+use Rattle.sets.specs.Only.{onlyOf}
 use Rattle.mates.specs.Found.{found}
 use Rattle.mates.specs.declared.Found.{Found}
 use Rattle.way.specs.Back.{lineBefore, walked, wayFrom, beginOf, wayBy}
 use Rattle.way.specs.Join.{rejoinedBy, staleBy, mendedBy}
+use Rattle.way.specs.Flagged.{flaggedBy}
 
 -- ---- the way from number to number
 
@@ -103,6 +108,23 @@ module _ (p again first t starter : List ℕ) (i n : ℕ)
         (wayFrom p starter (lineBefore p starter (n - 1)))
     unfolding staleBy firstOf
     stale-on q = first-is ∙ rw (eq-eqb (getD t (n - 1) 0) (rejoinedBy p again first t (n - 1)) (q ∙ e), firstOf)
+
+-- ---- the devices of lines with a flag
+
+module _ (p flags starter : List ℕ) (n s : ℕ) where
+  pub flagged-end : n ≤ 0 → flaggedBy p flags (wayFrom p starter n) s ≡ s
+  unfolding flaggedBy
+  flagged-end h = ap (λ (is : List ℕ). flaggedBy p flags is s) (ended p starter n h)
+
+  -- the line with number n adds its device, and the way goes on
+  pub flagged-on : 0 < n → {flag : Bool} {device one r : ℕ} → flag ≡ eqb (getD flags (n - 1) 0) 1
+      → device ≡ operand (at p (n - 1)) → one ≡ cond flag (onlyOf devices device) empty → r ≡ union one s
+      → flaggedBy p flags (wayFrom p starter n) s
+      ≡ flaggedBy p flags (wayFrom p starter (lineBefore p starter (n - 1))) r
+  unfolding flaggedBy
+  flagged-on h ef ed eo er =
+      ap (λ (is : List ℕ). flaggedBy p flags is s) (goes p starter n h)
+      ∙ ap (flaggedBy p flags (wayFrom p starter (lineBefore p starter (n - 1)))) (cc)
 
 -- ---- how many sets are others than before
 

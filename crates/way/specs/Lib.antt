@@ -2,3 +2,4 @@
 pub mod Back
 pub mod Join
 pub mod Known
+pub mod Flagged

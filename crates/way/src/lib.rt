@@ -2,6 +2,7 @@
 // it, and on in the same manner; and the lines under a take (02, request 2). The way is walked from line to line, by
 // tables of the first line of each job and of the line that starts it, as `plan::scan` fills them, so that no line off
 // the way is looked at; lines that take again are told by its flags. Each function answers for any tables and flags.
+// A caller that keeps rows finds the devices of the lasting takes on the way by flags of its own (02, request 4).
 use board::Set;
 use mates::Found;
 ghost use mathlib.Core.Path.{_≡_};
@@ -17,6 +18,7 @@ ghost use Rattle.model.specs.Move.{changed};
 ghost use Rattle.mates.specs.Found.{found};
 ghost use Rattle.way.specs.Back.{lineBefore, beginOf, wayBy, underBy};
 ghost use Rattle.way.specs.Join.{nextSet, begunSet, rejoinedBy, staleBy, mendedBy};
+ghost use Rattle.way.specs.Flagged.{flaggedBy};
 
 // What a plan or a table of line numbers has at a place; 0, which is no line and no line's number, past its end.
 fn entry(list: &[u32], k: usize) -> u32
@@ -217,4 +219,20 @@ pub fn mend_way(
         next = line_before(plan, k, starter);
     }
     count
+}
+
+// The devices of the lines on the way of the line at i that have a flag.
+pub fn flagged_devices(plan: &[u32], sets: &[Set], i: usize, starter: &[u32], flags: &[u8]) -> Set
+    ensures { λ r. ⌜ r ≡ flaggedBy (now (plan .entry)) (now (flags .entry))
+        (wayBy (now (plan .entry)) (now (sets .entry)) (now (starter .entry)) i) empty ⌝ }
+{
+    let mut found = sets::NONE;
+    let mut next = begin(plan, sets, i);
+    while 0 < next {
+        let k = next - 1;
+        let one = sets::only_if(flagged(flags, k), line::operand(plan[k]));
+        found = sets::union(one, found);
+        next = line_before(plan, k, starter);
+    }
+    found
 }

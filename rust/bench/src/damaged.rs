@@ -3,7 +3,7 @@
 //! hold times against.
 
 use crate::again::{deep, take_again};
-use crate::sides::{FAST, OURS};
+use crate::sides::{Build, MoveKept, FAST, OURS};
 use bench::fast;
 use second::elsewhere::{damaged, mixed};
 use second::line::{pack, Line};
@@ -19,8 +19,8 @@ pub type Counts = BTreeMap<(&'static str, u64), usize>;
 /// Tries both sides; what differs is an error.
 pub fn compare(random: &mut Random) -> Result<Counts, String> {
     let mut counts = Counts::new();
-    // Orders have a generator of their own, so that the plans do not hang on them.
-    let mut for_orders = random.clone();
+    // Orders, and lists that are kept, have generators of their own, so that the plans do not hang on them.
+    let (mut for_orders, mut for_kept) = (random.clone(), random.clone());
     for _ in 0..TRIED {
         let mut packed = any_plan(random);
         let mut text = vec![0; 16 * packed.len()];
@@ -38,6 +38,8 @@ pub fn compare(random: &mut Random) -> Result<Counts, String> {
         }
         compare_lists(random, &text, &packed, &mut counts)?;
         compare_judge(&mut for_orders, &packed, &mut counts)?;
+        compare_build(&mut for_kept, &packed, &mut counts)?;
+        compare_kept(&mut for_kept, &packed, &mut counts)?;
         compare_move(random, &packed, &table, &mut counts)?;
     }
     Ok(counts)
@@ -178,13 +180,8 @@ fn compare_judge(random: &mut Random, plan: &[u32], counts: &mut Counts) -> Resu
     meet(counts, "judge", side(OURS.judge), side(FAST.judge))
 }
 
-/// The move, mostly of a take, to a device that may not be there, with a table that may be stale or short.
-fn compare_move(
-    random: &mut Random,
-    plan: &[u32],
-    table: &[u32],
-    counts: &mut Counts,
-) -> Result<(), String> {
+/// A line, mostly a take, and a device that may not be there.
+fn some_move(random: &mut Random, plan: &[u32]) -> (usize, u32) {
     let (mut line, device) = (random.below(plan.len() + 2), random.below(36) as u32);
     for _ in 0..random.below(8) {
         if plan.get(line.wrapping_sub(1)).is_some_and(|line| line / 256 % 4 == 1) {
@@ -192,6 +189,17 @@ fn compare_move(
         }
         line = random.below(plan.len() + 2);
     }
+    (line, device)
+}
+
+/// The move, mostly of a take, to a device that may not be there, with a table that may be stale or short.
+fn compare_move(
+    random: &mut Random,
+    plan: &[u32],
+    table: &[u32],
+    counts: &mut Counts,
+) -> Result<(), String> {
+    let (line, device) = some_move(random, plan);
     let mut table = table.to_vec();
     // A line under the take, perhaps, has a set that is stale, while all sets on the way may be right.
     if let Some(set) = table.get_mut(line + random.below(8)).filter(|_| random.once_in(8)) {
@@ -203,4 +211,53 @@ fn compare_move(
         (entry(&mut plan, &mut sets, line as u32, device), (plan, sets))
     };
     meet(counts, "move", side(OURS.move_claim), side(FAST.move_claim))
+}
+
+/// Lists for table, rows and held set, with this in them, at times shorter than needed or longer.
+fn any_lists(random: &mut Random, beside: &[Vec<u32>; 3]) -> [Vec<u32>; 3] {
+    let mut lists = beside.clone();
+    for list in &mut lists {
+        let room = if random.once_in(12) { random.below(list.len() + 1) } else { list.len() + 2 };
+        list.resize(room, 7);
+    }
+    lists
+}
+
+/// Building, and the quick verdict by rows that may be any.
+fn compare_build(random: &mut Random, plan: &[u32], counts: &mut Counts) -> Result<(), String> {
+    let lists = any_lists(random, &[vec![7; plan.len()], vec![7; 32], vec![7]]);
+    let build = |side: Build| {
+        let [mut sets, mut rows, mut held] = lists.clone();
+        (side(plan, &mut sets, &mut rows, &mut held), [sets, rows, held])
+    };
+    let (answer, [_, mut rows, _]) = build(FAST.build);
+    meet(counts, "build", build(OURS.build), build(FAST.build))?;
+    if answer >> 32 == 0 && random.once_in(3) {
+        rows[random.below(32)] ^= 1 << random.below(32);
+    } else if random.once_in(8) {
+        rows.fill_with(|| (random.bits() & random.bits() & random.bits() & random.bits()) as u32);
+    }
+    let quick = |side: fn(&[u32], &[u32]) -> u64| (side(plan, &rows), ());
+    meet(counts, "quick", quick(OURS.quick), quick(FAST.quick))
+}
+
+/// The move that keeps the rows, with a table that may be stale. The fast version makes all rows anew and is held to
+/// them where table, rows and held set are the plan's own.
+fn compare_kept(random: &mut Random, plan: &[u32], counts: &mut Counts) -> Result<(), String> {
+    let mut beside = [vec![0; plan.len()], vec![0; 32], vec![0]];
+    let [sets, rows, held] = &mut beside;
+    (FAST.build)(plan, sets, rows, held);
+    let (line, device) = some_move(random, plan);
+    let own = !random.once_in(6);
+    if let Some(set) = beside[0].get_mut(line.saturating_sub(random.below(4))).filter(|_| !own) {
+        *set ^= 1 << random.below(32);
+    }
+    let lists = any_lists(random, &beside);
+    let side = |entry: MoveKept| {
+        let (mut plan, [mut sets, mut rows, mut held]) = (plan.to_vec(), lists.clone());
+        let answer = entry(&mut plan, &mut sets, &mut rows, &mut held, line as u32, device);
+        let rows = (own || answer >> 32 != 0).then_some((rows, held));
+        (answer, (plan, sets, rows))
+    };
+    meet(counts, "move_kept", side(OURS.move_kept), side(FAST.move_kept))
 }

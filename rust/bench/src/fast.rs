@@ -1,12 +1,14 @@
-//! The six entries once more in Rust, written plainly and for speed: what the library's times are held against.
+//! The nine entries once more in Rust, written plainly and for speed: what the library's times are held against.
 //!
 //! Each takes what the library's entry of that name takes, tests the same cases in the same order, and answers with
 //! the same 64-bit number. A refusal leaves every lent list as it was. Sets of devices and of jobs are words, working
 //! space is local arrays of fixed size; there is no heap, no hashing and no unsafe code. The circle search, which is no
-//! entry, can be called by itself too.
+//! entry, can be called by itself too. One thing alone is otherwise than in the library: the move that keeps the rows
+//! makes all of them anew, so that it is the same where they are the plan's own, as they are in what is timed.
 
 mod claims;
 mod judge;
+mod kept;
 mod moving;
 mod scan;
 mod text;
@@ -14,6 +16,7 @@ mod verdict;
 
 pub use claims::table;
 pub use judge::judge;
+pub use kept::{build, move_kept, quick};
 pub use moving::move_claim;
 pub use text::{read, write};
 pub use verdict::{circles, verdict};

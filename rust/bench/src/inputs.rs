@@ -22,6 +22,8 @@ pub struct Input {
     pub text: Vec<u8>,
     pub plan: Vec<u32>,
     pub table: Vec<u32>,
+    pub rows: Vec<u32>,
+    pub held: Vec<u32>,
     pub orders: Orders,
 }
 
@@ -133,7 +135,8 @@ impl Inputs {
             }
         }
         make.plans = plans.len();
-        let moves = (0..MOVES).map(|at| Move::new(random, at % plans.len(), &plans)).collect();
+        let mut drawn = |plan: usize| Move::new(random, plan, &plans[plan].plan);
+        let moves = (0..MOVES).map(|at| drawn(at % plans.len())).collect();
         (Inputs { lines, again, plans, moves }, make)
     }
 }
@@ -143,19 +146,20 @@ impl Input {
     fn new(for_orders: &mut Random, lines: &[Line]) -> Option<Input> {
         let plan = pack(lines);
         let (mut table, mut handed) = (vec![0; plan.len()], vec![0; plan.len()]);
-        fast::table(&plan, &mut table);
+        let (mut rows, mut held) = (vec![0; DEVICES], vec![0]);
+        fast::build(&plan, &mut table, &mut rows, &mut held);
         let accepted = fast::verdict(&plan, &mut handed) >> 32 == 0;
         accepted.then(|| {
             let orders = Orders::new(for_orders, lines, handed);
-            Input { text: write(lines), plan, table, orders }
+            Input { text: write(lines), plan, table, rows, held, orders }
         })
     }
 }
 
 impl Move {
-    /// A take to any device; at times a line that may be no take, or a device that may not be on the board.
-    fn new(random: &mut Random, plan: usize, plans: &[Input]) -> Move {
-        let lines = &plans[plan].plan;
+    /// A take of the plan with this place and these lines to any device; at times a line that may be no take, or a
+    /// device that may not be on the board.
+    pub fn new(random: &mut Random, plan: usize, lines: &[u32]) -> Move {
         let mut at = random.below(lines.len());
         while lines[at] / 256 % 4 != 1 && !random.once_in(100) {
             at = random.below(lines.len());

@@ -7,12 +7,14 @@ mod again;
 mod circles;
 mod damaged;
 mod inputs;
+mod mornings;
 mod report;
 mod sides;
 mod times;
 
 use circles::Circles;
 use inputs::{Inputs, Which};
+use mornings::Mornings;
 use report::{Figures, Report};
 use second::random::Random;
 use sides::{Entry, Lent, FAST, OURS};
@@ -23,7 +25,7 @@ const SEED: u64 = 20_260_418;
 const ROUNDS: usize = 301;
 /// The lines of the plans, and whether their jobs take again what they hold.
 const SIZES: [(usize, bool); 4] = [(256, true), (512, true), (1_024, true), (1_024, false)];
-const ENTRIES: [Entry; 8] = [
+const ENTRIES: [Entry; 11] = [
     Entry::Read,
     Entry::Write,
     Entry::Table,
@@ -32,6 +34,9 @@ const ENTRIES: [Entry; 8] = [
     Entry::Judge(Which::Mixed),
     Entry::Judge(Which::Late),
     Entry::Move,
+    Entry::Build,
+    Entry::MoveKept,
+    Entry::Quick,
 ];
 
 /// The value of an environment variable, or another where it is not set.
@@ -59,7 +64,7 @@ fn round(entry: Entry, inputs: &Inputs, ours_first: bool) -> Result<(Pair, Vec<u
 /// Times both sides on one entry. Every round goes through all sizes, so that a machine that is slower for a while is
 /// so for all of them; which side goes first changes from round to round.
 fn measure(entry: Entry, sizes: &[Inputs], rounds: usize) -> Result<Figures, String> {
-    let rounds = if entry == Entry::Move { rounds.div_ceil(10) } else { rounds };
+    let rounds = if entry.moves() { rounds.div_ceil(10) } else { rounds };
     let mut figures = Figures::new(entry, sizes);
     for number in 0..rounds {
         for (inputs, of_size) in sizes.iter().zip(&mut figures.sizes) {
@@ -82,7 +87,8 @@ fn run(seed: u64, rounds: usize) -> Result<Report, String> {
     for entry in ENTRIES {
         report.figures.push(measure(entry, &sizes, rounds)?);
     }
-    // Rows have a generator of their own, so that the plans do not hang on them.
+    // Mornings and rows have generators of their own, so that the plans do not hang on them.
+    report.mornings = Mornings::measure(&mut Random::new(seed), &sizes, rounds.div_ceil(10))?;
     report.circles = Circles::measure(&mut Random::new(seed), rounds)?;
     Ok(report)
 }

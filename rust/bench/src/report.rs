@@ -1,9 +1,10 @@
 //! What is printed, in Markdown: the machine, the inputs, the times and ratios, and the growth. The table of the circle
-//! search stands in `circles.rs`.
+//! search stands in `circles.rs`, that of moves with the verdict after each in `mornings.rs`.
 
 use crate::circles::Circles;
 use crate::damaged::{Counts, TRIED};
 use crate::inputs::{Inputs, Make, MOVES};
+use crate::mornings::Mornings;
 use crate::sides::Entry;
 use crate::times::{ratio, Pair, Times};
 use std::collections::BTreeMap;
@@ -44,11 +45,21 @@ impl Figures {
 }
 
 /// How many of the takes are of what the job holds.
-fn share(again: bool) -> &'static str {
+pub fn share(again: bool) -> &'static str {
     match again {
         true => "a fifth",
         false => "none",
     }
+}
+
+/// How answers came out, by their refusals.
+pub fn counted<'a>(answers: impl IntoIterator<Item = &'a u64>) -> String {
+    let mut counts: BTreeMap<u64, usize> = BTreeMap::new();
+    for answer in answers {
+        *counts.entry(answer >> 32).or_default() += 1;
+    }
+    let words = counts.iter().map(|(&number, &count)| came_out(number, count));
+    words.collect::<Vec<String>>().join(", ")
 }
 
 /// How often a refusal was given, 0 being none.
@@ -65,6 +76,7 @@ pub struct Report {
     pub tried: Counts,
     pub makes: Vec<(usize, Make)>,
     pub figures: Vec<Figures>,
+    pub mornings: Mornings,
     pub circles: Circles,
 }
 
@@ -87,6 +99,7 @@ impl Report {
         }
         self.print_growth();
         self.print_moves();
+        self.mornings.print();
         self.circles.print();
         println!("\nAnswers and lists were compared in every round: no difference.");
         self.print_tried();
@@ -95,7 +108,9 @@ impl Report {
     /// How the plans of all kinds came out.
     fn print_tried(&self) {
         println!("So they were on {TRIED} plans of all kinds, whole and damaged. How often each entry refused:\n");
-        for entry in ["read", "write", "table", "verdict", "judge", "move"] {
+        let entries =
+            ["read", "write", "table", "verdict", "judge", "move", "build", "move_kept", "quick"];
+        for entry in entries {
             let of_entry = self.tried.iter().filter(|((name, _), _)| *name == entry);
             let words: Vec<String> =
                 of_entry.map(|((_, number), count)| came_out(*number, *count)).collect();
@@ -122,14 +137,8 @@ impl Report {
         println!("\nOf the {MOVES} moves a size:\n");
         let moves = self.figures.iter().filter(|of| of.entry == Entry::Move);
         for of in moves.flat_map(|of| &of.sizes) {
-            let mut counts: BTreeMap<u64, usize> = BTreeMap::new();
-            for answer in &of.answers {
-                *counts.entry(answer >> 32).or_default() += 1;
-            }
-            let words: Vec<String> =
-                counts.iter().map(|(&number, &count)| came_out(number, count)).collect();
             let (lines, again) = (of.lines, share(of.again));
-            println!("- {lines} lines, {again} taken again: {}", words.join(", "));
+            println!("- {lines} lines, {again} taken again: {}", counted(&of.answers));
         }
     }
 }

@@ -30,25 +30,31 @@ pub struct Times {
 impl Times {
     /// One round more, of so many calls.
     pub fn add(&mut self, pair: Pair, calls: usize) {
-        let nanos = |time: Duration| time.as_nanos() as f64 / calls as f64;
-        self.ours.push(nanos(pair.0));
-        self.fast.push(nanos(pair.1));
+        self.ours.push(a_call(pair.0, calls));
+        self.fast.push(a_call(pair.1, calls));
     }
 
     /// The cells of a table: the medians with so many decimals, and the ratio.
     pub fn cells(&self, decimals: usize) -> String {
-        let (ours, fast) = (median(self.ours.clone()), median(self.fast.clone()));
+        let (ours, fast) = (median(&self.ours), median(&self.fast));
         let ratio = ratio(&self.ours, &self.fast);
         format!("{ours:.decimals$} | {fast:.decimals$} | {ratio:.2}")
     }
 }
 
-fn median(mut values: Vec<f64>) -> f64 {
+/// Nanoseconds a call.
+pub fn a_call(time: Duration, calls: usize) -> f64 {
+    time.as_nanos() as f64 / calls as f64
+}
+
+/// The value in the middle.
+pub fn median(values: &[f64]) -> f64 {
+    let mut values = values.to_vec();
     values.sort_by(f64::total_cmp);
     values[values.len() / 2]
 }
 
 /// The median of the ratios, round by round.
 pub fn ratio(above: &[f64], below: &[f64]) -> f64 {
-    median(above.iter().zip(below).map(|(above, below)| above / below).collect())
+    median(&above.iter().zip(below).map(|(above, below)| above / below).collect::<Vec<f64>>())
 }

@@ -15,7 +15,7 @@ pub enum Kind {
     Explain,
     /// `table FILE`
     Table,
-    /// `move FILE LINE DEVICE`
+    /// `move FILE LINE DEVICE` and `move --watch FILE`
     Move,
     /// `check FILE..`
     Check,
@@ -79,6 +79,13 @@ pub enum Command {
     },
     /// Moves a claim.
     Move(Move),
+    /// Moves claims as they are asked for on standard input.
+    Watch {
+        /// The plan.
+        file: OsString,
+        /// Whether the file is replaced.
+        in_place: bool,
+    },
     /// Says of each plan whether it is accepted.
     Check {
         /// The plans.
@@ -113,6 +120,7 @@ struct Given {
     names: Option<OsString>,
     steps: bool,
     in_place: bool,
+    watch: bool,
     help: bool,
     version: bool,
 }
@@ -128,9 +136,11 @@ pub fn parsed(arguments: Vec<OsString>) -> Result<Asked, Trouble> {
         return Ok(Asked::Version);
     }
     let kind = kind.ok_or_else(|| misused("a command is missing", None))?;
-    for (is_given, option, of) in
-        [(given.steps, "--steps", Kind::Order), (given.in_place, "--in-place", Kind::Move)]
-    {
+    for (is_given, option, of) in [
+        (given.steps, "--steps", Kind::Order),
+        (given.in_place, "--in-place", Kind::Move),
+        (given.watch, "--watch", Kind::Move),
+    ] {
         if is_given && kind != of {
             return Err(misused(&format!("{} has no option {option}", kind.word()), Some(kind)));
         }
@@ -167,6 +177,7 @@ fn option(
         Some("--version") => given.version = true,
         Some("--steps") => given.steps = true,
         Some("--in-place") => given.in_place = true,
+        Some("--watch") => given.watch = true,
         Some("--names") => {
             let file = rest.next().ok_or_else(|| misused("--names needs a file", None))?;
             return names(given, file);
@@ -197,11 +208,12 @@ fn kind_of(word: &OsString) -> Result<Kind, Trouble> {
 
 /// The subcommand with the operands that it needs.
 fn command(kind: Kind, given: Given) -> Result<Command, Trouble> {
-    let (steps, in_place) = (given.steps, given.in_place);
+    let (steps, in_place, watch) = (given.steps, given.in_place, given.watch);
     let mut operands: Vec<OsString> = given.operands.into_iter().skip(1).collect();
     let (least, most) = match kind {
         Kind::Order | Kind::Check => (1, usize::MAX),
         Kind::Explain | Kind::Table => (1, 1),
+        Kind::Move if watch => (1, 1),
         Kind::Move => (3, 3),
         Kind::Judge => (2, 2),
     };
@@ -215,11 +227,16 @@ fn command(kind: Kind, given: Given) -> Result<Command, Trouble> {
     if kind == Kind::Judge && operands.iter().all(|operand| operand == "-") {
         return Err(misused("only one of PLAN and ORDER can be `-`", Some(kind)));
     }
+    if watch && operands[0] == "-" {
+        let words = "with --watch standard input has the moves, so FILE cannot be `-`";
+        return Err(misused(words, Some(kind)));
+    }
     Ok(match kind {
         Kind::Order => Command::Order { files: operands, steps },
         Kind::Check => Command::Check { files: operands },
         Kind::Explain => Command::Explain { file: operands.remove(0) },
         Kind::Table => Command::Table { file: operands.remove(0) },
+        Kind::Move if watch => Command::Watch { file: operands.remove(0), in_place },
         Kind::Move => {
             let (file, line, device) = (operands.remove(0), operands.remove(0), operands.remove(0));
             Command::Move(Move { file, line, device, in_place })
@@ -267,6 +284,17 @@ mod tests {
     }
 
     #[test]
+    fn moves_one_or_many() {
+        let run = |command| Ok(Asked::Run { command, names: None });
+        let watch = |in_place| run(Command::Watch { file: "a".into(), in_place });
+        assert_eq!(asked("move --watch a"), watch(false));
+        assert_eq!(asked("move a --in-place --watch"), watch(true));
+        let (file, line, device) = ("a".into(), "2".into(), "3".into());
+        let one = Move { file, line, device, in_place: true };
+        assert_eq!(asked("move --in-place a 2 3"), run(Command::Move(one)));
+    }
+
+    #[test]
     fn wrong_use_is_trouble() {
         assert!(trouble("").starts_with("a command is missing\nuse: gimmerskip"));
         assert!(trouble("water a").starts_with("unknown command water"));
@@ -274,6 +302,10 @@ mod tests {
         assert!(trouble("order").starts_with("order needs more operands\nuse: gimmerskip order"));
         assert!(trouble("explain a b").starts_with("b is one operand too many"));
         assert!(trouble("move a 1").starts_with("move needs more operands"));
+        assert!(trouble("move --watch").starts_with("move needs more operands"));
+        assert!(trouble("move --watch a 1 2").starts_with("1 is one operand too many"));
+        assert!(trouble("move --watch -").starts_with("with --watch standard input has the moves"));
+        assert!(trouble("order --watch a").starts_with("order has no option --watch"));
         assert!(trouble("judge a").starts_with("judge needs more operands\nuse: gimmerskip judge"));
         assert!(trouble("judge - -").starts_with("only one of PLAN and ORDER can be `-`\nuse: "));
         assert!(trouble("judge a b c").starts_with("c is one operand too many"));

@@ -1,7 +1,7 @@
 //! What every subcommand works with: input, output, the devices' names.
 
 use crate::diagnosis::Diagnosis;
-use crate::input::{Input, Text};
+use crate::input::Input;
 use crate::names::{Names, MOST_BYTES};
 use crate::output::Output;
 use crate::trouble::{Status, Trouble};
@@ -50,9 +50,9 @@ impl Desk {
     }
 
     /// Says the short form of a refusal on standard error.
-    pub fn say_refusal(&mut self, text: &Text, refused: &Diagnosis) {
+    pub fn say_refusal(&mut self, name: &str, refused: &Diagnosis) {
         self.met(Status::Refused);
-        let words = refused.short(&text.name, self.err.style);
+        let words = refused.short(name, self.err.style);
         self.say(&words);
     }
 

@@ -12,7 +12,9 @@ pub fn use_line(kind: Option<Kind>) -> &'static str {
         Some(Kind::Order) => "gimmerskip order [--steps] [--names NAMES] FILE..",
         Some(Kind::Explain) => "gimmerskip explain [--names NAMES] FILE",
         Some(Kind::Table) => "gimmerskip table [--names NAMES] FILE",
-        Some(Kind::Move) => "gimmerskip move [--in-place] [--names NAMES] FILE LINE DEVICE",
+        Some(Kind::Move) => {
+            "gimmerskip move [--in-place] [--names NAMES] {FILE LINE DEVICE | --watch FILE}"
+        }
         Some(Kind::Check) => "gimmerskip check [--names NAMES] FILE..",
         Some(Kind::Judge) => "gimmerskip judge [--names NAMES] PLAN ORDER",
     }
@@ -24,11 +26,30 @@ fn brief(kind: Kind) -> &'static str {
         Kind::Order => "prints the order of each plan, or why it is refused",
         Kind::Explain => "says in words what is wrong with a plan, or who holds what when",
         Kind::Table => "prints the lines of a plan with the devices that they claim",
-        Kind::Move => "moves the claim of a line to another device",
+        Kind::Move => "moves the claim of a line to another device, or one claim after another",
         Kind::Check => "says of each plan, in one line, whether it is accepted",
         Kind::Judge => "says whether an order from elsewhere is a legal one of a plan",
     }
 }
+
+/// What there is to know of moves, one or many.
+const MOVE: &str =
+    "The take in LINE, and its give, get DEVICE: a number, or a name of --names (a number is never taken for\n\
+    a name). Standard output gets the edited plan; how many sets of claims have changed is said on standard\n\
+    error, and which takes are now of what their job holds, or no longer. A plan without an order can be\n\
+    moved too.\n\n  \
+    --in-place   replaces the file, whole or not at all, and prints no plan\n  \
+    --watch      reads moves from standard input and answers each at once, as below\n\n\
+    With --watch a line of standard input is a move: LINE, a tab or spaces, DEVICE. Standard output gets a\n\
+    line for each, with tabs between its fields:\n\n  \
+    changed 3 accepted 2     3 sets of claims changed; the plan has an order, and 2 devices stay held\n  \
+    changed 3 refused 10 0   3 sets changed; the plan has no order now, by this number and place\n  \
+    refused 12 4             the move is refused, by this number and place, and changes nothing\n  \
+    malformed 5              line 5 of standard input is no move, and changes nothing\n\n\
+    Standard error says in words what is behind it. At the end of the input (Ctrl-D) the plan is printed,\n\
+    behind a line with two hyphens, or with --in-place put into the file; broken off before (Ctrl-C), the\n\
+    file is as it was. The status is 1 if a move was refused or the plan has no order at the end, 2 if a\n\
+    line was no move.\n";
 
 /// What there is to know of a subcommand.
 fn more(kind: Kind) -> &'static str {
@@ -51,13 +72,7 @@ fn more(kind: Kind) -> &'static str {
              job, and in the jobs that are started there. What its job holds it can take again, but does not claim. A\n\
              plan without an order has such a table too.\n"
         }
-        Kind::Move => {
-            "The take in LINE, and its give, get DEVICE: a number, or a name of --names (a number is never taken for\n\
-             a name). Standard output gets the edited plan; how many sets of claims have changed is said on standard\n\
-             error, and which takes are now of what their job holds, or no longer. A plan without an order can be\n\
-             moved too.\n\n  \
-             --in-place   replaces the file, whole or not at all, and prints no plan\n"
-        }
+        Kind::Move => MOVE,
         Kind::Check => "A line for each file: `accepted` with its counts, or `refused` with number, place and words.\n",
         Kind::Judge => {
             "ORDER is a list of line numbers, one a line, from any maker. It may also be what `order` prints: a first\n\
@@ -72,6 +87,9 @@ fn more(kind: Kind) -> &'static str {
 /// What the operands are.
 fn operands(kind: Option<Kind>) -> &'static str {
     match kind {
+        Some(Kind::Move) => {
+            "FILE is a plan; `-` is standard input, but not with --watch, and `--` ends the options."
+        }
         Some(Kind::Judge) => "PLAN is a plan; `-`, for it or for ORDER, is standard input, and `--` ends the options.",
         _ => "FILE is a plan; `-` is standard input, and `--` ends the options.",
     }

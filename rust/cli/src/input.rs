@@ -5,7 +5,7 @@ use crate::trouble::Trouble;
 use gimmerskip::MAX_BYTES;
 use std::ffi::OsStr;
 use std::fs::File;
-use std::io::{self, Read};
+use std::io::{self, BufRead, BufReader, Read};
 use std::os::fd::AsFd;
 
 /// How standard input is called.
@@ -62,6 +62,12 @@ impl Input {
         Ok(Text { name: shown, bytes, size })
     }
 
+    /// The lines of standard input, one after another as they come.
+    pub fn lines(&mut self) -> Result<Lines, Trouble> {
+        let file = self.standard().map_err(|error| Trouble::with(STANDARD, &error))?;
+        Ok(Lines { reader: BufReader::new(file), in_line: false })
+    }
+
     /// Standard input as a file. Read a second time it would look like an empty plan, which it is not.
     fn standard(&mut self) -> io::Result<File> {
         if self.closed {
@@ -71,5 +77,62 @@ impl Input {
             return Err(io::Error::other("it can be read only once"));
         }
         Ok(File::from(io::stdin().as_fd().try_clone_to_owned()?))
+    }
+}
+
+/// The most bytes of a line that are kept, its newline among them.
+pub const LONGEST: usize = 1_024;
+
+/// The lines of standard input.
+pub struct Lines {
+    reader: BufReader<File>,
+    /// Whether the rest of a long line is still to come, which nobody wants.
+    in_line: bool,
+}
+
+/// One line as it came.
+#[derive(Debug, PartialEq, Eq)]
+pub struct Line {
+    /// Its bytes, without the newline.
+    pub bytes: Vec<u8>,
+    /// How it ends.
+    pub end: End,
+}
+
+/// How a line ends.
+#[derive(Clone, Copy, Debug, PartialEq, Eq)]
+pub enum End {
+    /// With its newline, as it should.
+    Newline,
+    /// With the input.
+    Input,
+    /// It may go on: it has as many bytes as are kept.
+    Cut,
+}
+
+impl Lines {
+    /// The next line, as soon as its newline has come, or `None` at the end of the input.
+    pub fn next_line(&mut self) -> Result<Option<Line>, Trouble> {
+        self.read_line().map_err(|error| Trouble::with(STANDARD, &error))
+    }
+
+    fn read_line(&mut self) -> io::Result<Option<Line>> {
+        while self.in_line {
+            let part = self.reader.fill_buf()?;
+            let newline = part.iter().position(|&byte| byte == b'\n');
+            let used = newline.map_or(part.len(), |at| at + 1);
+            self.in_line = newline.is_none() && used > 0;
+            self.reader.consume(used);
+        }
+        let mut bytes = Vec::new();
+        let read = self.reader.by_ref().take(LONGEST as u64).read_until(b'\n', &mut bytes)?;
+        let end = match bytes.last() {
+            Some(b'\n') => End::Newline,
+            _ if read == LONGEST => End::Cut,
+            _ => End::Input,
+        };
+        bytes.truncate(read - usize::from(end == End::Newline));
+        self.in_line = end == End::Cut;
+        Ok((read > 0).then_some(Line { bytes, end }))
     }
 }

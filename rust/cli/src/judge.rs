@@ -5,6 +5,7 @@ use crate::diagnosis;
 use crate::input::Text;
 use crate::list::{List, MOST_BYTES};
 use crate::trouble::Trouble;
+use crate::words::refused;
 use gimmerskip::{Plan, Refusal};
 use std::ffi::OsStr;
 
@@ -28,7 +29,7 @@ pub fn run(desk: &mut Desk, plan: &OsStr, order: &OsStr) -> Result<(), Trouble> 
 fn printed(judged: Result<(), Refusal>) -> String {
     match judged {
         Ok(()) => "legal\n".to_string(),
-        Err(refusal) => format!("refused\t{}\t{}\n", refusal.number(), refusal.place()),
+        Err(refusal) => refused(refusal) + "\n",
     }
 }
 
@@ -39,7 +40,7 @@ fn say(desk: &mut Desk, text: &Text, list: &List, refusal: Refusal) {
         return desk.say_all(&list.name, &refused);
     }
     let refused = diagnosis::of_text(text, refusal, &desk.names);
-    desk.say_refusal(text, &refused);
+    desk.say_refusal(&text.name, &refused);
     if refusal == Refusal::Malformed(1) && List::of(text.clone()).begins_well() {
         desk.say("It looks like a list of line numbers: PLAN comes first, then ORDER.\n");
     }

@@ -29,6 +29,7 @@ pub mod style;
 pub mod table;
 pub mod trouble;
 pub mod verbs;
+pub mod watch;
 pub mod words;
 
 use arguments::{Asked, Command};
@@ -70,6 +71,7 @@ fn answer(desk: &mut Desk, asked: Asked) -> Result<(), Trouble> {
         Command::Explain { file } => explain::run(desk, &file),
         Command::Table { file } => table::run(desk, &file),
         Command::Move(asked) => moving::run(desk, &asked),
+        Command::Watch { file, in_place } => watch::run(desk, &file, in_place),
         Command::Check { files } => check::run(desk, &files),
         Command::Judge { plan, order } => judge::run(desk, &plan, &order),
     }

@@ -45,7 +45,7 @@ fn say_if_refused(desk: &mut Desk, text: &Text) -> Option<(Plan, Order)> {
         Ok(judged) => Some(judged),
         Err(refusal) => {
             let refused = diagnosis::of_text(text, refusal, &desk.names);
-            desk.say_refusal(text, &refused);
+            desk.say_refusal(&text.name, &refused);
             None
         }
     }

@@ -18,7 +18,7 @@ pub fn run(desk: &mut Desk, file: &OsStr) -> Result<(), Trouble> {
         }
         Err(refusal) => {
             let refused = diagnosis::of_text(&text, refusal, &desk.names);
-            desk.say_refusal(&text, &refused);
+            desk.say_refusal(&text.name, &refused);
             Ok(())
         }
     }

@@ -1,4 +1,6 @@
-//! Small words: counts and lists.
+//! Small words: counts, lists, and a refusal as programs print it.
+
+use gimmerskip::Refusal;
 
 /// A count with its word: `1 line`, `7 lines`.
 pub fn counted(count: usize, word: &str) -> String {
@@ -23,6 +25,11 @@ pub fn held(count: usize) -> String {
         1 => "1 device stays held".to_string(),
         _ => format!("{count} devices stay held"),
     }
+}
+
+/// A refusal as programs print it, without the newline: the word, the number and the place, with tabs between.
+pub fn refused(refusal: Refusal) -> String {
+    format!("refused\t{}\t{}", refusal.number(), refusal.place())
 }
 
 /// A list: `1`, `1 and 2`, `1, 2 and 3`.

@@ -2,7 +2,8 @@
 //! are those of "The plan as text" of document 01.
 
 use second::damage::spelt;
-use second::plain::{members, Rows};
+use second::plain::{members, Beside, Rows};
+use second::random::Move;
 use second::tally::Input;
 
 /// What was given.
@@ -13,6 +14,12 @@ pub enum Asked<'a> {
     Packed { plan: &'a [u32], room: usize },
     /// A packed plan and a table that were lent, a line and a device.
     Move { plan: &'a [u32], sets: &'a [u32], line: u32, device: u32 },
+    /// A packed plan, and the lengths of the lists that were lent for table, rows and held set.
+    Build { plan: &'a [u32], rooms: [usize; 3] },
+    /// A packed plan that was lent with table, rows and held set, and a move.
+    Kept { plan: &'a [u32], beside: &'a Beside, to: Move },
+    /// A packed plan and rows.
+    Quick { plan: &'a [u32], rows: &'a [u32] },
     /// A packed plan, and an order from elsewhere.
     Order { plan: &'a [u32], order: &'a [u16] },
     /// Rows, one a device.
@@ -29,8 +36,9 @@ impl Asked<'_> {
         match self {
             Asked::Text { room, .. } | Asked::Packed { room, .. } => *room,
             Asked::Move { sets, .. } => sets.len(),
-            Asked::Order { .. } | Asked::Rows { .. } => 0,
-            Asked::Fed { .. } | Asked::Streams { .. } => 0,
+            Asked::Kept { beside, .. } => beside.sets.len(),
+            Asked::Build { .. } | Asked::Quick { .. } | Asked::Order { .. } => 0,
+            Asked::Rows { .. } | Asked::Fed { .. } | Asked::Streams { .. } => 0,
         }
     }
 }
@@ -46,8 +54,14 @@ fn told_plan(plan: &[u32]) -> String {
     format!("packed plan of {} numbers: {plan:?}\n{lines}", plan.len())
 }
 
+/// A packed plan with its table, and what was asked of it.
+fn told_move(plan: &[u32], sets: &[u32], Move { line, device }: Move) -> String {
+    let table = format!("table of {}: {sets:?}", sets.len());
+    format!("{}{table}\nline {line}, device {device}\n", told_plan(plan))
+}
+
 /// Rows, as numbers and member by member.
-fn told_rows(rows: &Rows) -> String {
+fn told_rows(rows: &[u32]) -> String {
     let mut told = format!("rows: {rows:?}\n");
     for (device, &row) in rows.iter().enumerate().filter(|(_, &row)| row != 0) {
         let to: Vec<String> = members(row).map(|member| member.to_string()).collect();
@@ -61,14 +75,19 @@ impl Input for Asked<'_> {
         match self {
             Asked::Text { text, room } => format!("{}list of {room}\n", told_text(text)),
             Asked::Packed { plan, room } => format!("{}list of {room}\n", told_plan(plan)),
-            Asked::Move { plan, sets, line, device } => {
-                let table = format!("table of {}: {sets:?}", sets.len());
-                format!("{}{table}\nline {line}, device {device}\n", told_plan(plan))
+            &Asked::Move { plan, sets, line, device } => {
+                told_move(plan, sets, Move { line, device })
             }
+            Asked::Build { plan, rooms } => format!("{}lists of {rooms:?}\n", told_plan(plan)),
+            Asked::Kept { plan, beside, to } => {
+                let told = told_move(plan, &beside.sets, *to) + &told_rows(&beside.rows);
+                format!("{told}held set: {:?}\n", beside.held)
+            }
+            Asked::Quick { plan, rows } => told_plan(plan) + &told_rows(rows),
             Asked::Order { plan, order } => {
                 format!("{}order of {} entries: {order:?}\n", told_plan(plan), order.len())
             }
-            Asked::Rows { rows } => told_rows(rows),
+            Asked::Rows { rows } => told_rows(*rows),
             Asked::Fed { text, pieces } => format!("{}in {pieces} pieces\n", told_text(text)),
             Asked::Streams { what } => format!("{what}\n"),
         }

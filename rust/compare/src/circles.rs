@@ -5,6 +5,7 @@
 
 use crate::asked::Asked;
 use crate::entries::{self, stays};
+use crate::keeping;
 use crate::lent::Lent;
 use crate::plans::any_plan;
 use crate::run::Run;
@@ -90,6 +91,7 @@ fn plant(run: &mut Run, family: &str, rows: &Rows) {
         let name = format!("planted rows, {family}: 10 at the lowest that leads back, or none");
         run.tally.compare(&name, &asked, wanted, said);
         sort_planted(run, rows, packed.len(), wanted.is_none());
+        keeping::agrees(run, &packed);
     }
 }
 

@@ -1,7 +1,7 @@
 //! One call of a proved entry, held against the second program: the answer, what is left in the
 //! lent list, and what stands around it. The paragraph is "Refusal numbers" of document 01 with
 //! its lengths and answers, and for the screens the end of "Plans with their verdicts". The move
-//! stands in `moves.rs`.
+//! stands in `moves.rs`, what keeps the rows in `kept.rs`.
 
 use crate::asked::Asked;
 use crate::lent::{Lent, Word};

@@ -6,6 +6,7 @@
 use crate::asked::Asked;
 use crate::entries::{self, Filled};
 use crate::judging::judge;
+use crate::keeping;
 use crate::moves::{moved, Kept};
 use crate::processes;
 use crate::program::Program;
@@ -55,6 +56,7 @@ fn through_entries(run: &mut Run, listed: &Listed) {
     run.tally.compare(&format!("{name}: verdict"), &asked, wanted, said);
     let said = entries::screen(run, &text, SCREEN);
     run.tally.compare(&format!("{name}: screen"), &asked, printed(listed), said);
+    keeping::agrees(run, &packed);
 }
 
 /// Each take of the plan, or some of very many, moved to the device that it has: nothing changes. A

@@ -16,6 +16,8 @@ mod circles;
 mod entries;
 mod judge_texts;
 mod judging;
+mod keeping;
+mod kept;
 mod lent;
 mod limits;
 mod listed;
@@ -58,6 +60,8 @@ fn main() -> ExitCode {
         part(&mut run, "rings against all orders", small::rings);
         part(&mut run, "all small plans against all orders", small::all_plans);
         part(&mut run, "moves", moves::moves);
+        part(&mut run, "moves that keep the rows", keeping::moves);
+        part(&mut run, "quick verdicts", keeping::quick_verdicts);
         part(&mut run, "orders from elsewhere", judging::judged);
         if let Some(order) = order {
             let texts = std::mem::take(&mut run.texts);

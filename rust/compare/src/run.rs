@@ -1,10 +1,10 @@
 //! The state of a run, and the classes of calls and plans that it has to meet. The classes are the
 //! numbers of "Refusal numbers" of document 01 without 8, and 15 of document 02, entry by entry, the
 //! shapes of plans on which "Claims and rows" and "The order handed out" turn, the sentences of "Legal
-//! orders", the shapes of plans, moves and tables on which request 2 of document 02 turns, and those of
-//! rows on which request 3 does.
+//! orders", the shapes of plans, moves and tables on which request 2 of document 02 turns, those of
+//! rows on which request 3 does, and of lists kept beside a plan on which request 4 does.
 
-use crate::{circles, judging, small, wrapper};
+use crate::{circles, judging, kept, small, wrapper};
 use second::random::Random;
 use second::tally::{Tally, LEAST};
 use second::{shapes, Refusal};
@@ -20,13 +20,16 @@ const KEPT: usize = 240;
 /// Each entry, and each program, with the refusals that it can give. The lists are checked by each
 /// entry itself, so a packed list too long gives 3; a text too long, 1, reaches readers of texts
 /// alone. The screens' entry has no list that could be too short: too little room is no refusal.
-const REFUSALS: [(&str, &[u32]); 10] = [
+const REFUSALS: [(&str, &[u32]); 13] = [
     ("line", &[1, 2, 3]),
     ("read", &[1, 2, 3, 4, 5, 6, 7, 11]),
     ("write", &[2, 3, 4, 5, 6, 7, 11]),
     ("table", &[2, 3, 4, 5, 6, 7, 11]),
     ("verdict", &[2, 3, 4, 5, 6, 7, 9, 10, 11]),
     ("move", &[2, 3, 4, 5, 6, 7, 11, 12, 13, 14]),
+    ("build", &[2, 3, 4, 5, 6, 7, 11]),
+    ("move_kept", &[2, 3, 4, 5, 6, 7, 11, 12, 13, 14]),
+    ("quick", &[2, 3, 4, 5, 6, 7, 9, 10, 11]),
     ("screen", &[1, 2, 3, 4, 5, 6, 7, 9, 10]),
     ("judge", &[2, 3, 4, 5, 6, 7, 15]),
     ("program order", &[1, 2, 3, 4, 5, 6, 7, 9, 10]),
@@ -112,5 +115,6 @@ fn classes() -> Vec<(String, u64)> {
     classes.push(small::all_class());
     classes.extend(wrapper::classes());
     classes.extend(circles::classes());
+    classes.extend(kept::classes());
     classes
 }

@@ -1,9 +1,11 @@
 //! Small plans, for which every order can be tried: the proved verdict is held against the
 //! paragraph "Legal orders" of document 01 by itself, without rows or circles, and every other
-//! entry is called on the same plans.
+//! entry is called on the same plans; the quick verdict of request 4 of document 02 is held against
+//! the verdict.
 
 use crate::asked::Asked;
 use crate::entries;
+use crate::keeping;
 use crate::plans::{any_ring, room, screen_room};
 use crate::run::Run;
 use second::damage::{damaged_packed, spelt};
@@ -34,6 +36,7 @@ fn against_all_orders(run: &mut Run, family: &str, plan: &[Line]) {
         let name = format!("{family}: what is handed out is legal, with its devices held");
         run.tally.compare(&name, &asked, wanted, Some(held));
     }
+    keeping::agrees(run, &packed);
 }
 
 /// Calls the other entries on a packed list, right or not, and on its text.

@@ -129,6 +129,104 @@ pub fn move_claim(
     outcome(raw::move_claim(plan, sets, line, device))
 }
 
+/// Works out what is kept beside a plan, for [`move_kept`] and [`quick`]: its table into `sets`, its rows into `rows`,
+/// and into `held` one set, of the devices that are held to the end, device d being bit d. The row of such a device is
+/// the set of all that is claimed behind its lasting takes; other devices have an empty row. The count is that of the
+/// lines. Needed are as many sets as there are lines, [`ROWS`](crate::ROWS) rows, and one held set.
+///
+/// # Errors
+///
+/// Refuses with 2 to 7 what is no plan, and then with 11 a list that is too short: first the table, then the rows, then
+/// the held set.
+///
+/// ```
+/// use gimmerskip::{entries, Refusal, ROWS};
+///
+/// // The job takes device 5 to the end, and behind that device 3 for a while.
+/// let plan = [1_285, 1_283, 1_539];
+/// let (mut sets, mut rows, mut held) = ([9; 3], [9; ROWS], [9]);
+/// assert_eq!(entries::build(&plan, &mut sets, &mut rows, &mut held), Ok(3));
+/// assert_eq!((sets, held), ([1 << 5 | 1 << 3, 1 << 3, 0], [1 << 5]));
+/// assert!((0..ROWS).all(|device| rows[device] == if device == 5 { 1 << 3 } else { 0 }));
+/// assert_eq!(entries::build(&plan, &mut sets, &mut rows[1..], &mut []), Err(Refusal::ListTooShort(32)));
+/// ```
+pub fn build(
+    plan: &[u32],
+    sets: &mut [u32],
+    rows: &mut [u32],
+    held: &mut [u32],
+) -> Result<usize, Refusal> {
+    outcome(raw::build(plan, sets, rows, held))
+}
+
+/// Moves the claim of a line as [`move_claim`] does, and keeps rows and held set true: what [`build`] made for a plan
+/// is, after any number of moves, refused ones among them, what it would make for the plan as it is by then. Plan,
+/// table and count are those of [`move_claim`].
+///
+/// Written to are few rows: those of the old device, of the new one, and of the devices that are taken for good on
+/// the way back to line 1 or under the take. Each becomes what the edited plan and the mended table make of it, and so
+/// do the bits of the old and the new device in the held set. All other rows and bits stay as they were lent, whosever
+/// they are: this holds for rows and a held set that are not the plan's own too. A move to the device where the claim
+/// is counts 0 and still writes those rows and bits.
+///
+/// # Errors
+///
+/// Refuses with 2 to 7 what is no plan, then with 11 a list that is too short (first the table, then the rows, then the
+/// held set), and then with 12 to 14. Rows and held set are not tested for staleness. A refusal changes nothing.
+///
+/// ```
+/// use gimmerskip::{entries, Refusal, ROWS};
+///
+/// let mut plan = [1_285, 1_283, 1_539];
+/// let (mut sets, mut rows, mut held) = ([0; 3], [0; ROWS], [0]);
+/// entries::build(&plan, &mut sets, &mut rows, &mut held)?;
+/// // Line 2 goes from device 3 to device 4: that is what is claimed behind device 5 then.
+/// assert_eq!(entries::move_kept(&mut plan, &mut sets, &mut rows, &mut held, 2, 4), Ok(2));
+/// assert_eq!((rows[5], held), (1 << 4, [1 << 5]));
+/// // Line 1 goes from device 5 to device 6, which is held to the end then, and has the row.
+/// assert_eq!(entries::move_kept(&mut plan, &mut sets, &mut rows, &mut held, 1, 6), Ok(1));
+/// assert_eq!((rows[5], rows[6], held), (0, 1 << 4, [1 << 6]));
+/// # Ok::<(), Refusal>(())
+/// ```
+pub fn move_kept(
+    plan: &mut [u32],
+    sets: &mut [u32],
+    rows: &mut [u32],
+    held: &mut [u32],
+    line: u32,
+    device: u32,
+) -> Result<usize, Refusal> {
+    outcome(raw::move_kept(plan, sets, rows, held, line, device))
+}
+
+/// The quick verdict: whether the plan has a legal order, by rows that are kept beside it. No order is handed out and
+/// nothing is written. The count is that of the devices that are held to the end.
+///
+/// With the plan's own rows, as [`build`] makes them and [`move_kept`] keeps them, it refuses exactly what [`verdict`]
+/// refuses, with the same number and place, and counts the same. With other rows its 10 is about the rows as they are
+/// lent, the first [`ROWS`](crate::ROWS) of them; count and 9 are the plan's all the same.
+///
+/// # Errors
+///
+/// Refuses with 2 to 7 what is no plan, then with 11 rows that are too few, then with 9 where a device has two lasting
+/// takes in the plan, then with 10 where by the rows a device leads back to itself.
+///
+/// ```
+/// use gimmerskip::{entries, Refusal, ROWS};
+///
+/// let plan = [1_285, 1_283, 1_539];
+/// let (mut sets, mut rows, mut held) = ([0; 3], [0; ROWS], [0]);
+/// entries::build(&plan, &mut sets, &mut rows, &mut held)?;
+/// assert_eq!(entries::quick(&plan, &rows), Ok(1));
+/// // Rows of another's making, by which device 3 leads to device 5, and so on to itself.
+/// rows[3] = 1 << 5;
+/// assert_eq!(entries::quick(&plan, &rows), Err(Refusal::LeadsBack(3)));
+/// # Ok::<(), Refusal>(())
+/// ```
+pub fn quick(plan: &[u32], rows: &[u32]) -> Result<usize, Refusal> {
+    outcome(raw::quick(plan, rows))
+}
+
 /// The packed number of the line at an offset of a text, or `None` where nothing is left. The first line stands at 0,
 /// each other one just past the newline of the line before.
 ///

@@ -2,10 +2,11 @@
 //!
 //! A plan is a list of steps, one a line, each of a job: it takes a shared device, gives it back, starts another job or
 //! does something that touches no device. [`Plan`] reads a plan and gives its order, its steps, its table of claims and
-//! its text, and judges orders from elsewhere; [`Tabled`] keeps a plan and its table together while claims are moved;
-//! [`Holds`] says who holds what, and why a plan has no order. The functions of [`entries`] work on slices that the
-//! caller lends, and [`lines`](lines()) hands out the lines of a text one by one. What is refused comes back as a
-//! [`Refusal`], which says in words what is wrong and where.
+//! its text, and judges orders from elsewhere; [`Tabled`] keeps a plan with its table and its rows while claims are
+//! moved, and says quickly after each move whether there is an order; [`Holds`] says who holds what, and why a plan has
+//! no order. The functions of [`entries`] work on slices that the caller lends, and [`lines`](lines()) hands out the
+//! lines of a text one by one. What is refused comes back as a [`Refusal`], which says in words what is wrong and
+//! where.
 //!
 //! Jobs and lines count from 1, devices from 0 to 31. The work is done by archives of proved code, `libport.a`,
 //! `libreader.a` and `libscreen.a`; [`raw`] is the only place that calls into them. [`Step`], [`Holds`] and the words
@@ -96,6 +97,31 @@
 //! # Ok::<(), gimmerskip::Refusal>(())
 //! ```
 //!
+//! # A verdict after each move
+//!
+//! Whoever moves one claim after another wants to know after each move whether the plan still has an order. Beside
+//! its table [`Tabled`] keeps the plan's rows, which a move keeps true, and the quick verdict looks at these: it hands
+//! out no order, and else says what [`Tabled::verdict`] says. Here job 1 keeps device 0 and needs device 1 after that;
+//! job 2 keeps device 1 and needs device 5.
+//!
+//! ```
+//! use gimmerskip::{Plan, Refusal, Tabled};
+//!
+//! let jobs = ["1 start 2", "1 take 0", "1 take 1", "1 give 1", "2 take 1", "2 take 5", "2 give 5"];
+//! let text: String = jobs.iter().map(|line| line.replace(' ', "\t") + "\n").collect();
+//! let mut tabled = Tabled::new(Plan::from_text(&text)?);
+//! assert_eq!((tabled.held(), tabled.rows()[0], tabled.rows()[1]), (1 << 0 | 1 << 1, 1 << 1, 1 << 5));
+//! assert_eq!(tabled.quick(), Ok(2));
+//! // Line 6 is to need device 0, which job 1 keeps: each job waits for the other.
+//! assert_eq!(tabled.move_claim(6, 0), Ok(3));
+//! assert_eq!(tabled.quick(), Err(Refusal::LeadsBack(0)));
+//! // With line 3 at device 4 job 1 no longer needs what job 2 keeps.
+//! assert_eq!(tabled.move_claim(3, 4), Ok(3));
+//! assert_eq!(tabled.quick(), Ok(2));
+//! assert_eq!(tabled.quick(), tabled.verdict().map(|order| order.held));
+//! # Ok::<(), Refusal>(())
+//! ```
+//!
 //! # A device taken again
 //!
 //! A cleaning recipe stands in a job that has the pump already, and takes it too. That take waits for nobody and claims
@@ -162,6 +188,8 @@ pub const MAX_LINES: usize = 1_024;
 pub const MAX_BYTES: usize = 12_288;
 /// The least room that [`entries::order`] asks for: the longest print there is.
 pub const SCREEN_ROOM: usize = 4_027;
+/// The rows that are kept beside a plan's table: one set for each device.
+pub const ROWS: usize = 32;
 
 /// The example of the project's README is run too.
 #[cfg(all(doctest, feature = "std"))]

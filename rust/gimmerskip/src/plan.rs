@@ -1,8 +1,9 @@
 //! A plan that owns its lines.
 
 use crate::step::of_plan;
-use crate::{entries, Holds, Refusal, Step, Steps, MAX_BYTES, MAX_LINES};
+use crate::{entries, Holds, Refusal, Step, Steps, MAX_BYTES, MAX_LINES, ROWS};
 use core::fmt;
+use core::slice::from_mut;
 use core::str::FromStr;
 use std::string::String;
 use std::vec;
@@ -162,6 +163,29 @@ impl Plan {
         Ok(Order { lines, held })
     }
 
+    /// The quick verdict, by rows that are kept beside the plan: how many devices are held to the end. With the plan's
+    /// own rows it refuses exactly what [`Plan::verdict`] refuses; with others, 10 is about the rows as they are lent.
+    /// [`Tabled`](crate::Tabled) keeps a plan with its own rows.
+    ///
+    /// # Errors
+    ///
+    /// Refuses with 11 rows that are too few, then with 9 by the plan, then with 10 by the rows.
+    ///
+    /// ```
+    /// use gimmerskip::{Plan, Refusal, ROWS};
+    ///
+    /// let plan = Plan::from_text("1\ttake\t3\n1\ttake\t5\n1\tgive\t5\n")?;
+    /// let mut rows = *plan.holds().rows();
+    /// assert_eq!(plan.quick(&rows), Ok(1));
+    /// assert_eq!(plan.quick(&rows[..ROWS - 1]), Err(Refusal::ListTooShort(32)));
+    /// rows[7] = 1 << 7;
+    /// assert_eq!(plan.quick(&rows), Err(Refusal::LeadsBack(7)));
+    /// # Ok::<(), Refusal>(())
+    /// ```
+    pub fn quick(&self, rows: &[u32]) -> Result<usize, Refusal> {
+        entries::quick(&self.lines, rows)
+    }
+
     /// Judges an order from elsewhere: whether these line numbers, whoever made the list, are a legal order. The one
     /// that [`Plan::verdict`] hands out is accepted, and so is every other legal one.
     ///
@@ -208,6 +232,23 @@ impl Plan {
         device: u32,
     ) -> Result<usize, Refusal> {
         entries::move_claim(&mut self.lines, table, line, device)
+    }
+
+    /// The table, the rows and the set of the devices held to the end.
+    pub(crate) fn built(&self) -> (Vec<u32>, [u32; ROWS], u32) {
+        let (mut table, mut rows, mut held) = (vec![0; self.lines.len()], [0; ROWS], 0);
+        entries::build(&self.lines, &mut table, &mut rows, from_mut(&mut held)).expect(NO_FAULT);
+        (table, rows, held)
+    }
+
+    /// Moves a claim, and keeps what is kept beside the plan.
+    pub(crate) fn move_kept(
+        &mut self,
+        (table, rows, held): (&mut [u32], &mut [u32; ROWS], &mut u32),
+        line: u32,
+        device: u32,
+    ) -> Result<usize, Refusal> {
+        entries::move_kept(&mut self.lines, table, rows, from_mut(held), line, device)
     }
 }
 

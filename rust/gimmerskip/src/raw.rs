@@ -19,6 +19,34 @@ mod c {
             line: u32,
             device: u32,
         ) -> u64;
+        pub fn gimmerskip_build(
+            plan: *const u32,
+            n: usize,
+            sets: *mut u32,
+            room: usize,
+            rows: *mut u32,
+            rows_room: usize,
+            held: *mut u32,
+            held_room: usize,
+        ) -> u64;
+        pub fn gimmerskip_move_kept(
+            plan: *mut u32,
+            n: usize,
+            sets: *mut u32,
+            room: usize,
+            rows: *mut u32,
+            rows_room: usize,
+            held: *mut u32,
+            held_room: usize,
+            line: u32,
+            device: u32,
+        ) -> u64;
+        pub fn gimmerskip_quick(
+            plan: *const u32,
+            n: usize,
+            rows: *const u32,
+            rows_room: usize,
+        ) -> u64;
     }
 }
 
@@ -72,4 +100,51 @@ pub fn move_claim(plan: &mut [u32], sets: &mut [u32], line: u32, device: u32) ->
             device,
         )
     }
+}
+
+/// The table of a plan's claims, its rows and the set of the devices that it holds to the end: the number of lines.
+pub fn build(plan: &[u32], sets: &mut [u32], rows: &mut [u32], held: &mut [u32]) -> u64 {
+    unsafe {
+        c::gimmerskip_build(
+            plan.as_ptr(),
+            plan.len(),
+            sets.as_mut_ptr(),
+            sets.len(),
+            rows.as_mut_ptr(),
+            rows.len(),
+            held.as_mut_ptr(),
+            held.len(),
+        )
+    }
+}
+
+/// The claim of a line, counted from 1, moved to a device, with rows and held set kept: the number of sets of the table
+/// that changed.
+pub fn move_kept(
+    plan: &mut [u32],
+    sets: &mut [u32],
+    rows: &mut [u32],
+    held: &mut [u32],
+    line: u32,
+    device: u32,
+) -> u64 {
+    unsafe {
+        c::gimmerskip_move_kept(
+            plan.as_mut_ptr(),
+            plan.len(),
+            sets.as_mut_ptr(),
+            sets.len(),
+            rows.as_mut_ptr(),
+            rows.len(),
+            held.as_mut_ptr(),
+            held.len(),
+            line,
+            device,
+        )
+    }
+}
+
+/// The quick verdict on a plan, by lent rows: the number of devices held to the end.
+pub fn quick(plan: &[u32], rows: &[u32]) -> u64 {
+    unsafe { c::gimmerskip_quick(plan.as_ptr(), plan.len(), rows.as_ptr(), rows.len()) }
 }

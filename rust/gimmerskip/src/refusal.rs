@@ -38,7 +38,8 @@ pub enum Refusal {
     TwoLasting(u32),
     /// 10: this device leads back to itself; it is the lowest such device.
     LeadsBack(u32),
-    /// 11: a list that was lent is too short; it needs this length.
+    /// 11: a list that was lent is too short; it needs this length. Of several the first is told: the table, then the
+    /// rows, then the held set.
     ListTooShort(u32),
     /// 12: the line that was asked for, this one, is no take of the plan.
     NotATake(u32),

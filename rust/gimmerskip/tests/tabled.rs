@@ -1,4 +1,4 @@
-//! A plan that keeps its table: moves, refused and done, and what is left of both.
+//! A plan that keeps its table, rows and held set: moves, refused and done, and what is left of all.
 
 #![cfg(feature = "std")]
 
@@ -46,7 +46,9 @@ fn a_refused_move_changes_nothing() {
 fn moves_can_mend_a_plan_without_an_order() {
     let mut tabled = Tabled::new(plan(H));
     assert_eq!(tabled.verdict(), Err(Refusal::LeadsBack(0)));
+    assert_eq!(tabled.quick(), Err(Refusal::LeadsBack(0)));
     assert_eq!(tabled.move_claim(10, 3), Ok(4));
     assert_eq!(tabled.verdict().map(|order| order.held), Ok(3));
+    assert_eq!((tabled.quick(), tabled.held()), (Ok(3), 7));
     assert_eq!(tabled.plan().holds().circle(), None);
 }

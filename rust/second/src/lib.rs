@@ -6,7 +6,8 @@
 //! * the first, [`read`], [`orders`] and [`judge`], knows the text, the rules of a well-formed plan
 //!   and what a legal order is, judges one from elsewhere rule by rule, and finds out by trying
 //!   whether a plan has one;
-//! * the second, [`plain`], knows claims, rows, circles, the order handed out and the move.
+//! * the second, [`plain`], knows claims, rows, circles, the order handed out, the move, and what is
+//!   kept beside the table.
 //!
 //! [`orders`], [`judge`] and [`read`] never call [`plain`], and [`plain`] never calls [`orders`] or
 //! [`judge`], which do not call each other either; the run `readings` is the only place where their

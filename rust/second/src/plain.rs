@@ -3,14 +3,17 @@
 //! Reads, of document 01: "Claims and rows", "The order handed out", and of "Refusal numbers" the
 //! cases 9 and 10; of document 02: request 2, by which these speak of outermost takes alone. The
 //! move stands in `plain/moving.rs`, the entries with lent lists and what is printed in
-//! `plain/lent.rs`; both are reached from here.
+//! `plain/lent.rs`, the rows that are kept beside the table in `plain/kept.rs`; all are reached from
+//! here.
 //!
 //! It knows nothing of trying orders. The plans given as lines are well-formed; places count from
 //! nought inside and from 1 outside.
 
+mod kept;
 mod lent;
 mod moving;
 
+pub use kept::{build, concerned, move_kept, quick, Beside};
 pub use lent::{printed, read_into, screen, table_into, verdict_into, write_into, SCREEN};
 pub use moving::{edited, move_claim, stale, under, way};
 
@@ -127,7 +130,11 @@ pub fn lasting(plan: &[Line]) -> Vec<Option<u8>> {
 
 /// The rows.
 pub fn rows(plan: &[Line]) -> Rows {
-    let sets = table(plan);
+    rows_by(plan, &table(plan))
+}
+
+/// The rows that a table gives, whether it is the plan's own or not.
+pub fn rows_by(plan: &[Line], sets: &[u32]) -> Rows {
     let mut rows = [0; DEVICES as usize];
     for (at, device) in lasting(plan).into_iter().enumerate() {
         if let Some(device) = device {
@@ -177,20 +184,32 @@ pub struct Order {
     pub held: u32,
 }
 
-/// The verdict on a plan: its order, or refusal 9 or 10.
-pub fn verdict(plan: &[Line]) -> Result<Order, Refusal> {
+/// The devices held to the end, and those of them that have two lasting takes or more.
+pub fn held_to_end(plan: &[Line]) -> (u32, u32) {
     let (mut once, mut twice) = (0, 0);
     for device in lasting(plan).into_iter().flatten() {
         twice |= once & only(device);
         once |= only(device);
     }
+    (once, twice)
+}
+
+/// How many devices are held to the end, or refusal 9 by the plan, or 10 by rows, which need not be its.
+fn still_held(plan: &[Line], rows: &Rows) -> Result<u32, Refusal> {
+    let (held, twice) = held_to_end(plan);
     if let Some(device) = lowest(twice) {
         return Err(Refusal::at(9, device));
     }
-    if let Some(device) = lowest(circles(&rows(plan))) {
+    if let Some(device) = lowest(circles(rows)) {
         return Err(Refusal::at(10, device));
     }
-    Ok(Order { lines: Course::run(plan).order, held: once.count_ones() })
+    Ok(held.count_ones())
+}
+
+/// The verdict on a plan: its order, or refusal 9 or 10.
+pub fn verdict(plan: &[Line]) -> Result<Order, Refusal> {
+    let held = still_held(plan, &rows(plan))?;
+    Ok(Order { lines: Course::run(plan).order, held })
 }
 
 /// Whether, while the order is handed out, a lasting take is done by (b) though another with a

@@ -1,6 +1,6 @@
 -- `moving::tested` meets its contract: the scan refuses, or the tests after it answer.
-use mathlib.Core.Option.{Option, none, Option·none-ne-some}
-use mathlib.Core.Path.{_≡_, sym, _∙_, ap}
+use mathlib.Core.Option.{Option, none}
+use mathlib.Core.Path.{_≡_, sym, ap}
 use borrow.Author.Needs.{needs}
 use Rattle.model.specs.WellFormed.{fault}
 use Rattle.model.specs.Board.{devices}
@@ -37,7 +37,9 @@ returns c =
     record {
       answers = ap (λ (o : Option Refusal). testedBy o (spanOf (a .plan .now) (askedAt (a .line))))
           (sym e);
-      scans = λ f. absurd (Option·none-ne-some r (sym f ∙ e));
+      firsts = at-scan .scan .ensures .firsts;
+      starts = at-scan .scan .ensures .starts;
+      agains = at-scan .scan .ensures .agains;
     }
 
 returns-2 : tie.Need-returns-2
@@ -47,7 +49,9 @@ returns-2 c =
     record {
       answers = by-asked devices (a .plan .now) (a .sets .now) (a .line) (a .device)
           (spanOf (a .plan .now) (askedAt (a .line))) (no-fault passed) _ (c .asked .ensures);
-      scans = λ f. scanned passed;
+      firsts = passed .before .before .scan .ensures .firsts;
+      starts = passed .before .before .scan .ensures .starts;
+      agains = passed .before .before .scan .ensures .agains;
     }
 
 pub tested-spec : {M : Type 1} → statement M

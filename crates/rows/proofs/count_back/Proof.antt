@@ -3,7 +3,9 @@ use Prim.Native.Nat.{suc, _-_}
 use mathlib.Core.Path.{_≡_, _∙_}
 use native.Mathlib.Omega.{arith}
 use borrow.Author.Needs.{needs}
-use Rattle.rows.proofs.Counted.{has-flag, counts-as, Counted, none-counted, wanted-in, counted-on, all-counted}
+use Rattle.model.specs.Board.{devices}
+use Rattle.theory.proofs.WellFormed.{no-fault-exactly}
+use Rattle.rows.proofs.Counted.{has-flag, counts-as, Counted, none-counted, counted-on, all-counted}
 use Rattle.rows.proofs.count_back.Statement.{statement}
 use Rattle.rows.proofs.count_back.Tie as tie
 
@@ -22,12 +24,6 @@ element-copy-out-plain c =
     let start = c .before .before .before .before in
     has-flag (start .args .plan .now) (start .args .again .now) (l .i - 1) (start .pre) (omega (arith, l .inv .inPlan))
 
-pass-line-requires : tie.Need-pass-line-requires Inv-loop μ-loop
-pass-line-requires c κs =
-    let at-loop = c .before .before .before .before in
-    let start = at-loop .before .before in
-    wanted-in (start .args .plan .now) (at-loop .loop .passed) (at-loop .loop .i) (start .pre .0) (at-loop .loop .inv)
-
 loop-again : tie.Need-loop-again Inv-loop μ-loop
 loop-again c =
     let at-loop = c .before .before .before .before .before in
@@ -38,7 +34,8 @@ loop-again c =
     let back : l .i ≡ suc (l .i - 1) = omega arith in
     let m = rw back at (l .inv) in
     let counts = c .before .plain .ensures ∙ counts-as p again (l .i - 1) (start .pre) (m .inPlan) in
-    counted-on p (l .passed) (c .pass-line .result) (l .i - 1) m (rw counts at (c .pass-line .ensures))
+    let few = no-fault-exactly devices p .0 (start .pre .0) .few in
+    counted-on p few (l .passed) (c .pass-line .result) (l .i - 1) m (rw counts at (c .pass-line .ensures))
 
 returns : tie.Need-returns Inv-loop μ-loop
 returns c =
@@ -50,4 +47,4 @@ pub count-back-spec : {M : Type 1} → statement M
 count-back-spec =
     tie.close
     (tie.spec Inv-loop μ-loop loop-holds (λ c. search needs) (λ c. search needs) (λ c. search needs)
-    element-copy-out-plain (λ c κs. search needs) pass-line-requires (λ c. search needs) loop-again returns)
+    element-copy-out-plain (λ c κs. search needs) (λ c κs. search needs) (λ c. search needs) loop-again returns)

@@ -1,12 +1,11 @@
 -- `rows::pass_line` meets its contract: each field is what one call made.
-use Prim.Native.Nat.{ℕ, _≤_}
-use mathlib.Core.Bool.{Bool, true, false, cond, _&&_}
+use Prim.Native.Nat.{ℕ, _%_, _^_}
+use mathlib.Core.Bool.{Bool, cond, _&&_}
 use mathlib.Core.Path.{_≡_}
-use native.Mathlib.Omega.{arith}
 use lib.Dec.{eqb}
 use borrow.Author.Needs.{needs}
 use Rattle.model.specs.Board.{devices}
-use Rattle.model.specs.Line.{job, operand, isTake, maxLines}
+use Rattle.model.specs.Line.{job, operand, isTake}
 use Rattle.model.specs.Sets.{empty, union}
 use Rattle.sets.specs.Only.{onlyOf}
 use Rattle.sets.specs.Both.{both}
@@ -16,21 +15,9 @@ use Rattle.rows.specs.Holds.{PassedOn}
 use Rattle.rows.proofs.pass_line.Statement.{statement}
 use Rattle.rows.proofs.pass_line.Tie as tie
 
-few : (b : Bool) (w n : ℕ) → w ≤ n → cond b w 0 ≤ n
-few true w n h = h
-few false w n h = omega arith
-
-wanted-before-requires : tie.Need-wanted-before-requires
-wanted-before-requires c κs =
-    let at-choose = c .before .before .before in
-    let start = at-choose .before .before .before in
-    let old = start .args .passed in
-    rw (at-choose .choose .ensures)
-    (few (eqb (at-choose .before .before .job .result) (old .job)) (old .wanted) maxLines (start .pre))
-
 passed-on : (old : Passed) (l plain : ℕ) {j after o one wanted held again twice : ℕ} {takes : Bool} → j ≡ job l
     → after ≡ cond (eqb j (old .job)) (old .wanted) 0 → takes ≡ isTake plain → o ≡ operand l
-    → one ≡ cond (takes && eqb after 0) (onlyOf devices o) empty → wanted ≡ wantedBefore l after
+    → one ≡ cond (takes && eqb after 0) (onlyOf devices o) empty → wanted ≡ wantedBefore l after % 2 ^ 32
     → held ≡ union one (old .held) → again ≡ both (old .held) one → twice ≡ union again (old .twice)
     → PassedOn (record { job = j; wanted = wanted; lasts = takes && eqb after 0; held = held; twice = twice }) old l
     plain
@@ -53,5 +40,5 @@ pub pass-line-spec : {M : Type 1} → statement M
 pass-line-spec =
     tie.close
     (tie.spec (λ c κs. search needs) (λ c κs. search needs) (λ c κs. search needs) (λ c κs. search needs)
-    (λ c κs. search needs) wanted-before-requires (λ c κs. search needs) (λ c κs. search needs)
+    (λ c κs. search needs) (λ c κs. search needs) (λ c κs. search needs) (λ c κs. search needs)
     (λ c κs. search needs) returns)

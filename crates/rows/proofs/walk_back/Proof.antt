@@ -7,7 +7,7 @@ use borrow.Author.Needs.{needs}
 use Rattle.model.specs.Line.{at}
 use Rattle.theory.specs.Outer.{plainAt}
 use Rattle.rows.specs.Holds.{PassedOn}
-use Rattle.rows.proofs.Counted.{has-flag, counts-as, wanted-in}
+use Rattle.rows.proofs.Counted.{has-flag, counts-as}
 use Rattle.rows.proofs.Walked.{Walked, none-walked, counts-line, is-take, one-walked, all-walked}
 use Rattle.rows.proofs.walk_back.Statement.{statement}
 use Rattle.rows.proofs.walk_back.Tie as tie
@@ -28,13 +28,6 @@ element-copy-out-plain c =
     let start = at-loop .before .before .before .before .before in
     has-flag (start .args .plan .now) (start .args .again .now) (at-loop .loop .i - 1) (start .pre)
     (omega (arith, at-loop .loop .inv .counted .inPlan))
-
-pass-line-requires : tie.Need-pass-line-requires Inv-loop μ-loop
-pass-line-requires c κs =
-    let at-loop = c .before .before .before .before in
-    let start = at-loop .before .before .before .before .before in
-    wanted-in (start .args .plan .now) (at-loop .loop .passed) (at-loop .loop .i) (start .pre .0)
-    (at-loop .loop .inv .counted)
 
 -- the line at hand, passed as it counts
 module _ (c : tie.After-pass-line Inv-loop μ-loop) where
@@ -91,5 +84,5 @@ pub walk-back-spec : {M : Type 1} → statement M
 walk-back-spec =
     tie.close
     (tie.spec Inv-loop μ-loop loop-holds (λ c. search needs) (λ c. search needs) (λ c. search needs)
-    element-copy-out-plain (λ c κs. search needs) pass-line-requires (λ c. search needs) element-write-lasting
+    element-copy-out-plain (λ c κs. search needs) (λ c κs. search needs) (λ c. search needs) element-write-lasting
     join-line-requires (λ c κs. search needs) (λ c. search needs) loop-again (λ c. search needs) returns)

@@ -1,8 +1,7 @@
 -- `rows::wanted_before` meets its contract: a take serves one, where one is wanted.
-use Prim.Native.Nat.{ℕ, zero, suc, _+_, _-_, _≤_}
-use mathlib.Core.Bool.{Bool, cond}
+use Prim.Native.Nat.{ℕ, zero, suc, _+_, _-_, _%_, _^_, _<_, _≤_}
+use mathlib.Core.Bool.{Bool, true, false, cond}
 use mathlib.Core.Path.{_≡_, refl}
-use native.Mathlib.Numerals.{add-one}
 use native.Mathlib.Omega.{arith}
 use lib.Dec.{ltb}
 use mir.Val.{boolByte}
@@ -17,20 +16,28 @@ serves : (n : ℕ) → (boolByte (ltb 0 n) ≤ n) × (n - boolByte (ltb 0 n) ≡
 serves zero = (omega arith, refl)
 serves (suc n) = rw (lt-ltb 0 (suc n) (omega arith)) (omega arith, refl)
 
-before : (l n : ℕ) {given r : ℕ} {gives takes : Bool} → gives ≡ isGive l → given ≡ cond gives (n + 1) n
-    → takes ≡ isTake l → r ≡ cond takes (n - boolByte (ltb 0 n)) given → r ≡ wantedBefore l n
+before : (n : ℕ) → n < 2 ^ 32 → (takes gives : Bool)
+    → cond takes (n - 1) (cond gives ((n + 1) % 2 ^ 32) n) ≡ cond takes (n - 1) (cond gives (suc n) n) % 2 ^ 32
+before n h true gives = omega arith
+before n h false true = omega arith
+before n h false false = omega arith
+
+made : (l n : ℕ) {more given r : ℕ} {gives takes : Bool} → n < 2 ^ 32 → more ≡ (n + 1) % 2 ^ 32 → gives ≡ isGive l
+    → given ≡ cond gives more n → takes ≡ isTake l → r ≡ cond takes (n - boolByte (ltb 0 n)) given
+    → r ≡ wantedBefore l n % 2 ^ 32
 unfolding wantedBefore
-before l n eg e et er = let s = serves n .1 in let m = add-one n in cc
+made l n h em eg e et er = let s = serves n .1 in let b = before n h (isTake l) (isGive l) in cc
 
 returns : tie.Need-returns
 returns c =
     let at-given = c .before .before in
-    let a = at-given .before .before .args in
-    before (a .l) (a .after) (at-given .before .is-give .ensures) (at-given .choose .ensures)
-    (c .before .is-take .ensures) (c .choose2 .ensures)
+    let at-more = at-given .before .before in
+    let a = at-more .before .args in
+    made (a .l) (a .after) (omega arith) (at-more .wrapping-add-u32 .ensures) (at-given .before .is-give .ensures)
+    (at-given .choose .ensures) (c .before .is-take .ensures) (c .choose2 .ensures)
 
 pub wanted-before-spec : {M : Type 1} → statement M
 wanted-before-spec =
     tie.close
-    (tie.spec (λ c. search needs) (λ c. serves (c .args .after) .0) (λ c κs. search needs) (λ c. search needs)
+    (tie.spec (λ c. search needs) (λ c. serves (c .args .after) .0) (λ c κs. search needs) (λ c κs. search needs)
     (λ c κs. search needs) (λ c κs. search needs) (λ c κs. search needs) returns)

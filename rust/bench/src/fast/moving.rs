@@ -14,26 +14,42 @@ pub fn move_claim(plan: &mut [u32], sets: &mut [u32], line: u32, device: u32) ->
     if sets.len() < plan.len() {
         return refusal(11, plan.len());
     }
+    match edit(plan, &mut flags, sets, &jobs, line, device) {
+        Ok(answer) | Err(answer) => answer,
+    }
+}
+
+/// The move of a plan without a fault, whose table is long enough, with the tests that are left: the number of sets
+/// that changed, or the refusal. The flags of takes become those of the edited plan.
+#[inline]
+pub fn edit(
+    plan: &mut [u32],
+    flags: &mut Flags,
+    sets: &mut [u32],
+    jobs: &Jobs,
+    line: u32,
+    device: u32,
+) -> Result<u64, u64> {
     let at = (line as usize).wrapping_sub(1);
     if at >= plan.len() || kind(plan[at]) != TAKE {
-        return refusal(12, line as usize);
+        return Err(refusal(12, line as usize));
     }
     if device > 31 {
-        return refusal(13, device as usize);
+        return Err(refusal(13, device as usize));
     }
-    let until = match test_sets(plan, &flags, sets, &jobs, at) {
+    let until = match test_sets(plan, flags, sets, jobs, at) {
         Ok(until) => until,
-        Err(stale) => return refusal(14, stale + 1),
+        Err(stale) => return Err(refusal(14, stale + 1)),
     };
     if operand(plan[at]) == device as usize {
-        return 0;
+        return Ok(0);
     }
-    mark(plan, &mut flags, at, until, device);
+    mark(plan, flags, at, until, device);
     plan[at] = with_device(plan[at], device);
     if until < plan.len() && job(plan[until]) == job(plan[at]) {
         plan[until] = with_device(plan[until], device);
     }
-    rewrite(plan, &flags, sets, &jobs, until - 1)
+    Ok(rewrite(plan, flags, sets, jobs, until - 1))
 }
 
 /// A take or give with another device.

@@ -27,6 +27,9 @@ pub struct Present {
     /// The jobs that have lines, and those that were started.
     with_lines: u64,
     started: u64,
+    /// The devices that earlier jobs hold at their ends, and those that more than one of them does.
+    kept: u32,
+    twice: u32,
 }
 
 /// What is noted of the lines so far.
@@ -111,10 +114,17 @@ impl Present {
 
     /// The first line of a job, which holds nothing yet.
     fn begin(&mut self, job: usize) {
+        self.keep();
         self.job = job;
         self.held = 0;
         self.depth = 0;
         self.with_lines |= only_job(job);
+    }
+
+    /// The end of a job. What it holds there it has a lasting take of, and one alone: any further one takes again.
+    fn keep(&mut self) {
+        self.twice |= self.kept & self.held;
+        self.kept |= self.held;
     }
 
     /// The tests after the last line: every started job has lines, and every job but the first is started.
@@ -136,7 +146,7 @@ impl Present {
 
 /// Tests a packed plan. Each line's flag is handed on, with its place from 0: who does not keep it does not pay for it.
 #[inline]
-fn walk(plan: &[u32], mut keep: impl FnMut(usize, u8)) -> Result<Jobs, u64> {
+fn walk(plan: &[u32], mut keep: impl FnMut(usize, u8)) -> Result<(Present, Jobs), u64> {
     let (mut present, mut noted) = (Present::default(), Noted::new());
     for (at, &line) in plan.iter().take(LINES).enumerate() {
         keep(at, present.line(&mut noted, line, at + 1)?);
@@ -145,7 +155,7 @@ fn walk(plan: &[u32], mut keep: impl FnMut(usize, u8)) -> Result<Jobs, u64> {
         return Err(refusal(3, LINES + 1));
     }
     present.end(&noted)?;
-    Ok(noted.jobs)
+    Ok((present, noted.jobs))
 }
 
 /// Tests a packed plan.
@@ -155,5 +165,12 @@ pub fn test(plan: &[u32]) -> Result<(), u64> {
 
 /// Tests a packed plan, and notes the flags of its lines.
 pub fn scan(plan: &[u32], flags: &mut Flags) -> Result<Jobs, u64> {
-    walk(plan, |at, flag| flags[at] = flag)
+    walk(plan, |at, flag| flags[at] = flag).map(|(_, jobs)| jobs)
+}
+
+/// Tests a packed plan: the devices held to the end, and those of them with two lasting takes.
+pub fn held(plan: &[u32]) -> Result<(u32, u32), u64> {
+    let (mut present, _) = walk(plan, |_, _| {})?;
+    present.keep();
+    Ok((present.kept, present.twice))
 }

@@ -4,8 +4,8 @@
 //! (claims, rows, the order handed out, the move), on random plans, on planted rings, and on every
 //! small plan. The paragraphs concerned are "Legal orders" against "Claims and rows" and "The
 //! order handed out", and "Moving a claim" against working out the edited plan afresh; and, of
-//! document 02, request 1 against orders followed step by step, and request 2 against plans that have
-//! actions where others take again.
+//! document 02, request 1 against orders followed step by step, request 2 against plans that have
+//! actions where others take again, and request 4 against rows worked out from the stretches of takes.
 //!
 //! Prints its seed, the number of plans by class, and each check with its number of comparisons. A
 //! difference is printed with its plan and both answers. The seed is taken from the environment
@@ -15,6 +15,8 @@
 mod by_hand;
 #[path = "readings/judged.rs"]
 mod judged;
+#[path = "readings/kept.rs"]
+mod kept;
 #[path = "readings/lists.rs"]
 mod lists;
 #[path = "readings/moves.rs"]
@@ -65,7 +67,9 @@ fn classes() -> impl Iterator<Item = (String, u64)> {
     let moves =
         shapes::MOVED.into_iter().chain(shapes::TABLES).map(|shape| format!("move: {shape}"));
     let order = format!("order: {}", shapes::GIVEN_IN_PART);
-    let some = CLASSES.map(str::to_string).into_iter().chain(plans).chain(moves).chain([order]);
+    let kept = kept::CLASSES.map(str::to_string);
+    let some = CLASSES.map(str::to_string).into_iter().chain(plans).chain(moves);
+    let some = some.chain(kept).chain([order]);
     some.map(|class| (class, LEAST)).chain([(ALL_SMALL.to_string(), how_many(SMALL))])
 }
 
@@ -241,6 +245,8 @@ fn main() -> ExitCode {
         lists::lent_lists(&mut tally, &mut random);
         moves::moves(&mut tally, &mut random);
         moves::all_moves(&mut tally);
+        kept::kept(&mut tally, &mut random);
+        kept::all_kept(&mut tally);
         judged::judged(&mut tally, &mut random);
         print_small(&all_small(&mut tally));
         tally.print()

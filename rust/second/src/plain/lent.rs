@@ -21,7 +21,7 @@ pub(super) fn room(lent: usize, needed: usize) -> Result<(), Refusal> {
 }
 
 /// Fills the front of a lent list, or refuses with the length needed.
-fn fill<T: Copy>(lent: &mut [T], entries: &[T]) -> Result<usize, Refusal> {
+pub(super) fn fill<T: Copy>(lent: &mut [T], entries: &[T]) -> Result<usize, Refusal> {
     room(lent.len(), entries.len())?;
     lent[..entries.len()].copy_from_slice(entries);
     Ok(entries.len())
