@@ -1,37 +1,53 @@
 -- The outcome of a move with kept rows (02, request 4), by what the move without rows has left and what is then kept.
 use Prim.Native.Nat.{ℕ, zero, suc, _-_, _^_, _<_, _≤_}
+use mathlib.Core.Bool.{true, false}
 use mathlib.Core.List.{List, [], _∷_}
+use mathlib.Core.Logic.{_⊎_, inl, inr, _≢_}
 use mathlib.Core.Option.{Option, none, some}
 use mathlib.Core.Path.{_≡_, refl, sym, _∙_, ap}
 use native.Mathlib.Omega.{arith}
+use lib.Dec.{eqb}
 use lib.ListN.{length, getD}
+use borrow.Author.Tests.{eqb-true, eqb-false}
 use Rattle.model.specs.Board.{devices}
-use Rattle.model.specs.Lists.{over}
-use Rattle.model.specs.Mate.{deviceAt}
-use Rattle.model.specs.WellFormed.{fault}
+use Rattle.model.specs.Lists.{has, over}
+use Rattle.model.specs.Line.{job, at}
+use Rattle.model.specs.Mate.{deviceAt, lasting}
+use Rattle.model.specs.Sets.{member}
+use Rattle.model.specs.WellFormed.{before, heldBy, WellFormed, fault}
 use Rattle.model.specs.Move.{edited, fromLast, rewritten, changed, askedAt, moveRefusal}
 use Rattle.model.specs.Entries.{Lent, outcome, moving}
 use Rattle.model.specs.Kept.{concerned, keptRows, keptHeld}
 use Rattle.model.specs.declared.Refusal.{Refusal}
 use Rattle.model.specs.declared.MoveAnswer.{MoveAnswer}
 use Rattle.theory.proofs.WellFormed.{no-fault-exactly}
+use Rattle.theory.proofs.Tests.{test}
+use Rattle.theory.proofs.Line.{line-parts}
+use Rattle.theory.proofs.Claims.{takes-line}
+use Rattle.theory.proofs.Mate.{pair}
+use Rattle.theory.proofs.Places.{lasting-parts}
+use Rattle.theory.proofs.Progress.{device-below}
+use Rattle.theory.proofs.JobEnds.{lasting-holds, held-alike}
 use Rattle.theory.proofs.Edited.{EditOf, edit}
 use Rattle.theory.proofs.Move.{length-rewritten, taken-device}
 use Rattle.mates.specs.Span.{spanOf, stopOf}
-use Rattle.mates.proofs.Spans.{spans}
+use Rattle.mates.proofs.Spans.{Spans, spans}
 use Rattle.plan.specs.Again.{againFlags}
 use Rattle.plan.specs.Ends.{leftBy}
+use Rattle.plan.specs.Holdings.{holdings}
 use Rattle.plan.specs.Jobs.{firstLines, starters}
+use Rattle.plan.proofs.Holdings.{holding-at}
 use Rattle.way.specs.Back.{wayBy}
 use Rattle.way.specs.Known.{Scanned}
 use Rattle.moving.specs.Through.{MovesThrough}
 use Rattle.moving.specs.declared.Through.{Through}
 use Rattle.moving.proofs.Answers.{told-moved}
 use Rattle.moving.proofs.Refusing.{Passes, passes}
+use Rattle.moving.proofs.SameScan.{same-firsts}
 use Rattle.moving.proofs.Outcome.{last-way, plainly-moved}
 use Rattle.promises.specs.Kept.{beside, MovesKeptAs}
 use Rattle.promises.proofs.Kept.{met-accepted}
-use Rattle.kept.specs.Gathered.{Prepared}
+use Rattle.kept.specs.Gathered.{Prepared, Skips}
 use Rattle.kept.specs.Keeping.{deviceOf, KeepsAs}
 use Rattle.kept.proofs.Moved.{rows-kept, held-kept}
 
@@ -57,10 +73,10 @@ unfolding askedAt
 asked-device p zero h = absurd (omega arith)
 asked-device p (suc i) h = refl
 
-module _ {p t : List ℕ} {line device : ℕ} {first starter again : List ℕ} {answer : Through}
-    {p′ t′ first′ starter′ again′ : List ℕ}
-    (m : MovesThrough p t line device first starter again answer p′ t′ first′ starter′ again′) {count stop : ℕ}
-    (told : answer ≡ Through.Moved count stop) where
+module _ {p t : List ℕ} {line device : ℕ} {first starter again held : List ℕ} {answer : Through}
+    {p′ t′ first′ starter′ again′ held′ : List ℕ}
+    (m : MovesThrough p t line device first starter again held answer p′ t′ first′ starter′ again′ held′)
+    {count stop : ℕ} (told : answer ≡ Through.Moved count stop) where
   none-refuses : moveRefusal devices p t line device ≡ none
   unfolding moving
   none-refuses =
@@ -136,14 +152,61 @@ module _ {p t : List ℕ} {line device : ℕ} {first starter again : List ℕ} {
         agains = refl;
       }
 
-  pub moves-kept : (rs held : List ℕ) (old : ℕ) (rs′ held′ : List ℕ) → devices ≤ length rs → 1 ≤ length held
-      → getD held 0 0 < 2 ^ devices → old ≡ deviceOf p line
-      → KeepsAs p′ starter′ t′ (stop - 1) old device rs held rs′ held′
-      → MovesKeptAs p t rs held line device (MoveAnswer.Changed count) p′ t′ rs′ held′
-  moves-kept rs held old rs′ held′ a b h o keeps =
+  -- the last line under the take is of its job
+  last-in-job : job (at p′ (stop - 1)) ≡ job (at p (line - 1))
+  last-in-job = edit-is .alike .jobs (stop - 1) ∙ go (test (eqb (stop - 1) (line - 1)))
+    where
+      s : Spans p (line - 1) stop
+      s = rw stop-is (spans p (k .asked .line .wellFormed .rules) (line - 1) (k .asked .line .inPlan))
+
+      go : (eqb (stop - 1) (line - 1) ≡ true) ⊎ (eqb (stop - 1) (line - 1) ≡ false)
+          → job (at p (stop - 1)) ≡ job (at p (line - 1))
+      go (inl e) = ap (λ (x : ℕ). job (at p x)) (eqb-true (stop - 1) (line - 1) e)
+      go (inr e) =
+          let n = eqb-false (stop - 1) (line - 1) e in
+          s .sameJob (stop - 1) (omega (arith, s .low)) (omega (arith, s .low))
+
+  -- a line of another job is as it was
+  other-line : (x : ℕ) → job (at p′ x) ≢ job (at p′ (stop - 1)) → at p′ x ≡ at p x
+  other-line x n = edit-is .elsewhere x (λ e. n (taken x (ap (λ (y : ℕ). job (at p y)) e)))
+      (λ e. n (taken x (pair p (line - 1) x e .sameJob x (omega (arith, pair p (line - 1) x e .below)) (omega arith))))
+    where
+      taken : (x : ℕ) → job (at p x) ≡ job (at p (line - 1)) → job (at p′ x) ≡ job (at p′ (stop - 1))
+      taken x e = edit-is .alike .jobs x ∙ e ∙ sym last-in-job
+
+  -- what the scan left of the jobs serves the edited plan, but for the take's job
+  pub may-skip : Skips p′ first′ held′ (job (at p′ (stop - 1)))
+  may-skip = record {
+    firsts = m .firsts ∙ left (firstLines p) first ∙ sym (same-firsts p p′ (edit-is .alike));
+    among = among′;
+  }
+    where
+      w : WellFormed devices p′
+      w = rw (plan-is, k .position) (k .fine)
+
+      among′ : (x d : ℕ) → lasting p′ x d ≡ true → job (at p′ x) ≢ job (at p′ (stop - 1))
+          → member (getD held′ (job (at p′ x)) 0) d ≡ true
+      among′ x d l n =
+          let j = job (at p′ x) in
+          let taken = lasting-parts p′ x d l .0 in
+          let small = line-parts devices (at p′ x) (w .lines x (takes-line p′ x d taken)) .1 in
+          let same : heldBy j (before p′ (length p′)) ≡ heldBy j (before p (length p′)) =
+          held-alike p′ p j (length p′) (λ y h. edit-is .alike .jobs y)
+          (λ y h e. other-line y (λ q. n (sym e ∙ q))) in
+          ap (λ xs. member (getD xs j 0) d) (m .holds ∙ left (holdings p) held)
+          ∙ holding-at p j d small (device-below devices p′ w x d taken)
+          ∙ ap (λ (y : ℕ). has d (heldBy j (before p y))) (sym (edit-is .alike .long)) ∙ sym (ap (has d) same)
+          ∙ lasting-holds p′ (w .rules) x d l
+
+  pub moves-kept : (rs ends : List ℕ) (old : ℕ) (rs′ ends′ : List ℕ) → devices ≤ length rs → 1 ≤ length ends
+      → getD ends 0 0 < 2 ^ devices → old ≡ deviceOf p line
+      → KeepsAs p′ starter′ t′ (stop - 1) old device rs ends rs′ ends′
+      → MovesKeptAs p t rs ends line device (MoveAnswer.Changed count) p′ t′ rs′ ends′
+  moves-kept rs ends old rs′ ends′ a b h o keeps =
       rw (rows-are, held-are)
-      (met-accepted p (beside t rs held) line device a b count p′ t′
-      (plainly-moved p t line device first starter again answer p′ t′ first′ starter′ again′ m count stop told))
+      (met-accepted p (beside t rs ends) line device a b count p′ t′
+      (plainly-moved p t line device first starter again held answer p′ t′ first′ starter′ again′ held′ m count stop
+      told))
     where
       old-is : old ≡ deviceAt p (line - 1)
       old-is = o ∙ asked-device p line (k .positive) ∙ ap (deviceAt p) (k .position)
@@ -159,9 +222,9 @@ module _ {p t : List ℕ} {line device : ℕ} {first starter again : List ℕ} {
           edit-is starter′ t′ (stop - 1) old on-way old-is rs
           ∙ ap (λ (x : ℕ). over (keptRows devices p′ t′ (concerned p x device) rs) rs) (sym (k .position))
 
-      held-are : held′ ≡ over (keptHeld p′ (deviceAt p (askedAt line)) device (getD held 0 0) ∷ []) held
+      held-are : ends′ ≡ over (keptHeld p′ (deviceAt p (askedAt line)) device (getD ends 0 0) ∷ []) ends
       held-are =
           keeps .heldIs
-          ∙ held-kept p′ old device old-on-board (k .asked .onBoard) held b h
-          ∙ ap (λ (x : ℕ). over (keptHeld p′ x device (getD held 0 0) ∷ []) held)
+          ∙ held-kept p′ old device old-on-board (k .asked .onBoard) ends b h
+          ∙ ap (λ (x : ℕ). over (keptHeld p′ x device (getD ends 0 0) ∷ []) ends)
           (old-is ∙ ap (deviceAt p) (sym (k .position)))

@@ -14,12 +14,16 @@ use moving::Through;
 use plan::Checked;
 use rows::HoldsAnswer;
 ghost use mathlib.Core.Path.{_≡_};
+ghost use mathlib.Core.Bool.{not, _&&_};
 ghost use Prim.Native.Nat.{_≤_};
-ghost use lib.ListN.{length, take};
+ghost use lib.Dec.{eqb};
+ghost use lib.ListN.{length, getD, take};
 ghost use Rattle.model.specs.Board.{devices};
+ghost use Rattle.model.specs.Line.{job, at, maxJob};
+ghost use Rattle.model.specs.Sets.{empty};
 ghost use Rattle.model.specs.WellFormed.{fault};
 ghost use Rattle.promises.specs.Kept.{BuildsAs, MovesKeptAs, QuickAs};
-ghost use Rattle.kept.specs.Gathered.{GathersAs, Prepared};
+ghost use Rattle.kept.specs.Gathered.{GathersAs, Prepared, Skips};
 ghost use Rattle.kept.specs.Keeping.{rowsOver, refusedBy, heldWith, deviceOf, KeepsAs, decided};
 
 // ---- what is lent beside the plan
@@ -79,17 +83,29 @@ pub fn build(plan: &[u32], sets: &mut [Set], rows: &mut [Set], held: &mut [Set])
 
 // ---- moving
 
+// Has a job no lasting take? By what each job held at its end before the move, so this is not told of the job in which
+// a claim was moved.
+fn none_lasts(holdings: &[Set; EACH_JOB], j: u32, moved: u32) -> bool
+    requires { ⌜ j ≤ maxJob ⌝ }
+    ensures { λ r. ⌜ r ≡ (not (eqb j moved) && eqb (getD (now (holdings .entry)) j 0) empty) ⌝ }
+{
+    (j != moved) & (holdings[j as usize] == sets::NONE)
+}
+
 // The row of each device by a plan without a fault and its table, and the flags of the lasting takes, in one walk back
-// from the plan's end; the answer is the set of the devices held to the end. `behind` has the set of the line passed
-// last.
+// from the plan's end past the jobs that have none; the answer is the set of the devices held to the end. `behind` has
+// the set of the line passed last.
 fn gather(
     plan: &[u32],
     again: &[u8; MOST_LINES],
+    first: &[u32; EACH_JOB],
+    holdings: &[Set; EACH_JOB],
+    moved: u32,
     sets: &[Set],
     rows: &mut [Set; EACH_DEVICE],
     lasting: &mut [u8; MOST_LINES],
 ) -> Set
-    requires { ⌜ Prepared (now plan) (now again) (now sets) ⌝ }
+    requires { ⌜ Prepared (now plan) (now again) (now sets) × Skips (now plan) (now first) (now holdings) moved ⌝ }
     ensures { λ r. ⌜ GathersAs (now (plan .entry)) (now (sets .entry)) r (now (rows .exit)) (now (lasting .exit)) ⌝ }
 {
     *rows = [sets::NONE; EACH_DEVICE];
@@ -98,13 +114,18 @@ fn gather(
     let mut behind = sets::NONE;
     let mut i = plan.len();
     while 0 < i {
-        i -= 1;
-        let l = plan[i];
-        let next = sets::choose(line::job(l) == passed.job, behind, sets::NONE);
-        passed = rows::pass_line(passed, l, line::plain(l, again[i] == 1));
-        lasting[i] = passed.lasts as u8;
-        rows::join_row(l, passed.lasts, next, rows);
-        behind = sets[i];
+        let l = plan[i - 1];
+        let j = line::job(l);
+        if none_lasts(holdings, j, moved) {
+            i = (first[j as usize] - 1) as usize;
+        } else {
+            i -= 1;
+            let next = sets::choose(j == passed.job, behind, sets::NONE);
+            passed = rows::pass_line(passed, l, line::plain(l, again[i] == 1));
+            lasting[i] = passed.lasts as u8;
+            rows::join_row(l, passed.lasts, next, rows);
+            behind = sets[i];
+        }
     }
     passed.held
 }
@@ -117,12 +138,24 @@ fn with_device(held: Set, lasting: Set, device: u32) -> Set
     sets::union(sets::without(held, one), sets::both(lasting, one))
 }
 
+// The job of the line at a position; 0 past the plan's end.
+fn job_at(plan: &[u32], i: usize) -> u32
+    ensures { λ r. ⌜ r ≡ job (at (now (plan .entry)) i) ⌝ }
+{
+    if i < plan.len() {
+        return line::job(plan[i]);
+    }
+    0
+}
+
 // Rows and held set kept true to the edited plan: of the old device, the new one, and those with a lasting take on the
 // way of the line at `last`, the last under the take, the row; of the old device and the new one the bit.
 fn keep(
     plan: &[u32],
     again: &[u8; MOST_LINES],
+    first: &[u32; EACH_JOB],
     starter: &[u32; EACH_JOB],
+    holdings: &[Set; EACH_JOB],
     sets: &[Set],
     last: usize,
     old: u32,
@@ -130,14 +163,25 @@ fn keep(
     rows: &mut [Set],
     held: &mut [Set],
 )
-    requires { ⌜ Prepared (now plan) (now again) (now sets) × (devices ≤ length (now rows))
+    requires { ⌜ Prepared (now plan) (now again) (now sets)
+        × Skips (now plan) (now first) (now holdings) (job (at (now plan) last)) × (devices ≤ length (now rows))
         × (1 ≤ length (now held)) ⌝ }
     ensures { λ r. ⌜ KeepsAs (now (plan .entry)) (now (starter .entry)) (now (sets .entry)) last old device
         (now (rows .entry)) (now (held .entry)) (now (rows .exit)) (now (held .exit)) ⌝ }
 {
     let mut made = [sets::NONE; EACH_DEVICE];
     let mut lasting = [0u8; MOST_LINES];
-    let to_end = gather(plan, again, sets, &mut made, &mut lasting);
+    let moved = job_at(plan, last);
+    let to_end = gather(
+        plan,
+        again,
+        first,
+        holdings,
+        moved,
+        sets,
+        &mut made,
+        &mut lasting,
+    );
     let on_way = way::flagged_devices(plan, sets, last, starter, &lasting);
     let concerned = sets::union(sets::only(old), sets::union(sets::only(device), on_way));
     put_rows(concerned, &made, rows);
@@ -177,6 +221,7 @@ pub fn move_kept(
     let mut first = [0u32; EACH_JOB];
     let mut starter = [0u32; EACH_JOB];
     let mut again = [0u8; MOST_LINES];
+    let mut holdings = [sets::NONE; EACH_JOB];
     let old = device_at(plan, line);
     match moving::move_through(
         plan,
@@ -186,13 +231,16 @@ pub fn move_kept(
         &mut first,
         &mut starter,
         &mut again,
+        &mut holdings,
     ) {
         Through::Refused(r) => MoveAnswer::Refused(r),
         Through::Moved(count, stop) => {
             keep(
                 plan,
                 &again,
+                &first,
                 &starter,
+                &holdings,
                 sets,
                 stop - 1,
                 old,

@@ -24,6 +24,7 @@ use Rattle.mates.specs.Span.{spanOf, stopOf}
 use Rattle.mates.proofs.Spans.{Spans, spans, last-up}
 use Rattle.plan.specs.Again.{againFlags}
 use Rattle.plan.specs.Ends.{leftBy}
+use Rattle.plan.specs.Holdings.{holdings}
 use Rattle.plan.specs.Jobs.{firstLines, starters}
 use Rattle.way.specs.Back.{wayBy}
 use Rattle.way.specs.Join.{mendedBy}
@@ -126,12 +127,13 @@ module _ (p t : List ℕ) (line device : ℕ) where
             ∙ ap (rewritten q t) (same-way p q alike (stop - 1) ∙ from-last)
 
 -- the move for a caller that keeps more, refused and done
-module _ (p t : List ℕ) (line device : ℕ) (first starter again first′ starter′ : List ℕ)
+module _ (p t : List ℕ) (line device : ℕ) (first starter again held first′ starter′ held′ : List ℕ)
     (firsts : first′ ≡ leftBy (fault devices p) (firstLines p) first)
-    (starts : starter′ ≡ leftBy (fault devices p) (starters p) starter) where
+    (starts : starter′ ≡ leftBy (fault devices p) (starters p) starter)
+    (holds : held′ ≡ leftBy (fault devices p) (holdings p) held) where
   pub through-refused : (again′ : List ℕ) → again′ ≡ leftBy (fault devices p) (againFlags p) again → (r : Refusal)
       → moveRefusal devices p t line device ≡ some r
-      → MovesThrough p t line device first starter again (Through.Refused r) p t first′ starter′ again′
+      → MovesThrough p t line device first starter again held (Through.Refused r) p t first′ starter′ again′ held′
   through-refused again′ agains r e =
       let x = refused p t line device r e in record {
         answers = ap (λ (a : MoveAnswer). throughBy a (stopOf (spanOf p (askedAt line)))) (x .0);
@@ -140,6 +142,7 @@ module _ (p t : List ℕ) (line device : ℕ) (first starter again first′ star
         firsts = firsts;
         starts = starts;
         agains = agains;
+        holds = holds;
       }
 
   module _ (none-refuses : moveRefusal devices p t line device ≡ none) where
@@ -161,7 +164,8 @@ module _ (p t : List ℕ) (line device : ℕ) (first starter again first′ star
     pub through-moved : (scanned : List ℕ) → scanned ≡ leftBy (fault devices p) (againFlags p) again
         → (count stop : ℕ) (p′ t′ again′ : List ℕ) → stop ≡ stopOf (spanOf p (askedAt line))
         → RewritesAs p t first′ starter′ (line - 1) device count p′ t′ again′
-        → MovesThrough p t line device first starter again (Through.Moved count stop) p′ t′ first′ starter′ again′
+        → MovesThrough p t line device first starter again held (Through.Moved count stop) p′ t′ first′ starter′ again′
+        held′
     through-moved scanned agains count stop p′ t′ again′ e r =
         let s = by-scan scanned agains in
         let x = moved p t line device none-refuses first′ starter′ scanned count p′ t′ again′ s r in
@@ -174,12 +178,13 @@ module _ (p t : List ℕ) (line device : ℕ) (first starter again first′ star
           firsts = firsts;
           starts = starts;
           agains = r .agains ∙ sym (left (againFlags p′) again);
+          holds = holds;
         }
 
 -- the plain move, by that
-module _ (p t : List ℕ) (line device : ℕ) (first starter again : List ℕ) (answer : Through)
-    (p′ t′ first′ starter′ again′ : List ℕ)
-    (m : MovesThrough p t line device first starter again answer p′ t′ first′ starter′ again′) where
+module _ (p t : List ℕ) (line device : ℕ) (first starter again held : List ℕ) (answer : Through)
+    (p′ t′ first′ starter′ again′ held′ : List ℕ)
+    (m : MovesThrough p t line device first starter again held answer p′ t′ first′ starter′ again′ held′) where
   plainly : (a : MoveAnswer) → a ≡ moving devices p t line device .answer → MovesAs p t line device a p′ t′
   plainly a e = meets e (rw (m .plan, m .sets))
 

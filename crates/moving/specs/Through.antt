@@ -1,6 +1,6 @@
 -- What a move does for a caller that keeps more than the table (02, request 4): beside the outcome of `model`, where
 -- the lines under the take end, and in the lent arrays the first lines and starters of the jobs and the flags of the
--- lines that take again, of the plan as it is left.
+-- lines that take again, of the plan as it is left; and what each job holds at its end, of the plan as it was.
 use Prim.Native.Nat.{ℕ}
 use mathlib.Core.List.{List}
 use mathlib.Core.Path.{_≡_}
@@ -12,6 +12,7 @@ use Rattle.model.specs.declared.MoveAnswer.{MoveAnswer}
 use Rattle.mates.specs.Span.{spanOf, stopOf}
 use Rattle.plan.specs.Again.{againFlags}
 use Rattle.plan.specs.Ends.{leftBy}
+use Rattle.plan.specs.Holdings.{holdings}
 use Rattle.plan.specs.Jobs.{firstLines, starters}
 use Rattle.moving.specs.declared.Through.{Through}
 
@@ -20,11 +21,12 @@ throughBy (MoveAnswer.Changed n) stop = Through.Moved n stop
 throughBy (MoveAnswer.Refused r) stop = Through.Refused r
 
 -- a plan with a fault leaves the arrays as they were
-pub record MovesThrough (p t : List ℕ) (line device : ℕ) (first starter again : List ℕ) (answer : Through)
-    (p′ t′ first′ starter′ again′ : List ℕ) : Type 0 where
+pub record MovesThrough (p t : List ℕ) (line device : ℕ) (first starter again held : List ℕ) (answer : Through)
+    (p′ t′ first′ starter′ again′ held′ : List ℕ) : Type 0 where
   pub answers : answer ≡ throughBy (moving devices p t line device .answer) (stopOf (spanOf p (askedAt line)))
   pub plan : p′ ≡ moving devices p t line device .left .plan
   pub sets : t′ ≡ moving devices p t line device .left .sets
   pub firsts : first′ ≡ leftBy (fault devices p) (firstLines p) first
   pub starts : starter′ ≡ leftBy (fault devices p) (starters p) starter
   pub agains : again′ ≡ leftBy (fault devices p) (againFlags p′) again
+  pub holds : held′ ≡ leftBy (fault devices p) (holdings p) held

@@ -228,7 +228,7 @@ fn asked(
 }
 
 // All tests of a move, in their order: 2 to 7, 11, 12, 13, 14. Of a plan without a fault the arrays have each job's
-// first line, the line that starts it, and the flags of the lines that take again.
+// first line, the line that starts it, the flags of the lines that take again, and what each job holds at its end.
 fn tested(
     plan: &[u32],
     sets: &[Set],
@@ -237,11 +237,13 @@ fn tested(
     first: &mut [u32; EACH_JOB],
     starter: &mut [u32; EACH_JOB],
     again: &mut [u8; MOST_LINES],
+    holdings: &mut [Set; EACH_JOB],
 ) -> TestAnswer
     ensures { λ r. ⌜ TestsAs (now (plan .entry)) (now (sets .entry)) line device (now (first .entry))
-        (now (starter .entry)) (now (again .entry)) r (now (first .exit)) (now (starter .exit)) (now (again .exit)) ⌝ }
+        (now (starter .entry)) (now (again .entry)) (now (holdings .entry)) r (now (first .exit)) (now (starter .exit))
+        (now (again .exit)) (now (holdings .exit)) ⌝ }
 {
-    if let Checked::Refused(r) = plan::scan(plan, first, starter, again) {
+    if let Checked::Refused(r) = plan::scan_holding(plan, first, starter, again, holdings) {
         return TestAnswer::Refused(r);
     }
     asked(plan, sets, line, device, first, starter, again)
@@ -298,9 +300,9 @@ pub enum Through {
     Moved(u32, usize),
 }
 
-// The move, with what it has worked out on the way left in the lent arrays, as the edited plan has it: the first line
-// of each job, the line that starts it, and the flags of the lines that take again. Where the plan has a fault, they
-// are left as they were.
+// The move, with what it has worked out on the way left in the lent arrays: as the edited plan has it, the first line
+// of each job, the line that starts it, and the flags of the lines that take again; as the plan had it before, what each
+// job holds at its end. Where the plan has a fault, they are left as they were.
 pub fn move_through(
     plan: &mut [u32],
     sets: &mut [Set],
@@ -309,12 +311,13 @@ pub fn move_through(
     first: &mut [u32; EACH_JOB],
     starter: &mut [u32; EACH_JOB],
     again: &mut [u8; MOST_LINES],
+    holdings: &mut [Set; EACH_JOB],
 ) -> Through
     ensures { λ r. ⌜ MovesThrough (now (plan .entry)) (now (sets .entry)) line device (now (first .entry))
-        (now (starter .entry)) (now (again .entry)) r (now (plan .exit)) (now (sets .exit)) (now (first .exit))
-        (now (starter .exit)) (now (again .exit)) ⌝ }
+        (now (starter .entry)) (now (again .entry)) (now (holdings .entry)) r (now (plan .exit)) (now (sets .exit))
+        (now (first .exit)) (now (starter .exit)) (now (again .exit)) (now (holdings .exit)) ⌝ }
 {
-    match tested(plan, sets, line, device, first, starter, again) {
+    match tested(plan, sets, line, device, first, starter, again, holdings) {
         TestAnswer::Refused(r) => Through::Refused(r),
         TestAnswer::Passes(span) => {
             let i = (line - 1) as usize;
@@ -333,6 +336,7 @@ pub fn move_claim(plan: &mut [u32], sets: &mut [Set], line: u32, device: u32) ->
     let mut first = [0u32; EACH_JOB];
     let mut starter = [0u32; EACH_JOB];
     let mut again = [0u8; MOST_LINES];
+    let mut holdings = [sets::NONE; EACH_JOB];
     match move_through(
         plan,
         sets,
@@ -341,6 +345,7 @@ pub fn move_claim(plan: &mut [u32], sets: &mut [Set], line: u32, device: u32) ->
         &mut first,
         &mut starter,
         &mut again,
+        &mut holdings,
     ) {
         Through::Refused(r) => MoveAnswer::Refused(r),
         Through::Moved(count, stop) => MoveAnswer::Changed(count),

@@ -9,6 +9,7 @@ pub mod Again
 pub mod Stands
 pub mod Walks
 pub mod Flags
+pub mod Holdings
 pub mod Noting
 pub mod Notes
 pub mod LastTests

@@ -51,6 +51,16 @@ change-below t held g latest h k =
     union-below devices (without t held) (both g latest) (without-below devices t held h)
     (both-below devices g latest k)
 
+-- whatever the latest take is said to have added
+pub change-of-below : (n held latest : ℕ) → changeOf n held latest < 2 ^ devices
+unfolding changeOf
+change-of-below n held latest =
+    change-below (takenBy n) held (givenBy n) latest (go (isTake n)) (go (isGive n))
+  where
+    go : (b : Bool) → cond b (onlyOf devices (operand n)) empty < 2 ^ devices
+    go true = only-of-below devices (operand n)
+    go false = empty-below devices
+
 added-below : (b : Bool) (o : ℕ) → addedBy b o < 2 ^ devices
 added-below true o = empty-below devices
 added-below false o = only-of-below devices o

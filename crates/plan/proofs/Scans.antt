@@ -12,18 +12,20 @@ use Rattle.model.specs.declared.Refusal.{Refusal}
 use Rattle.plan.specs.Checked.{checked}
 use Rattle.plan.specs.Jobs.{firstLines, starters}
 use Rattle.plan.specs.Again.{againFlags}
+use Rattle.plan.specs.Holdings.{holdings}
 use Rattle.plan.specs.Tables.{Tables}
 use Rattle.plan.specs.Walk.{Walked}
-use Rattle.plan.specs.Ends.{EndsAs, WholeAs, leftBy, ScansAs}
+use Rattle.plan.specs.Noting.{NotesOf}
+use Rattle.plan.specs.Ends.{EndsAs, WholeAs, leftBy, ScansHoldingAs}
 use Rattle.plan.specs.declared.Checked.{Checked}
 use Rattle.plan.proofs.Answers.{told, untold}
 use Rattle.plan.proofs.LastFaults.{ends-find}
 use Rattle.plan.proofs.Tables.{firsts-are, starters-are}
 
-module _ (p first starter again : List ℕ) where
+module _ (p first starter again left : List ℕ) where
   -- a line is refused
   pub at-a-line : (f s : List ℕ) (r : Refusal) → Walked p (Checked.Refused r) f s
-      → WholeAs p (Checked.Refused r) first starter again
+      → WholeAs p (Checked.Refused r) first starter again left
   unfolding fault firstRefusal
   at-a-line f s r w =
       let e = told (firstFault devices [] p) r (w .answers) in record {
@@ -32,32 +34,38 @@ module _ (p first starter again : List ℕ) where
       }
 
   -- no line is
-  pub past-the-lines : (r : Checked) → Walked p Checked.Fine first starter → again ≡ againFlags p
-      → EndsAs first starter r → WholeAs p r first starter again
-  past-the-lines r w flags e =
+  pub past-the-lines : (r : Checked) → Walked p Checked.Fine first starter → NotesOf p again left
+      → EndsAs first starter r → WholeAs p r first starter again left
+  past-the-lines r w notes e =
       let t = w .tables refl in record {
         answers = ends-find devices p first starter t r e (untold (firstFault devices [] p) (w .answers));
-        tables = λ z. (firsts-are devices p first starter t, starters-are devices p first starter t, flags);
+        tables = λ z. (firsts-are devices p first starter t, starters-are devices p first starter t, notes);
       }
 
   -- what is left in the lent lists
-  pub scan-refused : (f s a : List ℕ) (r : Refusal) → WholeAs p (Checked.Refused r) f s a
-      → ScansAs p first starter again (Checked.Refused r) first starter again
-  scan-refused f s a r w =
+  pub scan-refused : (f s a h : List ℕ) (r : Refusal) → WholeAs p (Checked.Refused r) f s a h
+      → ScansHoldingAs p first starter again left (Checked.Refused r) first starter again left
+  scan-refused f s a h r w =
       let e = told (fault devices p) r (w .answers) in record {
-        answers = w .answers;
-        firsts = ap (λ (x : Option Refusal). leftBy x (firstLines p) first) (sym e);
-        starts = cc;
-        agains = cc;
+        scanned = record {
+          answers = w .answers;
+          firsts = ap (λ (x : Option Refusal). leftBy x (firstLines p) first) (sym e);
+          starts = cc;
+          agains = cc;
+        };
+        held = cc;
       }
 
-  pub scan-fine : (f s a : List ℕ) → WholeAs p Checked.Fine f s a
-      → ScansAs p first starter again Checked.Fine f s a
-  scan-fine f s a w =
+  pub scan-fine : (f s a h : List ℕ) → WholeAs p Checked.Fine f s a h
+      → ScansHoldingAs p first starter again left Checked.Fine f s a h
+  scan-fine f s a h w =
       let e = untold (fault devices p) (w .answers) in
       let t = w .tables refl in record {
-        answers = w .answers;
-        firsts = t .0 ∙ ap (λ (x : Option Refusal). leftBy x (firstLines p) first) (sym e);
-        starts = t .1 ∙ ap (λ (x : Option Refusal). leftBy x (starters p) starter) (sym e);
-        agains = t .2 ∙ ap (λ (x : Option Refusal). leftBy x (againFlags p) again) (sym e);
+        scanned = record {
+          answers = w .answers;
+          firsts = t .0 ∙ ap (λ (x : Option Refusal). leftBy x (firstLines p) first) (sym e);
+          starts = t .1 ∙ ap (λ (x : Option Refusal). leftBy x (starters p) starter) (sym e);
+          agains = t .2 .flags ∙ ap (λ (x : Option Refusal). leftBy x (againFlags p) again) (sym e);
+        };
+        held = t .2 .held ∙ ap (λ (x : Option Refusal). leftBy x (holdings p) left) (sym e);
       }

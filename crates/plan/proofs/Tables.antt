@@ -137,7 +137,7 @@ first-found f p m (found k b t low) =
     ap numberOfFound (first-is-lowest (λ i. f (at p i)) 0 (length p) k (omega arith) (omega arith) t (λ i a c. low i c))
 
 -- entry by entry, a table is the one that a map over the jobs makes
-table-is : (g : ℕ → ℕ) (t : List ℕ) → length t ≡ suc maxJob → ((j : ℕ) → j ≤ maxJob → g j ≡ getD t j 0)
+pub table-is : (g : ℕ → ℕ) (t : List ℕ) → length t ≡ suc maxJob → ((j : ℕ) → j ≤ maxJob → g j ≡ getD t j 0)
     → t ≡ map g (upFrom 0 (suc maxJob))
 table-is g t n f =
     ext-getD 0 t (map g (upFrom 0 (suc maxJob)))

@@ -1,10 +1,10 @@
--- How tight the promise of `plan::scan` is (01, "How tight the statements are"): it leaves one outcome. The answers
--- of `plan::fault` and `plan::lines_fault` stand in their contracts as equations.
+-- How tight the promises of `plan::scan` and `plan::scan_holding` are (01, "How tight the statements are"): each leaves
+-- one outcome. The answers of `plan::fault` and `plan::lines_fault` stand in their contracts as equations.
 use Prim.Native.Nat.{ℕ}
 use mathlib.Core.List.{List}
 use mathlib.Core.Path.{_≡_, sym, _∙_}
 use Rattle.plan.specs.declared.Checked.{Checked}
-use Rattle.plan.specs.Ends.{ScansAs}
+use Rattle.plan.specs.Ends.{ScansAs, ScansHoldingAs}
 
 pub scan-one : (p first starter again : List ℕ) (a b : Checked)
     (first₁ first₂ starter₁ starter₂ again₁ again₂ : List ℕ)
@@ -15,4 +15,14 @@ scan-one p first starter again a b first₁ first₂ starter₁ starter₂ again
   x .firsts ∙ sym (y .firsts),
   x .starts ∙ sym (y .starts),
   x .agains ∙ sym (y .agains),
+)
+
+pub scan-holding-one : (p first starter again lent : List ℕ) (a b : Checked)
+    (first₁ first₂ starter₁ starter₂ again₁ again₂ held₁ held₂ : List ℕ)
+    → ScansHoldingAs p first starter again lent a first₁ starter₁ again₁ held₁
+    → ScansHoldingAs p first starter again lent b first₂ starter₂ again₂ held₂
+    → ((a ≡ b) × (first₁ ≡ first₂) × (starter₁ ≡ starter₂) × (again₁ ≡ again₂)) × (held₁ ≡ held₂)
+scan-holding-one p first starter again lent a b first₁ first₂ starter₁ starter₂ again₁ again₂ held₁ held₂ x y = (
+  scan-one p first starter again a b first₁ first₂ starter₁ starter₂ again₁ again₂ (x .scanned) (y .scanned),
+  x .held ∙ sym (y .held),
 )

@@ -8,9 +8,10 @@ use native.Mathlib.Omega.{arith}
 use lib.ListN.{length, drop, drop-of-length-le}
 use lib.Seq.{drop-cons}
 use Rattle.model.specs.Board.{devices}
-use Rattle.model.specs.Line.{job, at, maxLines}
+use Rattle.model.specs.Line.{job, at, maxLines, maxJob}
 use Rattle.model.specs.WellFormed.{before, lineFault, firstFault}
 use Rattle.model.specs.declared.Refusal.{Refusal}
+use Rattle.theory.proofs.Line.{line-parts}
 use Rattle.plan.specs.Checked.{checked}
 use Rattle.plan.specs.Tables.{none-yet, Tables}
 use Rattle.plan.specs.Walk.{Next, on, bad, stepOf, heldIn, Stack, nextBy, WalkingBy, Walked}
@@ -69,12 +70,14 @@ module _ (p : List ℕ) (i prev depth : ℕ) (stack first starter : List ℕ) (s
                 tables = λ z. let w : _≡_ {A = ℕ} 0 1 = cc in absurd (omega arith);
               }
 
-          -- a line that is passed is within the limit
-          pub at-line : (d : ℕ) → x ≡ After.On d → i < maxLines
+          -- a line that is passed is within the limit, and so is its job
+          pub at-line : (d : ℕ) → x ≡ After.On d → (i < maxLines) × (job (at p i) ≤ maxJob)
           at-line d e = go (rw e at step)
             where
-              go : Stepped devices p i (on (heldIn d stack′) first′ starter′) → i < maxLines
-              go (goes held f t z few stands) = few
+              go : Stepped devices p i (on (heldIn d stack′) first′ starter′)
+                  → (i < maxLines) × (job (at p i) ≤ maxJob)
+              go (goes held f t z few stands) =
+                  (few, line-parts devices (at p i) (stands .tables .lines i (omega arith)) .1)
 
           pub at-next : (d : ℕ) → x ≡ After.On d → WalkingBy i x stack′ first′ starter′
               → At p (i + 1) (job (at p i)) d stack′ first′ starter′

@@ -15,6 +15,8 @@ use Rattle.model.specs.declared.Refusal.the-variants.{BadStart, NeverStarted}
 use Rattle.plan.specs.Checked.{checked}
 use Rattle.plan.specs.Jobs.{firstLines, starters}
 use Rattle.plan.specs.Again.{againFlags}
+use Rattle.plan.specs.Holdings.{holdings}
+use Rattle.plan.specs.Noting.{NotesOf}
 use Rattle.plan.specs.declared.Checked.{Checked}
 
 -- job j starts somewhere and has no lines; has lines and starts nowhere. Job 1 is the one that nothing starts.
@@ -49,10 +51,10 @@ pub data EndsAs (first starter : List ℕ) : Checked → Type 0 where
   neither : ((k : ℕ) → Empty first starter k → ⊥) → ((k : ℕ) → Unstarted first starter k → ⊥)
       → EndsAs first starter Checked.Fine
 
--- what the walk and these tests find together: the fault, and the tables and flags where there is none
-pub record WholeAs (p : List ℕ) (answer : Checked) (first starter again : List ℕ) : Type 0 where
+-- what the walk and these tests find together: the fault, and the tables and notes where there is none
+pub record WholeAs (p : List ℕ) (answer : Checked) (first starter again left : List ℕ) : Type 0 where
   pub answers : answer ≡ checked (fault devices p)
-  pub tables : answer ≡ Checked.Fine → (first ≡ firstLines p) × (starter ≡ starters p) × (again ≡ againFlags p)
+  pub tables : answer ≡ Checked.Fine → (first ≡ firstLines p) × (starter ≡ starters p) × NotesOf p again left
 
 -- what a scan leaves in a lent list: the plan's, or, where it is refused, what stood there
 abbrev pub leftBy : Option Refusal → List ℕ → List ℕ → List ℕ
@@ -66,3 +68,9 @@ pub record ScansAs (plan first starter again : List ℕ) (answer : Checked) (fir
     pub firsts : first′ ≡ leftBy (fault devices plan) (firstLines plan) first
     pub starts : starter′ ≡ leftBy (fault devices plan) (starters plan) starter
     pub agains : again′ ≡ leftBy (fault devices plan) (againFlags plan) again
+
+-- the outcome of a scan that also tells what each job holds after the last line
+pub record ScansHoldingAs (plan first starter again lent : List ℕ) (answer : Checked)
+    (first′ starter′ again′ holdings′ : List ℕ) : Type 0 where
+  pub scanned : ScansAs plan first starter again answer first′ starter′ again′
+  pub held : holdings′ ≡ leftBy (fault devices plan) (holdings plan) lent

@@ -2,6 +2,7 @@
 pub mod Checked
 pub mod Jobs
 pub mod Again
+pub mod Holdings
 pub mod Tables
 pub mod Walk
 pub mod Noting

@@ -14,6 +14,8 @@ use Rattle.model.specs.Line.{job, operand, isTake, isGive, maxLines}
 use Rattle.model.specs.Sets.{empty, union, member}
 use Rattle.sets.specs.Both.{both, differ, without}
 use Rattle.sets.specs.Only.{onlyOf}
+use Rattle.plan.specs.Again.{againFlags}
+use Rattle.plan.specs.Holdings.{holdings}
 use Rattle.plan.specs.Walk.{givenBy}
 
 -- the set of the device that a line takes; that it takes or gives
@@ -48,8 +50,15 @@ pub record Noted (ds : List ℕ) (held : ℕ) (added : List ℕ) : Type 0 where
   pub same : (d : ℕ) → d < devices → member held d ≡ has d ds
   pub adds : Added added ds
 
--- what is noted of the line at position i: the devices held after it, what it has added, and its flag
-pub record NotesAs (i n prev depth held : ℕ) (added again : List ℕ) (held′ : ℕ) (added′ again′ : List ℕ) : Type 0 where
+-- what is noted of the line at position i: the devices held after it, also as its job's; what it has added; its flag
+pub record NotesAs (i n prev depth held : ℕ) (added again left : List ℕ)
+    (held′ : ℕ) (added′ again′ left′ : List ℕ) : Type 0 where
   pub holds : held′ ≡ differ (cond (eqb (job n) prev) held empty) (changeAfter n prev depth held added)
   pub adds : added′ ≡ set added (suc (cond (eqb (job n) prev) depth 0)) (changeAfter n prev depth held added)
   pub flags : again′ ≡ set again i (boolByte (not (eqb (handledBy n) (changeAfter n prev depth held added))))
+  pub keeps : left′ ≡ set left (job n) held′
+
+-- what is noted of the whole plan: the flags, and the devices that each job holds after the last line
+pub record NotesOf (p again left : List ℕ) : Type 0 where
+  pub flags : again ≡ againFlags p
+  pub held : left ≡ holdings p

@@ -1,7 +1,7 @@
 // The packed plan (01, "Rules of a well-formed plan" and "Refusal numbers", 2 to 7): the walk along its lines, each
 // tested for 3, 2, 4 and its verb's own rule; the tests after the last line; the line numbers of each job's first line
-// and of the line that starts it; and which lines take again what their job holds, or give such a take back (02,
-// request 2).
+// and of the line that starts it; the devices that each job holds after the last line; and which lines take again what
+// their job holds, or give such a take back (02, request 2).
 use board::DEVICES;
 use board::EACH_JOB;
 use board::MOST_LINES;
@@ -21,11 +21,11 @@ ghost use Rattle.sets.specs.Both.{differ, without};
 ghost use Rattle.sets.specs.Only.{onlyOf};
 ghost use Rattle.plan.specs.Checked.{checked};
 ghost use Rattle.plan.specs.Tables.{none-yet, Tables};
-ghost use Rattle.plan.specs.Ends.{lowerOf, earlierOf, EndsAs, WholeAs, ScansAs};
-ghost use Rattle.plan.specs.Again.{againFlags, none-again};
+ghost use Rattle.plan.specs.Ends.{lowerOf, earlierOf, EndsAs, WholeAs, ScansAs, ScansHoldingAs};
+ghost use Rattle.plan.specs.Again.{none-again};
 ghost use Rattle.plan.specs.Walk.{placeFault, ruleOf, stepOf, heldIn, givenBy, Stack, Walking, Walked};
 ghost use Rattle.plan.specs.Walk.{nextBy, StackBy, WalkingBy};
-ghost use Rattle.plan.specs.Noting.{changeOf, handledBy, NotesAs};
+ghost use Rattle.plan.specs.Noting.{changeOf, handledBy, NotesAs, NotesOf};
 ghost use Rattle.plan.specs.declared.Checked.{Checked};
 
 // What a check of a plan finds.
@@ -178,7 +178,8 @@ fn is_again(n: u32, changed: Set) -> bool
 }
 
 // The flag of the line at position i, after a line of job `prev`; and the devices held after it. `added` has for each
-// open take what it has added to the devices held.
+// open take what it has added to the devices held. Each line stores them as its job's, so that those after the job's
+// last line stay: there is no branch on whether it is the last.
 fn note(
     i: usize,
     n: u32,
@@ -187,19 +188,25 @@ fn note(
     held: Set,
     added: &mut [Set; STACK_PLACES],
     again: &mut [u8; MOST_LINES],
+    holdings: &mut [Set; EACH_JOB],
 ) -> Set
     requires { ⌜ (i < maxLines) × (depth ≤ i) × (length (now added) ≡ suc maxLines)
-        × (length (now again) ≡ maxLines) ⌝ }
-    ensures { λ r. ⌜ NotesAs i n prev depth held (now (added .entry)) (now (again .entry))
-        r (now (added .exit)) (now (again .exit)) ⌝ }
+        × (length (now again) ≡ maxLines) × (length (now holdings) ≡ suc maxJob) × (job n ≤ maxJob) ⌝ }
+    ensures { λ r. ⌜
+        NotesAs i n prev depth held (now (added .entry)) (now (again .entry)) (now (holdings .entry))
+        r (now (added .exit)) (now (again .exit)) (now (holdings .exit))
+        ⌝ }
 {
-    let same = line::job(n) == prev;
+    let j = line::job(n);
+    let same = j == prev;
     let h = sets::choose(same, held, sets::NONE);
     let t = line::choose(same, depth, 0) as usize;
     let c = change(n, h, added[t]);
     added[t + 1] = c;
     again[i] = is_again(n, c) as u8;
-    sets::differ(h, c)
+    let after = sets::differ(h, c);
+    holdings[j as usize] = after;
+    after
 }
 
 // The same where it is asked for; else nothing is noted.
@@ -212,14 +219,16 @@ fn note_if(
     held: Set,
     added: &mut [Set; STACK_PLACES],
     again: &mut [u8; MOST_LINES],
+    holdings: &mut [Set; EACH_JOB],
 ) -> Set
     requires { ⌜ (noting ≡ true → (i < maxLines) × (depth ≤ i) × (length (now added) ≡ suc maxLines)
-        × (length (now again) ≡ maxLines)) ⌝ }
-    ensures { λ r. ⌜ (noting ≡ true → NotesAs i n prev depth held (now (added .entry)) (now (again .entry))
-        r (now (added .exit)) (now (again .exit))) ⌝ }
+        × (length (now again) ≡ maxLines) × (length (now holdings) ≡ suc maxJob) × (job n ≤ maxJob)) ⌝ }
+    ensures { λ r. ⌜ (noting ≡ true
+        → NotesAs i n prev depth held (now (added .entry)) (now (again .entry)) (now (holdings .entry))
+        r (now (added .exit)) (now (again .exit)) (now (holdings .exit))) ⌝ }
 {
     if noting {
-        return note(i, n, prev, depth, held, added, again);
+        return note(i, n, prev, depth, held, added, again, holdings);
     }
     held
 }
@@ -227,18 +236,21 @@ fn note_if(
 // ---- the whole plan
 
 // The walk along the lines: the first line with a fault decides. Where there is none, the tables are the plan's, and
-// so are the flags where they are asked for: to read or write a plan nobody needs them.
+// so are the flags and what each job holds at the end, where they are asked for: to read or write a plan nobody needs
+// them.
 fn walk(
     plan: &[u32],
     noting: bool,
     first: &mut [u32; EACH_JOB],
     starter: &mut [u32; EACH_JOB],
     again: &mut [u8; MOST_LINES],
+    holdings: &mut [Set; EACH_JOB],
 ) -> Checked
-    requires { ⌜ (now first ≡ none-yet) × (now starter ≡ none-yet) × (now again ≡ none-again) ⌝ }
+    requires { ⌜ (now first ≡ none-yet) × (now starter ≡ none-yet) × (now again ≡ none-again)
+        × (now holdings ≡ none-yet) ⌝ }
     ensures walked { λ r. ⌜ Walked (now (plan .entry)) r (now (first .exit)) (now (starter .exit)) ⌝ }
-    ensures flagged { λ r. ⌜ (noting ≡ true → r ≡ Checked.Fine
-        → now (again .exit) ≡ againFlags (now (plan .entry))) ⌝ }
+    ensures noted { λ r. ⌜ (noting ≡ true → r ≡ Checked.Fine
+        → NotesOf (now (plan .entry)) (now (again .exit)) (now (holdings .exit))) ⌝ }
 {
     let mut stack = [FLOOR; STACK_PLACES];
     let mut added = [sets::NONE; STACK_PLACES];
@@ -253,7 +265,7 @@ fn walk(
                 return Checked::Refused(r);
             }
             After::On(d) => {
-                held = note_if(noting, i, n, prev, depth, held, &mut added, again);
+                held = note_if(noting, i, n, prev, depth, held, &mut added, again, holdings);
                 depth = d;
                 prev = line::job(n);
                 i += 1;
@@ -270,7 +282,15 @@ pub fn lines_fault(plan: &[u32]) -> Checked
     let mut first = [0u32; EACH_JOB];
     let mut starter = [0u32; EACH_JOB];
     let mut again = [0u8; MOST_LINES];
-    walk(plan, false, &mut first, &mut starter, &mut again)
+    let mut holdings = [sets::NONE; EACH_JOB];
+    walk(
+        plan,
+        false,
+        &mut first,
+        &mut starter,
+        &mut again,
+        &mut holdings,
+    )
 }
 
 // Of a line so far and the line that starts a job without lines, the lower; 0 stands for no line.
@@ -316,24 +336,54 @@ fn ends(first: &[u32; EACH_JOB], starter: &[u32; EACH_JOB]) -> Checked
     Checked::Fine
 }
 
-// The fault of a plan; where it has none, its tables and flags.
+// The fault of a plan; where it has none, its tables and notes.
 fn whole(
     plan: &[u32],
     first: &mut [u32; EACH_JOB],
     starter: &mut [u32; EACH_JOB],
     again: &mut [u8; MOST_LINES],
+    holdings: &mut [Set; EACH_JOB],
 ) -> Checked
-    requires { ⌜ (now first ≡ none-yet) × (now starter ≡ none-yet) × (now again ≡ none-again) ⌝ }
-    ensures { λ r. ⌜ WholeAs (now (plan .entry)) r (now (first .exit)) (now (starter .exit)) (now (again .exit)) ⌝ }
+    requires { ⌜ (now first ≡ none-yet) × (now starter ≡ none-yet) × (now again ≡ none-again)
+        × (now holdings ≡ none-yet) ⌝ }
+    ensures { λ r. ⌜ WholeAs (now (plan .entry)) r (now (first .exit)) (now (starter .exit)) (now (again .exit))
+        (now (holdings .exit)) ⌝ }
 {
-    if let Checked::Refused(r) = walk(plan, true, first, starter, again) {
+    if let Checked::Refused(r) = walk(plan, true, first, starter, again, holdings) {
         return Checked::Refused(r);
     }
     ends(first, starter)
 }
 
-// The fault of a plan; where it has none, the first line and the starter of each job, and a flag for each line that
-// takes again or gives such a take back, in the lent lists.
+// The fault of a plan; where it has none, the first line and the starter of each job, a flag for each line that takes
+// again or gives such a take back, and the devices that each job holds after the last line, in the lent lists.
+pub fn scan_holding(
+    plan: &[u32],
+    first: &mut [u32; EACH_JOB],
+    starter: &mut [u32; EACH_JOB],
+    again: &mut [u8; MOST_LINES],
+    holdings: &mut [Set; EACH_JOB],
+) -> Checked
+    ensures { λ r. ⌜
+        ScansHoldingAs (now (plan .entry)) (now (first .entry)) (now (starter .entry)) (now (again .entry))
+        (now (holdings .entry)) r (now (first .exit)) (now (starter .exit)) (now (again .exit)) (now (holdings .exit))
+        ⌝ }
+{
+    let mut f = [0u32; EACH_JOB];
+    let mut s = [0u32; EACH_JOB];
+    let mut a = [0u8; MOST_LINES];
+    let mut h = [sets::NONE; EACH_JOB];
+    if let Checked::Refused(r) = whole(plan, &mut f, &mut s, &mut a, &mut h) {
+        return Checked::Refused(r);
+    }
+    *first = f;
+    *starter = s;
+    *again = a;
+    *holdings = h;
+    Checked::Fine
+}
+
+// The same for a caller who does not ask what the jobs hold.
 pub fn scan(
     plan: &[u32],
     first: &mut [u32; EACH_JOB],
@@ -345,16 +395,8 @@ pub fn scan(
         r (now (first .exit)) (now (starter .exit)) (now (again .exit))
         ⌝ }
 {
-    let mut f = [0u32; EACH_JOB];
-    let mut s = [0u32; EACH_JOB];
-    let mut a = [0u8; MOST_LINES];
-    if let Checked::Refused(r) = whole(plan, &mut f, &mut s, &mut a) {
-        return Checked::Refused(r);
-    }
-    *first = f;
-    *starter = s;
-    *again = a;
-    Checked::Fine
+    let mut holdings = [sets::NONE; EACH_JOB];
+    scan_holding(plan, first, starter, again, &mut holdings)
 }
 
 // The fault of a plan, if it has one.
@@ -364,7 +406,15 @@ pub fn fault(plan: &[u32]) -> Checked
     let mut first = [0u32; EACH_JOB];
     let mut starter = [0u32; EACH_JOB];
     let mut again = [0u8; MOST_LINES];
-    if let Checked::Refused(r) = walk(plan, false, &mut first, &mut starter, &mut again) {
+    let mut holdings = [sets::NONE; EACH_JOB];
+    if let Checked::Refused(r) = walk(
+        plan,
+        false,
+        &mut first,
+        &mut starter,
+        &mut again,
+        &mut holdings,
+    ) {
         return Checked::Refused(r);
     }
     ends(&first, &starter)

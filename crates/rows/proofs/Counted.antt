@@ -30,7 +30,7 @@ use Rattle.model.specs.Kept.{lastsAmong, lastsIn, heldToEnd}
 use Rattle.rows.specs.Lasting.{heldTwice, wantedBefore, wantedAfter}
 use Rattle.rows.specs.Holds.{HeldAs, PassedOn}
 use Rattle.theory.proofs.Where.{is-where}
-use Rattle.rows.proofs.Wanted.{wanted-few, Wanting, none-wanting, wanting-on, lasts-is}
+use Rattle.rows.proofs.Wanted.{wanted, wanted-few, Wanting, none-wanting, after-is, wanting-on, lasts-is}
 
 -- ---- the lasting takes of a device from a line on
 
@@ -83,32 +83,39 @@ module _ (p again : List ℕ) (k : ℕ) (pre : (fault devices p ≡ none) × (ag
 
 -- ---- the walk back
 
--- what the walk has found where it stands at i
+-- the two sets have the lasting takes from line i on
 pub record Counted (p : List ℕ) (passed : Passed) (i : ℕ) : Type 0 where
   pub inPlan : i ≤ length p
-  pub wanting : Wanting (drop i p) (passed .job) (passed .wanted)
   pub heldBelow : passed .held < 2 ^ devices
   pub twiceBelow : passed .twice < 2 ^ devices
   pub heldIs : (d : ℕ) → d < devices → member (passed .held) d ≡ leb 1 (howMany p d i)
   pub twiceIs : (d : ℕ) → d < devices → member (passed .twice) d ≡ leb 2 (howMany p d i)
+
+-- what is wanted after the line before line i is at hand
+abbrev pub Knows : List ℕ → Passed → ℕ → Type 0
+Knows p passed i =
+    (k : ℕ) → suc k ≡ i → wantedAfter (at p k) (passed .job) (passed .wanted) ≡ wanted (job (at p k)) (drop i p)
 
 pub none-counted : (p : List ℕ)
     → Counted p (record { job = 0; wanted = 0; lasts = false; held = 0; twice = 0 }) (length p)
 unfolding empty
 none-counted p = record {
   inPlan = omega arith;
-  wanting = rw (drop-of-length-le p {i = length p} (omega arith)) none-wanting;
   heldBelow = empty-below devices;
   twiceBelow = empty-below devices;
   heldIs = λ d h. member-empty d ∙ sym (ap (λ xs. leb 1 (length xs)) (takes-past p d));
   twiceIs = λ d h. member-empty d ∙ sym (ap (λ xs. leb 2 (length xs)) (takes-past p d));
 }
 
+pub none-known : (p : List ℕ)
+    → Knows p (record { job = 0; wanted = 0; lasts = false; held = 0; twice = 0 }) (length p)
+none-known p k e = rw (drop-of-length-le p {i = length p} (omega arith)) (after-is (at p k) [] 0 0 none-wanting)
+
 -- one line further back
 module _ (p : List ℕ) (few : length p ≤ maxLines) (old new : Passed) (k : ℕ) (m : Counted p old (suc k))
-    (n : PassedOn new old (at p k) (plainAt p k)) where
+    (w : Knows p old (suc k)) (n : PassedOn new old (at p k) (plainAt p k)) where
   pub lasts-made : new .lasts ≡ lastingAt p k
-  lasts-made = n .lastsIs ∙ lasts-is (at p k) (drop (suc k) p) (old .job) (old .wanted) (m .wanting) p k refl refl
+  lasts-made = n .lastsIs ∙ lasts-is (at p k) (drop (suc k) p) (old .job) (old .wanted) (w k refl) p k refl refl
 
   -- the set of its device, if it lasts
   abbrev one : ℕ
@@ -152,21 +159,24 @@ module _ (p : List ℕ) (few : length p ≤ maxLines) (old new : Passed) (k : �
   -- no more is wanted than there are lines, so the count is far from the word's end
   wanting-here : Wanting (at p k ∷ drop (suc k) p) (new .job) (new .wanted)
   wanting-here =
-      let w = wanting-on (at p k) (drop (suc k) p) (old .job) (old .wanted) (m .wanting) in
+      let on = wanting-on (at p k) (drop (suc k) p) (old .job) (old .wanted) (w k refl) in
       let n′ : ℕ = wantedBefore (at p k) (wantedAfter (at p k) (old .job) (old .wanted)) in
       let small : n′ % 2 ^ 32 ≡ n′ = omega (
         arith,
-        w .wantedIs,
+        on .wantedIs,
         wanted-few (job (at p k)) (at p k ∷ drop (suc k) p),
         length-drop (suc k) p,
         few,
       ) in
-      rw (n .jobIs, n .wantedIs, small) w
+      rw (n .jobIs, n .wantedIs, small) on
+
+  pub known-on : Knows p new k
+  known-on i e =
+      after-is (at p i) (drop k p) (new .job) (new .wanted) (rw (drop-cons p k 0 (m .inPlan)) wanting-here)
 
   pub counted-on : Counted p new k
   counted-on = record {
     inPlan = omega (arith, m .inPlan);
-    wanting = rw (drop-cons p k 0 (m .inPlan)) wanting-here;
     heldBelow = rw (n .heldIs) (union-below devices one (old .held) one-below (m .heldBelow));
     twiceBelow = rw (n .twiceIs)
         (union-below devices (both (old .held) one) (old .twice) (both-below devices (old .held) one (m .heldBelow))
@@ -174,6 +184,20 @@ module _ (p : List ℕ) (few : length p ≤ maxLines) (old new : Passed) (k : �
     heldIs = rw (n .heldIs) held-on;
     twiceIs = rw (n .twiceIs) twice-on;
   }
+
+-- one line further back that is no lasting take
+pub counted-past : (p : List ℕ) (passed : Passed) (k : ℕ) → lastingAt p k ≡ false → Counted p passed (suc k)
+    → Counted p passed k
+counted-past p passed k e m = record {
+  inPlan = omega (arith, m .inPlan);
+  heldBelow = m .heldBelow;
+  twiceBelow = m .twiceBelow;
+  heldIs = λ d h. m .heldIs d h ∙ sym (ap (leb 1) (same d));
+  twiceIs = λ d h. m .twiceIs d h ∙ sym (ap (leb 2) (same d));
+}
+  where
+    same : (d : ℕ) → howMany p d k ≡ howMany p d (suc k)
+    same d = more-on p d k false (m .inPlan) (lasting-is p k d ∙ rw e)
 
 -- at the front the sets are the plan's
 some-take : (f : ℕ → Bool) (xs : List ℕ) → leb 1 (length (those f xs)) ≡ any f xs

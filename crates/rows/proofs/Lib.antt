@@ -8,6 +8,7 @@ pub mod Reaching
 pub mod CameBack
 pub mod OnCircle
 pub mod Finding
+pub mod Twice
 pub mod Wanted
 pub mod Counted
 pub mod RowsFrom

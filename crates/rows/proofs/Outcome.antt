@@ -6,14 +6,19 @@ use mathlib.Core.Path.{_≡_, refl}
 use native.Mathlib.Omega.{arith}
 use Rattle.model.specs.Board.{devices}
 use Rattle.model.specs.WellFormed.{fault}
+use Rattle.model.specs.Sets.{unionOf}
 use Rattle.model.specs.Kept.{heldToEnd}
 use Rattle.model.specs.declared.Refusal.{Refusal}
+use Rattle.theory.proofs.WellFormed.{no-fault-exactly}
+use Rattle.plan.specs.Holdings.{holdings}
 use Rattle.plan.specs.Jobs.{firstLines}
 use Rattle.plan.specs.Again.{againFlags}
 use Rattle.plan.specs.Ends.{leftBy}
 use Rattle.rows.specs.declared.Passed.{Passed}
 use Rattle.rows.specs.declared.HoldsAnswer.{HoldsAnswer}
 use Rattle.rows.specs.Lasting.{heldTwice}
+use Rattle.rows.specs.Twice.{twiceIn}
+use Rattle.rows.proofs.Twice.{one-of-jobs, two-of-jobs}
 use Rattle.rows.specs.Holds.{HeldAs, WalkedAs, HoldsAs, TabledAs, holdsBy}
 
 module _ (p : List ℕ) where
@@ -21,9 +26,14 @@ module _ (p : List ℕ) where
       → HoldsAnswer.Refused r ≡ holdsBy (fault devices p) p
   held-refused r f = rw f
 
-  pub held-made : (r : Passed) → fault devices p ≡ none → HeldAs r p
+  back-made : (r : Passed) → fault devices p ≡ none → HeldAs r p
       → HoldsAnswer.Made (r .held) (r .twice) ≡ holdsBy (fault devices p) p
-  held-made r f h = rw (f, h .toEnd, h .twice)
+  back-made r f h = rw (f, h .toEnd, h .twice)
+
+  pub held-made : (left : List ℕ) → fault devices p ≡ none → left ≡ holdings p
+      → HoldsAnswer.Made (unionOf left) (twiceIn left) ≡ holdsBy (fault devices p) p
+  held-made left f h =
+      let w = no-fault-exactly devices p .0 f in rw (f, h, one-of-jobs p w, two-of-jobs p w)
 
   -- and what such an answer says of the plan: for the rooms above
   pub told-fault : {r : Refusal} → HoldsAnswer.Refused r ≡ holdsBy (fault devices p) p → fault devices p ≡ some r
@@ -61,7 +71,7 @@ module _ (p first first′ again again′ rs flags : List ℕ)
       → WalkedAs p lent r rs′ flags′ table
       → HoldsAs p first again rs flags (HoldsAnswer.Made (r .held) (r .twice)) first′ again′ rs′ flags′
   made lent rs′ flags′ table r f w = record {
-    answers = held-made p r f (w .held);
+    answers = back-made p r f (w .held);
     firstsAre = firsts;
     againsAre = agains;
     rowsAre = rw f (w .rowsAre);
@@ -78,4 +88,4 @@ module _ (p rs table : List ℕ) where
       → WalkedAs p table r rs′ flags′ table′
       → TabledAs p rs table (HoldsAnswer.Made (r .held) (r .twice)) rs′ table′
   is-tabled rs′ flags′ table′ r f w =
-      record { answers = held-made p r f (w .held); rowsAre = rw f (w .rowsAre); tableIs = rw f (w .tableIs) }
+      record { answers = back-made p r f (w .held); rowsAre = rw f (w .rowsAre); tableIs = rw f (w .tableIs) }

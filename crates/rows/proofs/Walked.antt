@@ -23,11 +23,13 @@ use Rattle.rows.specs.Lasting.{lastingFlag, lastingFlags}
 use Rattle.rows.specs.Holds.{PassedOn, JoinedOn, WalkedAs}
 use Rattle.rows.proofs.Entries.{length-entries}
 use Rattle.rows.proofs.Wanted.{flag-at}
-use Rattle.rows.proofs.Counted.{Counted, none-counted, lasts-made, counted-on, all-counted}
+use Rattle.rows.proofs.Counted.{Counted, Knows, none-counted, none-known, lasts-made, known-on, counted-on}
+use Rattle.rows.proofs.Counted.{all-counted}
 use Rattle.rows.proofs.RowsFrom.{lasting-takes, RowsFrom, none-from, set-made, from-on, all-from}
 
 pub record Walked (p lent rs flags table claimed : List ℕ) (passed : Passed) (i : ℕ) : Type 0 where
   pub counted : Counted p passed i
+  pub known : Knows p passed i
   pub rowsFrom : RowsFrom p rs claimed i
   pub flagged : EndOf (lastingFlags p) flags i
   pub written : EndOf (tableIn p lent) table i
@@ -74,6 +76,7 @@ pub none-walked : (p lent : List ℕ)
     (record { job = 0; wanted = 0; lasts = false; held = 0; twice = 0 }) (length p)
 none-walked p lent = record {
   counted = none-counted p;
+  known = none-known p;
   rowsFrom = none-from p;
   flagged = none-flagged p;
   written = none-written p lent;
@@ -93,7 +96,7 @@ module _ {p lent rs flags table claimed : List ℕ} {old new : Passed} {k : ℕ}
   counts-line = plain-line (againAt p k) (at p k) devices is-line
 
   lasts-here : new .lasts ≡ lastingAt p k
-  lasts-here = lasts-made p few old new k (m .counted) n
+  lasts-here = lasts-made p few old new k (m .counted) (m .known) n
 
   pub is-take : new .lasts ≡ true → isTake (plainAt p k) ≡ true
   is-take e = plain-take p k ∙ lasting-takes p k (sym lasts-here ∙ e)
@@ -103,7 +106,8 @@ module _ {p lent rs flags table claimed : List ℕ} {old new : Passed} {k : ℕ}
   one-walked {rs′} {claimed′} {s} j =
       let i = rw lasts-here at j in
       let h = m .counted .inPlan in record {
-        counted = counted-on p few old new k (m .counted) n;
+        counted = counted-on p few old new k (m .counted) (m .known) n;
+        known = known-on p few old new k (m .counted) (m .known) n;
         rowsFrom = from-on p rs claimed k (m .rowsFrom) h is-line rs′ claimed′ s i;
         flagged = one-flagged p flags k (new .lasts) lasts-here (m .flagged);
         written = one-written p lent table k s h (set-made p rs claimed k (m .rowsFrom) h is-line rs′ claimed′ s i)

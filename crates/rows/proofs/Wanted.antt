@@ -84,19 +84,19 @@ after-is l ls j w m = rw (m .jobIs, m .wantedIs) (go ls (test (eqb (job l) (job 
     go [] (inr e) = rw e
     go (k ∷ ls) (inr e) = rw (e, ne-eqb (job k) (job l) (λ q. eqb-false (job l) (job k) e (sym q)))
 
-module _ (l : ℕ) (ls : List ℕ) (j w : ℕ) (m : Wanting ls j w) where
+module _ (l : ℕ) (ls : List ℕ) (j w : ℕ) (after : wantedAfter l j w ≡ wanted (job l) ls) where
   -- one line further back
   pub wanting-on : Wanting (l ∷ ls) (job l) (wantedBefore l (wantedAfter l j w))
   unfolding wanted
   wanting-on = record {
     jobIs = refl;
-    wantedIs = ap (wantedBefore l) (after-is l ls j w m) ∙ sym (rw (eq-eqb (job l) (job l) refl));
+    wantedIs = ap (wantedBefore l) after ∙ sym (rw (eq-eqb (job l) (job l) refl));
   }
 
   -- what stands at the line has no mate exactly if it serves no give
   no-mate : (p : List ℕ) (k : ℕ) → at p k ≡ l → drop (suc k) p ≡ ls → eqb (wantedAfter l j w) 0 ≡ isNone (mate p k)
   unfolding mate
-  no-mate p k e f = rw (e, f, after-is l ls j w m, none-mates (job l) 0 (suc k) ls) (zero-test (wanted (job l) ls))
+  no-mate p k e f = rw (e, f, after, none-mates (job l) 0 (suc k) ls) (zero-test (wanted (job l) ls))
     where
       zero-test : (n : ℕ) → eqb n 0 ≡ leb n 0
       zero-test zero = refl

@@ -2,4 +2,5 @@
 pub mod Where
 pub mod Search
 pub mod Lasting
+pub mod Twice
 pub mod Holds

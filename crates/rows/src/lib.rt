@@ -12,15 +12,18 @@ use plan::Checked;
 ghost use mathlib.Core.Path.{_≡_};
 ghost use mathlib.Core.Bool.{true, _&&_};
 ghost use mathlib.Core.Option.{none};
-ghost use Prim.Native.Nat.{_%_, _^_};
+ghost use Prim.Native.Nat.{suc, _%_, _^_};
 ghost use lib.Dec.{ltb};
-ghost use lib.ListN.{set};
+ghost use lib.ListN.{length, set};
 ghost use Rattle.model.specs.Board.{devices};
-ghost use Rattle.model.specs.Line.{operand, isTake, isLine};
+ghost use Rattle.model.specs.Line.{operand, isTake, isLine, maxJob};
 ghost use Rattle.model.specs.WellFormed.{fault};
 ghost use Rattle.plan.specs.Again.{againFlags};
 ghost use Rattle.rows.specs.Where.{circlesOf};
 ghost use Rattle.rows.specs.Lasting.{wantedBefore, rowJoined};
+ghost use Rattle.rows.specs.Twice.{twiceIn};
+ghost use Rattle.rows.specs.declared.HoldsAnswer.{HoldsAnswer};
+ghost use Rattle.model.specs.Sets.{unionOf};
 ghost use Rattle.rows.specs.Holds.{PassedOn, JoinedOn, HeldAs, WalkedAs, HoldsAs};
 ghost use Rattle.rows.specs.Holds.{TabledAs, holdsBy};
 
@@ -130,21 +133,6 @@ fn store(table: &mut [Set], i: usize, s: Set)
 
 // ---- the walks
 
-// The walk back for the two sets alone. `again` has the flags of the lines that take again.
-fn count_back(plan: &[u32], again: &[u8; MOST_LINES]) -> Passed
-    requires { ⌜ (fault devices (now plan) ≡ none) × (now again ≡ againFlags (now plan)) ⌝ }
-    ensures { λ r. ⌜ HeldAs r (now (plan .entry)) ⌝ }
-{
-    let mut passed = NONE_PASSED;
-    let mut i = plan.len();
-    while 0 < i {
-        i -= 1;
-        let l = plan[i];
-        passed = pass_line(passed, l, line::plain(l, again[i] == 1));
-    }
-    passed
-}
-
 // The walk back over a plan without a fault: its flags, its rows and the two sets, all in one pass from the plan's end,
 // since whether a line lasts decides what it adds to the rows and to the sets. The plan's table is at hand on the way:
 // a caller that keeps it beside the rows lends a list for it, another lends one without a place.
@@ -183,6 +171,23 @@ pub enum HoldsAnswer {
     Refused(Refusal),
 }
 
+// By what each job holds after its last line, the devices that some job holds and those that two jobs do.
+fn over_jobs(holdings: &[Set; EACH_JOB]) -> HoldsAnswer
+    requires { ⌜ length (now holdings) ≡ suc maxJob ⌝ }
+    ensures { λ r. ⌜ r ≡ HoldsAnswer.Made (unionOf (now (holdings .entry))) (twiceIn (now (holdings .entry))) ⌝ }
+{
+    let mut held = sets::NONE;
+    let mut twice = sets::NONE;
+    let mut j = EACH_JOB;
+    while 0 < j {
+        j -= 1;
+        let s = holdings[j];
+        twice = sets::union(sets::both(s, held), twice);
+        held = sets::union(s, held);
+    }
+    HoldsAnswer::Made(held, twice)
+}
+
 // The two sets of a plan, tested by 2 to 7, and nothing beside them.
 pub fn held_to_end(plan: &[u32]) -> HoldsAnswer
     ensures { λ r. ⌜ r ≡ holdsBy (fault devices (now (plan .entry))) (now (plan .entry)) ⌝ }
@@ -190,11 +195,17 @@ pub fn held_to_end(plan: &[u32]) -> HoldsAnswer
     let mut first = [0u32; EACH_JOB];
     let mut starter = [0u32; EACH_JOB];
     let mut again = [0u8; MOST_LINES];
-    if let Checked::Refused(r) = plan::scan(plan, &mut first, &mut starter, &mut again) {
+    let mut holdings = [sets::NONE; EACH_JOB];
+    if let Checked::Refused(r) = plan::scan_holding(
+        plan,
+        &mut first,
+        &mut starter,
+        &mut again,
+        &mut holdings,
+    ) {
         return HoldsAnswer::Refused(r);
     }
-    let made = count_back(plan, &again);
-    HoldsAnswer::Made(made.held, made.twice)
+    over_jobs(&holdings)
 }
 
 // The holds of a plan, tested by 2 to 7: the two sets, with the first line of each job, the flags of the lines that

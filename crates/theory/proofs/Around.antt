@@ -28,7 +28,7 @@ use Rattle.theory.proofs.Turns.{given-parts, given-back}
 -- ---- the outermost take around a take
 
 -- of the places of a list that the test finds, the last
-deepest : (f : ℕ → ℕ) (xs : List ℕ) (d : ℕ) → has d (map f xs) ≡ true
+pub deepest : (f : ℕ → ℕ) (xs : List ℕ) (d : ℕ) → has d (map f xs) ≡ true
     → (n : ℕ) × (t : ℕ) × (getElem? xs n ≡ some t) × (f t ≡ d) × (has d (map f (drop (suc n) xs)) ≡ false)
 deepest f [] d h = has-none d h
 deepest f (x ∷ xs) d h = go (test (has d (map f xs))) (has-cases d (f x) (map f xs) h) (deepest f xs d)

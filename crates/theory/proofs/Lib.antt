@@ -28,6 +28,7 @@ pub mod Around
 pub mod Depth
 pub mod Remarked
 pub mod Places
+pub mod JobEnds
 pub mod OnlyIf
 pub mod Turns
 pub mod Progress

@@ -263,32 +263,32 @@ held-open p j (suc i) = go (eqb (job (at p i)) j) (isTake (at p i)) (isGive (at 
     go true false true ih = ap tail ih ∙ map-tail (deviceAt p) (openTakes p j i)
 
 -- the open takes after line i, by what the line is
-open-take : (p : List ℕ) (j i : ℕ) → job (at p i) ≡ j → isTake (at p i) ≡ true
+pub open-take : (p : List ℕ) (j i : ℕ) → job (at p i) ≡ j → isTake (at p i) ≡ true
     → openTakes p j (suc i) ≡ i ∷ openTakes p j i
 unfolding openTakes
 open-take p j i e t = rw (eq-eqb (job (at p i)) j e, t, openTakes)
 
-open-give : (p : List ℕ) (j i : ℕ) → job (at p i) ≡ j → isTake (at p i) ≡ false → isGive (at p i) ≡ true
+pub open-give : (p : List ℕ) (j i : ℕ) → job (at p i) ≡ j → isTake (at p i) ≡ false → isGive (at p i) ≡ true
     → openTakes p j (suc i) ≡ tail (openTakes p j i)
 unfolding openTakes
 open-give p j i e t g = rw (eq-eqb (job (at p i)) j e, t, g, openTakes)
 
-open-level : (p : List ℕ) (j i : ℕ) → job (at p i) ≡ j → isTake (at p i) ≡ false → isGive (at p i) ≡ false
+pub open-level : (p : List ℕ) (j i : ℕ) → job (at p i) ≡ j → isTake (at p i) ≡ false → isGive (at p i) ≡ false
     → openTakes p j (suc i) ≡ openTakes p j i
 unfolding openTakes
 open-level p j i e t g = rw (eq-eqb (job (at p i)) j e, t, g, openTakes)
 
-open-foreign : (p : List ℕ) (j i : ℕ) → (job (at p i) ≡ j → ⊥) → openTakes p j (suc i) ≡ openTakes p j i
+pub open-foreign : (p : List ℕ) (j i : ℕ) → (job (at p i) ≡ j → ⊥) → openTakes p j (suc i) ≡ openTakes p j i
 unfolding openTakes
 open-foreign p j i n = rw (ne-eqb (job (at p i)) j n, openTakes)
 
 -- what a line does to the open takes
-data Opens (p : List ℕ) (j i : ℕ) : Type 0 where
+pub data Opens (p : List ℕ) (j i : ℕ) : Type 0 where
   pushes : job (at p i) ≡ j → isTake (at p i) ≡ true → openTakes p j (suc i) ≡ i ∷ openTakes p j i → Opens p j i
   pops : openTakes p j (suc i) ≡ tail (openTakes p j i) → Opens p j i
   stays : openTakes p j (suc i) ≡ openTakes p j i → Opens p j i
 
-opens : (p : List ℕ) (j i : ℕ) → Opens p j i
+pub opens : (p : List ℕ) (j i : ℕ) → Opens p j i
 opens p j i = go (seen j (at p i) [])
   where
     go : Seen j (at p i) [] → Opens p j i
@@ -297,11 +297,11 @@ opens p j i = go (seen j (at p i) [])
     go (level e t g q) = stays (open-level p j i e t g)
     go (back e t g z q) = pops (open-give p j i e t g)
 
-nth-tail : (xs : List ℕ) (n : ℕ) → getElem? (tail xs) n ≡ getElem? xs (suc n)
+pub nth-tail : (xs : List ℕ) (n : ℕ) → getElem? (tail xs) n ≡ getElem? xs (suc n)
 nth-tail [] n = refl
 nth-tail (x ∷ xs) n = refl
 
-drop-tail : (xs : List ℕ) (n : ℕ) → drop n (tail xs) ≡ drop (suc n) xs
+pub drop-tail : (xs : List ℕ) (n : ℕ) → drop n (tail xs) ≡ drop (suc n) xs
 drop-tail [] zero = refl
 drop-tail [] (suc n) = refl
 drop-tail (x ∷ xs) n = refl

@@ -12,7 +12,7 @@ use Rattle.promises.specs.Kept.{beside}
 use Rattle.promises.proofs.Kept.{met-as-building, met-refused}
 use Rattle.moving.proofs.Outcome.{plainly-refused}
 use Rattle.kept.proofs.Building.{no-room}
-use Rattle.kept.proofs.Outcome.{stop-past, is-edited, moves-kept}
+use Rattle.kept.proofs.Outcome.{stop-past, is-edited, may-skip, moves-kept}
 use Rattle.kept.proofs.move_kept.Statement.{statement}
 use Rattle.kept.proofs.move_kept.Tie as tie
 
@@ -28,10 +28,11 @@ returns c =
 
 -- where there is room: the function's entry, from the move without rows
 abbrev entry : tie.After-move-through → tie.Start
-entry c = c .before .before .before .before .before .before .before .before .before .before .before .before .before
+entry c =
+    c .before .before .before .before .before .before .before .before .before .before .before .before .before .before
 
 abbrev test : tie.After-move-through → tie.Else1
-test c = c .before .before .before .before .before .before .before .before
+test c = c .before .before .before .before .before .before .before .before .before
 
 room : (c : tie.After-move-through)
     → (devices ≤ length (entry c .args .rows .now)) × (1 ≤ length (entry c .args .held .now))
@@ -48,7 +49,7 @@ returns-2 c =
     let g = c .before .r .given in
     met-refused (a .plan .now) (beside (a .sets .now) (a .rows .now) (a .held .now)) (a .line) (a .device)
     (room moved .0) (room moved .1) (g .0 .0) _ _
-    (plainly-refused _ _ _ _ _ _ _ _ _ _ _ _ _ (moved .move-through .ensures) (g .0 .0) (g .1))
+    (plainly-refused _ _ _ _ _ _ _ _ _ _ _ _ _ _ _ (moved .move-through .ensures) (g .0 .0) (g .1))
 
 -- it is done
 abbrev moved : tie.After-known-told2 → tie.After-move-through
@@ -56,24 +57,25 @@ moved c = c .before .before .before .before .before .before .before
 
 sub-keep : tie.Need-sub-keep
 sub-keep c =
-    let told = c .before .before .before .before in
+    let told = c .before .before .before .before .before .before in
     stop-past (moved told .move-through .ensures) (told .before .count .given .1)
 
 keep-requires : tie.Need-keep-requires
 keep-requires c κs =
-    let told = c .before .before .before .before .before .before in
+    let told = c .before .before .before .before .before .before .before .before in
     let r = room (moved told) in
-    (is-edited (moved told .move-through .ensures) (told .before .count .given .1), r .0, r .1)
+    let m = moved told .move-through .ensures in
+    (is-edited m (told .before .count .given .1), may-skip m (told .before .count .given .1), r .0, r .1)
 
 returns-3 : tie.Need-returns-3
 returns-3 c =
     let kept = c .before .before .before .before in
-    let told = kept .before .before .before .before .before .before .before in
+    let told = kept .before .before .before .before .before .before .before .before .before in
     let m = moved told in
     let a = entry m .args in
     moves-kept (m .move-through .ensures) (told .before .count .given .1) (a .rows .now) (a .held .now) _ _ _
     (room m .0) (room m .1) (omega (arith, test m .before .slice-known4 .given 0))
-    (m .before .before .before .before .before .before .device-at .ensures)
+    (m .before .before .before .before .before .before .before .device-at .ensures)
     (kept .keep .ensures)
 
 pub move-kept-spec : {M : Type 1} → statement M

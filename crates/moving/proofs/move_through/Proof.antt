@@ -16,16 +16,16 @@ use Rattle.moving.proofs.move_through.Tie as tie
 returns : tie.Need-returns
 returns c =
     let at-tests = c .before .before .before in
-    let a = at-tests .before .before .before .before .before .before .before .before .args in
+    let a = at-tests .before .before .before .before .before .before .before .before .before .args in
     let r = c .before .r .given .0 .0 in
     let t = at-tests .tested .ensures in
     through-refused (a .plan .now) (a .sets .now) (a .line) (a .device) (a .first .now) (a .starter .now)
-    (a .again .now) _ _ (t .firsts) (t .starts) _ (t .agains) r
+    (a .again .now) (a .holdings .now) _ _ _ (t .firsts) (t .starts) (t .holds) _ (t .agains) r
     (told-refused _ _ r _ (c .before .r .given .1) (t .answers))
 
 -- the function's entry, from where no test refuses; what is known there
 abbrev entry : tie.After-known-told2 → tie.Start
-entry c = c .before .before .before .before .before .before .before .before .before .before .before
+entry c = c .before .before .before .before .before .before .before .before .before .before .before .before
 
 told : (c : tie.After-known-told2)
     → let a = entry c .args in
@@ -52,8 +52,8 @@ rewrite-requires c κs =
     let e = t .before .before .before .tested .ensures in (
       known t .asked,
       span-is t,
-      by-scan (a .plan .now) (a .sets .now) (a .line) (a .device) (a .first .now) (a .starter .now) (a .again .now) _ _
-          (e .firsts) (e .starts) (told t .0) _ (e .agains) .agains,
+      by-scan (a .plan .now) (a .sets .now) (a .line) (a .device) (a .first .now) (a .starter .now) (a .again .now)
+          (a .holdings .now) _ _ _ (e .firsts) (e .starts) (e .holds) (told t .0) _ (e .agains) .agains,
     )
 
 -- none does
@@ -64,7 +64,7 @@ returns-2 c =
     let a = entry t .args in
     let e = t .before .before .before .tested .ensures in
     through-moved (a .plan .now) (a .sets .now) (a .line) (a .device) (a .first .now) (a .starter .now)
-    (a .again .now) _ _ (e .firsts) (e .starts) (told t .0) _ (e .agains) _ _ _ _ _
+    (a .again .now) (a .holdings .now) _ _ _ (e .firsts) (e .starts) (e .holds) (told t .0) _ (e .agains) _ _ _ _ _
     (c .stop-of .ensures ∙ ap stopOf (told t .1))
     (w .rewrite .ensures)
 

@@ -17,41 +17,45 @@ use Rattle.moving.proofs.tested.Tie as tie
 
 -- where the scan does not refuse: the function's entry, and what is known
 abbrev entry : tie.After-enum-told → tie.Start
-entry c = c .before .before .before .before .before .before .before .before
+entry c = c .before .before .before .before .before .before .before .before .before
 
 no-fault : (c : tie.After-enum-told) → fault devices (entry c .args .plan .now) ≡ none
-no-fault c = refused-none _ _ (c .enum-told .given .1) (c .before .before .scan .ensures .answers)
+no-fault c = refused-none _ _ (c .enum-told .given .1) (c .before .before .scan-holding .ensures .scanned .answers)
 
 scanned : (c : tie.After-enum-told)
-    → Scanned (entry c .args .plan .now) (c .before .before .scan .last .1 .0) (c .before .before .scan .last .1 .1 .0)
-    (c .before .before .scan .last .1 .1 .1 .0)
-scanned c = is-scanned (entry c .args .plan .now) _ _ _ _ _ _ _ (c .before .before .scan .ensures) (no-fault c)
+    → let s = c .before .before .scan-holding .last in
+    Scanned (entry c .args .plan .now) (s .1 .0) (s .1 .1 .0) (s .1 .1 .1 .0)
+scanned c =
+    is-scanned (entry c .args .plan .now) _ _ _ _ _ _ _ (c .before .before .scan-holding .ensures .scanned) (no-fault c)
 
 returns : tie.Need-returns
 returns c =
     let at-scan = c .before .before .before in
-    let a = at-scan .before .before .before .before .before .before .args in
+    let a = at-scan .before .before .before .before .before .before .before .args in
     let r = c .before .r .given .0 .0 in
     let e = by-fault devices (a .plan .now) (a .sets .now) (a .line) (a .device) r
-    (refused-some _ r _ (c .before .r .given .1) (at-scan .scan .ensures .answers)) in
+    (refused-some _ r _ (c .before .r .given .1) (at-scan .scan-holding .ensures .scanned .answers)) in
     record {
       answers = ap (λ (o : Option Refusal). testedBy o (spanOf (a .plan .now) (askedAt (a .line))))
           (sym e);
-      firsts = at-scan .scan .ensures .firsts;
-      starts = at-scan .scan .ensures .starts;
-      agains = at-scan .scan .ensures .agains;
+      firsts = at-scan .scan-holding .ensures .scanned .firsts;
+      starts = at-scan .scan-holding .ensures .scanned .starts;
+      agains = at-scan .scan-holding .ensures .scanned .agains;
+      holds = at-scan .scan-holding .ensures .held;
     }
 
 returns-2 : tie.Need-returns-2
 returns-2 c =
     let passed = c .before .before .before .before in
     let a = entry passed .args in
+    let scan = passed .before .before .scan-holding .ensures in
     record {
       answers = by-asked devices (a .plan .now) (a .sets .now) (a .line) (a .device)
           (spanOf (a .plan .now) (askedAt (a .line))) (no-fault passed) _ (c .asked .ensures);
-      firsts = passed .before .before .scan .ensures .firsts;
-      starts = passed .before .before .scan .ensures .starts;
-      agains = passed .before .before .scan .ensures .agains;
+      firsts = scan .scanned .firsts;
+      starts = scan .scanned .starts;
+      agains = scan .scanned .agains;
+      holds = scan .held;
     }
 
 pub tested-spec : {M : Type 1} → statement M

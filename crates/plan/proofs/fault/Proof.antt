@@ -2,6 +2,7 @@
 use mathlib.Core.List.{[]}
 use mathlib.Core.Path.{refl}
 use Rattle.plan.specs.Again.{againFlags}
+use Rattle.plan.specs.Holdings.{holdings}
 use Rattle.plan.proofs.Scans.{at-a-line, past-the-lines}
 use borrow.Author.Needs.{needs}
 use Rattle.plan.proofs.fault.Statement.{statement}
@@ -11,8 +12,8 @@ returns : tie.Need-returns
 returns c =
     let w = c .before .before .before .walk in
     let r = c .before .r .given in
-    at-a-line (c .before .before .before .before .before .before .before .before .args .plan .now) [] [] [] _ _
-    (r .0 .0) (rw (r .1) at (w .ensures .0)) .answers
+    at-a-line (c .before .before .before .before .before .before .before .before .before .args .plan .now)
+    [] [] [] [] _ _ (r .0 .0) (rw (r .1) at (w .ensures .0)) .answers
 
 ends-requires : tie.Need-ends-requires
 ends-requires c κs =
@@ -22,9 +23,10 @@ ends-requires c κs =
 returns-2 : tie.Need-returns-2
 returns-2 c =
     let w = c .before .before .before .before .before in
-    let p = w .before .before .before .before .before .args .plan .now in
-    past-the-lines p _ _ (againFlags p) (c .ends .result)
-    (rw (c .before .before .before .enum-told .given .1) at (w .walk .ensures .0)) refl (c .ends .ensures) .answers
+    let p = w .before .before .before .before .before .before .args .plan .now in
+    past-the-lines p _ _ (againFlags p) (holdings p) (c .ends .result)
+    (rw (c .before .before .before .enum-told .given .1) at (w .walk .ensures .0))
+    (record { flags = refl; held = refl }) (c .ends .ensures) .answers
 
 pub fault-spec : {M : Type 1} → statement M
 fault-spec =

@@ -35,6 +35,11 @@ element-write-again : tie.Need-element-write-again
 element-write-again c =
     let s = c .before .before .before .before .before .before in omega (arith, s .pre .0, s .pre .3)
 
+element-write-holdings : tie.Need-element-write-holdings
+element-write-holdings c =
+    let j = c .before .before .before .before .before .before in
+    omega (arith, j .before .pre .4, j .before .pre .5, j .job .ensures)
+
 returns : tie.Need-returns
 unfolding empty
 returns c =
@@ -48,7 +53,7 @@ returns c =
       h .choose .ensures,
       h .before .job .ensures,
       add-one,
-    ) (record { holds = refl; adds = refl; flags = refl })
+    ) (record { holds = refl; adds = refl; flags = refl; keeps = refl })
 
 pub note-spec : {M : Type 1} → statement M
 note-spec =
@@ -68,4 +73,7 @@ note-spec =
     (λ c. search needs)
     element-write-again
     (λ c κs. search needs)
+    (λ c. search needs)
+    (λ c. search needs)
+    element-write-holdings
     returns)

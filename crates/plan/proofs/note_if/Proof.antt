@@ -6,7 +6,7 @@ use Rattle.plan.proofs.note_if.Statement.{statement}
 use Rattle.plan.proofs.note_if.Tie as tie
 
 note-requires : tie.Need-note-requires
-note-requires c κs = c .before .before .before .pre (c .before .before .if1 .taken)
+note-requires c κs = c .before .before .before .before .pre (c .before .before .before .if1 .taken)
 
 returns : tie.Need-returns
 returns c = λ t. c .note .ensures

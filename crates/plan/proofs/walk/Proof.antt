@@ -6,20 +6,19 @@ use native.Mathlib.Omega.{arith}
 use lib.ListN.{length}
 use Rattle.model.specs.Sets.{empty}
 use Rattle.plan.proofs.Walks.{At, at-start, at-end, at-refusal, at-line, at-next}
-use Rattle.plan.proofs.Flags.{all-flagged}
-use Rattle.plan.proofs.Notes.{Notes, notes-start, notes-next}
+use Rattle.plan.proofs.Notes.{Notes, notes-start, notes-next, notes-end}
 use borrow.Author.Needs.{needs}
 use Rattle.plan.proofs.walk.Statement.{statement}
 use Rattle.plan.proofs.walk.Tie as tie
 
 abbrev Inv-loop : tie.InvT-loop
-Inv-loop plan noting first₀ starter₀ again₀ stack₀ added₀ depth₀ held₀ prev₀ i₀
-    first starter again stack added depth held prev i =
-    At plan i prev depth stack first starter × (noting ≡ true → Notes plan i depth held stack added again)
+Inv-loop plan noting first₀ starter₀ again₀ holdings₀ stack₀ added₀ depth₀ held₀ prev₀ i₀
+    first starter again holdings stack added depth held prev i =
+    At plan i prev depth stack first starter × (noting ≡ true → Notes plan i depth held stack added again holdings)
 
 abbrev μ-loop : tie.MeasureT-loop
-μ-loop plan noting first₀ starter₀ again₀ stack₀ added₀ depth₀ held₀ prev₀ i₀
-    first starter again stack added depth held prev i =
+μ-loop plan noting first₀ starter₀ again₀ holdings₀ stack₀ added₀ depth₀ held₀ prev₀ i₀
+    first starter again holdings stack added depth held prev i =
     length plan - i
 
 loop-holds : tie.Need-loop-holds Inv-loop μ-loop
@@ -27,7 +26,8 @@ unfolding empty
 loop-holds c = let s = c .before in (
   at-start (s .args .plan .now) _ (s .args .first .now) (s .args .starter .now)
       (record { long = refl; floor = refl }) (s .pre .0) (s .pre .1),
-  λ t. notes-start (s .args .plan .now) _ _ (s .args .again .now) refl (s .pre .2),
+  λ t. notes-start (s .args .plan .now) _ _ (s .args .again .now) (s .args .holdings .now) refl (s .pre .2)
+      (s .pre .3),
 )
 
 checked-line-requires : tie.Need-checked-line-requires Inv-loop μ-loop
@@ -55,38 +55,35 @@ returns c =
 
 note-if-requires : tie.Need-note-if-requires Inv-loop μ-loop
 note-if-requires c κs t =
-    let f = c .before .before .before .before .before .checked-line in
-    let l = c .before .before .before .before .before .before .before .before .before .before .before in
-    let d = c .before .before .before .d .given in
+    let f = c .before .before .before .before .before .before .checked-line in
+    let l = c .before .before .before .before .before .before .before .before .before .before .before .before in
+    let d = c .before .before .before .before .d .given in
     let a = l .loop .inv .0 in
-    let w = l .loop .inv .1 t in (
-      at-line (l .before .before .args .plan .now) (l .loop .i) (l .loop .prev) (l .loop .depth) (l .loop .stack)
-          (l .loop .first) (l .loop .starter) a (search needs) (f .result) (f .last .1 .1 .1 .1 .0)
-          (f .last .1 .1 .1 .1 .1 .0) (f .last .1 .1 .1 .1 .1 .1 .0) (f .ensures .0) (d .0 .0) (d .1),
-      a .deep,
-      w .noted .long,
-      w .flagged .long,
-    )
+    let w = l .loop .inv .1 t in
+    let k = at-line (l .before .before .args .plan .now) (l .loop .i) (l .loop .prev) (l .loop .depth) (l .loop .stack)
+    (l .loop .first) (l .loop .starter) a (search needs) (f .result) (f .last .1 .1 .1 .1 .0)
+    (f .last .1 .1 .1 .1 .1 .0) (f .last .1 .1 .1 .1 .1 .1 .0) (f .ensures .0) (d .0 .0) (d .1) in
+    (k .0, a .deep, w .noted .long, w .flagged .long, w .kept .long, k .1)
 
 loop-again : tie.Need-loop-again Inv-loop μ-loop
 loop-again c =
     let k = c .before .note-if in
-    let f = c .before .before .before .before .before .before .before .checked-line in
-    let t = c .before .before .before .before .before .before .before .before .before .before .before .before in
+    let f = c .before .before .before .before .before .before .before .before .checked-line in
+    let t = c .before .before .before .before .before .before .before .before .before .before .before .before .before in
     let l = t .before in
-    let d = c .before .before .before .before .before .d .given in
+    let d = c .before .before .before .before .before .before .d .given in
     let p = l .before .before .args .plan .now in
+    let a = at-next p (l .loop .i) (l .loop .prev) (l .loop .depth) (l .loop .stack) (l .loop .first) (l .loop .starter)
+    (l .loop .inv .0) (t .loop-test .taken) (f .result) (f .last .1 .1 .1 .1 .0) (f .last .1 .1 .1 .1 .1 .0)
+    (f .last .1 .1 .1 .1 .1 .1 .0) (f .ensures .0) (d .0 .0) (d .1) (f .ensures .1) in
     rw (c .job .ensures) (
-      at-next p (l .loop .i) (l .loop .prev) (l .loop .depth) (l .loop .stack) (l .loop .first) (l .loop .starter)
-          (l .loop .inv .0) (t .loop-test .taken) (f .result) (f .last .1 .1 .1 .1 .0) (f .last .1 .1 .1 .1 .1 .0)
-          (f .last .1 .1 .1 .1 .1 .1 .0) (f .ensures .0) (d .0 .0) (d .1) (f .ensures .1),
+      a,
       λ t. let g = k .ensures t in
-          rw (g .holds, g .adds, g .flags)
+          rw (g .keeps, g .holds, g .adds, g .flags)
           (notes-next p (l .loop .i) (l .loop .prev) (l .loop .depth) (l .loop .held) (l .loop .stack)
-          (l .loop .first) (l .loop .starter) (l .loop .added) (l .loop .again) (l .loop .inv .0) (l .loop .inv .1 t)
-          (f .result)
-          (f .last .1 .1 .1 .1 .0) (f .last .1 .1 .1 .1 .1 .0) (f .last .1 .1 .1 .1 .1 .1 .0) (f .ensures .0)
-          (d .0 .0) (d .1)),
+          (l .loop .first) (l .loop .starter) (l .loop .added) (l .loop .again) (l .loop .holdings) (l .loop .inv .0)
+          (l .loop .inv .1 t) (f .result) (f .last .1 .1 .1 .1 .0) (f .last .1 .1 .1 .1 .1 .0)
+          (f .last .1 .1 .1 .1 .1 .1 .0) (f .ensures .0) (d .0 .0) (d .1) a),
     )
 
 -- the end
@@ -98,7 +95,8 @@ returns-2 c =
     omega (arith, s .0 .at-most, c .loop-test .left) in (
       at-end (l .before .before .args .plan .now) (l .loop .i) (l .loop .prev) (l .loop .depth) (l .loop .stack)
           (l .loop .first) (l .loop .starter) (s .0) (c .loop-test .left),
-      λ t z. all-flagged (l .before .before .args .plan .now) (l .loop .again) (rw e at (s .1 t .flagged)),
+      λ t z. notes-end (l .before .before .args .plan .now) (l .loop .i) (l .loop .depth) (l .loop .held)
+          (l .loop .stack) (l .loop .added) (l .loop .again) (l .loop .holdings) e (s .1 t),
     )
 
 pub walk-spec : {M : Type 1} → statement M

@@ -9,8 +9,8 @@ returns : tie.Need-returns
 returns c =
     let w = c .before .before .before .walk in
     let r = c .before .r .given in
-    at-a-line (c .before .before .before .before .before .before .before .before .args .plan .now) _ _ _ _ _ (r .0 .0)
-    (rw (r .1) at (w .ensures .0))
+    at-a-line (c .before .before .before .before .before .before .before .before .before .args .plan .now)
+    _ _ _ _ _ _ (r .0 .0) (rw (r .1) at (w .ensures .0))
 
 ends-requires : tie.Need-ends-requires
 ends-requires c κs =
@@ -21,7 +21,7 @@ returns-2 : tie.Need-returns-2
 returns-2 c =
     let w = c .before .before .before .before .before in
     let e = c .before .before .before .enum-told .given .1 in
-    past-the-lines (w .before .before .before .before .before .args .plan .now) _ _ _ (c .ends .result)
+    past-the-lines (w .before .before .before .before .before .before .args .plan .now) _ _ _ _ (c .ends .result)
     (rw e at (w .walk .ensures .0)) (w .walk .ensures .1 refl e) (c .ends .ensures)
 
 pub whole-spec : {M : Type 1} → statement M
