@@ -1,16 +1,15 @@
 -- Which case of `isStep` the tests of a packed number pick (01, the table of "The plan as text"), with the ranges of
--- the operands as the code's tables have them.
-use mathlib.Core.Path.{_≡_, refl, sym, _∙_}
-use mathlib.Core.Bool.{Bool, true, false, _||_}
-use mathlib.Core.List.{List, [], _∷_}
+-- the operands as the code has them.
+use mathlib.Core.Path.{_≡_, refl, sym, _∙_, ap}
+use mathlib.Core.Bool.{Bool, true, false, cond, _||_}
 use mathlib.Core.Logic.{_⊎_, inl, inr}
-use Prim.Native.Nat.{ℕ, zero, suc, _-_, _≤_, _<_}
+use Prim.Native.Nat.{ℕ, zero, suc, _+_, _-_, _*_, _/_, _%_, _^_, _≤_, _<_}
 use native.Mathlib.Omega.{arith}
-use lib.Dec.{leb, ltb}
-use lib.ListN.{getD}
+use lib.Dec.{eqb, leb, ltb}
 use borrow.Author.Tests.{le-leb, lt-leb, lt-ltb, le-ltb}
 use Rattle.model.specs.Board.{devices}
 use Rattle.model.specs.Line.{kind, operand, isStep, isLine, operandFits, maxJob}
+use Rattle.line.specs.Ranges.{lowestOf, highestOf}
 use Rattle.theory.proofs.Tests.{le-or-lt}
 use Rattle.theory.specs.Line.{Fits, ofDo, ofDevice, ofStart}
 use Rattle.theory.proofs.Line.{line-parts}
@@ -32,13 +31,20 @@ module _ (D j k o : ℕ) where
   unfolding isStep
   fits low high = rw (le-leb 1 j low, le-leb j maxJob high)
 
--- ---- the tables of the lowest and the highest operand
+-- ---- the lowest and the highest operand of a kind
 
-abbrev lowest : List ℕ
-lowest = 0 ∷ 0 ∷ 0 ∷ 2 ∷ []
+-- the word that has them all
+abbrev ranges : ℕ
+ranges =
+    256 * 255
+    + 65536 * (256 * (devices - 1) + 65536 * (256 * (devices - 1) + 65536 * (256 * maxJob + 2)))
 
-abbrev highest : List ℕ
-highest = 255 ∷ (devices - 1) ∷ (devices - 1) ∷ maxJob ∷ []
+pub in-word : (k : ℕ) → k < 4 → ranges / 2 ^ (k * 16) % 65536 ≡ lowestOf k + 256 * highestOf k
+in-word zero h = refl
+in-word (suc zero) h = refl
+in-word (suc (suc zero)) h = refl
+in-word (suc (suc (suc zero))) h = refl
+in-word (suc (suc (suc (suc k)))) h = absurd (omega arith)
 
 on-board : (o : ℕ) → ltb o devices ≡ leb o (devices - 1)
 on-board o = go (le-or-lt devices o)
@@ -47,7 +53,7 @@ on-board o = go (le-or-lt devices o)
     go (inl h) = le-ltb o devices h ∙ sym (lt-leb o (devices - 1) (omega arith))
     go (inr h) = lt-ltb o devices h ∙ sym (le-leb o (devices - 1) (omega arith))
 
-below : (k o : ℕ) → k < 4 → o < getD lowest k 0 → operandFits devices k o ≡ false
+below : (k o : ℕ) → k < 4 → o < lowestOf k → operandFits devices k o ≡ false
 unfolding operandFits
 below zero o h l = absurd (omega arith)
 below (suc zero) o h l = absurd (omega arith)
@@ -55,7 +61,7 @@ below (suc (suc zero)) o h l = absurd (omega arith)
 below (suc (suc (suc zero))) o h l = rw (lt-leb 2 o l)
 below (suc (suc (suc (suc k)))) o h l = absurd (omega arith)
 
-from : (k o : ℕ) → k < 4 → getD lowest k 0 ≤ o → operandFits devices k o ≡ leb o (getD highest k 0)
+from : (k o : ℕ) → k < 4 → lowestOf k ≤ o → operandFits devices k o ≡ leb o (highestOf k)
 unfolding operandFits
 from zero o h l = or-none (leb o 255 || false) ∙ or-none (leb o 255)
 from (suc zero) o h l = or-none (ltb o devices) ∙ on-board o
@@ -63,12 +69,27 @@ from (suc (suc zero)) o h l = or-none (ltb o devices) ∙ on-board o
 from (suc (suc (suc zero))) o h l = rw (le-leb 2 o l)
 from (suc (suc (suc (suc k)))) o h l = absurd (omega arith)
 
-module _ (j k o : ℕ) (low : 1 ≤ j) (high : j ≤ maxJob) (kind : k < 4) where
-  pub low-operand : o < getD lowest k 0 → isStep devices j k o ≡ false
-  low-operand h = fits devices j k o low high ∙ below k o kind h
+-- by what the code finds of the kind
+module _ (j k o r : ℕ) (low : 1 ≤ j) (high : j ≤ maxJob) (kind : k < 4) (is : r ≡ lowestOf k + 256 * highestOf k) where
+  low-is : r % 256 ≡ lowestOf k
+  low-is = rw is (go (eqb k 3))
+    where
+      go : (b : Bool) → (cond b 2 0 + 256 * highestOf k) % 256 ≡ cond b 2 0
+      go true = omega arith
+      go false = omega arith
 
-  pub high-operand : getD lowest k 0 ≤ o → isStep devices j k o ≡ leb o (getD highest k 0)
-  high-operand h = fits devices j k o low high ∙ from k o kind h
+  high-is : r / 256 ≡ highestOf k
+  high-is = rw is (go (eqb k 3))
+    where
+      go : (b : Bool) → (cond b 2 0 + 256 * highestOf k) / 256 ≡ highestOf k
+      go true = omega arith
+      go false = omega arith
+
+  pub low-operand : o < r % 256 → isStep devices j k o ≡ false
+  low-operand h = fits devices j k o low high ∙ below k o kind (rw low-is at h)
+
+  pub high-operand : r % 256 ≤ o → isStep devices j k o ≡ leb o (r / 256)
+  high-operand h = fits devices j k o low high ∙ from k o kind (rw low-is at h) ∙ ap (leb o) (sym high-is)
 
 -- the operand of a take or a give that is a line's is a device's number
 pub device-operand : (n : ℕ) → isLine devices n ≡ true → kind n < 3 → 1 ≤ kind n → operand n < devices

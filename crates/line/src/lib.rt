@@ -4,10 +4,11 @@ use board::DEVICES;
 use board::LAST_JOB;
 ghost use mathlib.Core.Path.{_≡_};
 ghost use mathlib.Core.Bool.{cond};
-ghost use Prim.Native.Nat.{_%_, _^_};
+ghost use Prim.Native.Nat.{_+_, _*_, _%_, _^_};
 ghost use Rattle.model.specs.Line.{pack, job, kind, operand, isTake, isGive, isStart, isLine};
 ghost use Rattle.model.specs.Board.{devices};
 ghost use Rattle.theory.specs.Outer.{plain};
+ghost use Rattle.line.specs.Ranges.{lowestOf, highestOf};
 
 // So many numbers has an operand room for, from 0 on.
 pub const OPERANDS: u32 = 256;
@@ -72,18 +73,31 @@ pub fn is_start(l: u32) -> bool
     kind(l) == 3
 }
 
-// The lowest and the highest operand of each kind: do, take, give, start.
-const LOWEST: [u32; EACH_KIND] = [0, 0, 0, 2];
+// The highest operand of a do, of a take or give, and of a start.
+const LAST_ACTION: u64 = LAST_OPERAND as u64;
 
-const HIGHEST: [u32; EACH_KIND] = [LAST_OPERAND, DEVICES - 1, DEVICES - 1, LAST_JOB];
+const LAST_DEVICE: u64 = DEVICES as u64 - 1;
 
-// Is the number a line's? It asks tables for the operand's range, so that it has no branch on the kind, which cannot be
-// foretold.
+const LAST_STARTED: u64 = LAST_JOB as u64;
+
+// For each kind its lowest operand, and above it its highest, a byte each; those of a do stand lowest in the word. A
+// shift finds them: there is no branch on the kind, which cannot be foretold, and nothing to load.
+const RANGES: u64 = 256 * LAST_ACTION
+    + 65536 * (256 * LAST_DEVICE + 65536 * (256 * LAST_DEVICE + 65536 * (256 * LAST_STARTED + 2)));
+
+// The lowest operand of a kind and 256 times the highest.
+fn range(k: u32) -> u32
+    ensures { λ r. ⌜ r ≡ lowestOf (k % 4) + 256 * highestOf (k % 4) ⌝ }
+{
+    ((RANGES >> (k % KINDS * 16) as u64) % 65536) as u32
+}
+
+// Is the number a line's?
 pub fn is_line(l: u32) -> bool
     ensures { λ r. ⌜ r ≡ isLine devices l ⌝ }
 {
     let j = job(l);
-    let k = kind(l) as usize;
+    let r = range(kind(l));
     let o = operand(l);
     if j < 1 {
         return false;
@@ -91,10 +105,10 @@ pub fn is_line(l: u32) -> bool
     if LAST_JOB < j {
         return false;
     }
-    if o < LOWEST[k] {
+    if o < r % OPERANDS {
         return false;
     }
-    o <= HIGHEST[k]
+    o <= r / OPERANDS
 }
 
 // The number of a job, a kind and an operand, each of as many bits as it has room for.

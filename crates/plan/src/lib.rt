@@ -47,7 +47,7 @@ const STACK_PLACES: usize = MOST_LINES + 1;
 const FLOOR: u8 = DEVICES as u8;
 
 // The first three tests of the line at position i, after a line of job `prev`, which is 0 before the first. No test
-// asks whether the job is the same, which cannot be foretold.
+// asks whether the job is the same, which cannot be foretold: a lower job is far above in the word's circle.
 fn misplaced(i: usize, n: u32, prev: u32) -> Checked
     ensures { λ r. ⌜ r ≡ checked (placeFault devices n i prev) ⌝ }
 {
@@ -55,11 +55,7 @@ fn misplaced(i: usize, n: u32, prev: u32) -> Checked
         return Checked::Refused(Refusal::TooManyLines);
     }
     if line::is_line(n) {
-        let j = line::job(n);
-        if j < prev {
-            return Checked::Refused(Refusal::JobOutOfSequence((i + 1) as u32));
-        }
-        if prev < j - 1 {
+        if 1 < std::num::wrapping_sub_u32(line::job(n), prev) {
             return Checked::Refused(Refusal::JobOutOfSequence((i + 1) as u32));
         }
         return Checked::Fine;

@@ -3,7 +3,7 @@ use mathlib.Core.Logic.{_⊎_, inl, inr}
 use mathlib.Core.Path.{_≡_, refl, ap, sym, _∙_}
 use mathlib.Core.Bool.{Bool, true, false, not, _||_}
 use mathlib.Core.List.{[], _∷_}
-use Prim.Native.Nat.{ℕ, suc, _+_, _-_, _≤_, _<_}
+use Prim.Native.Nat.{ℕ, suc, _+_, _%_, _^_, _≤_, _<_}
 use native.Mathlib.Omega.{arith}
 use native.Mathlib.Numerals.{add-one}
 use lib.Dec.{eqb}
@@ -20,17 +20,17 @@ use borrow.Author.Needs.{needs}
 use Rattle.plan.proofs.misplaced.Statement.{statement}
 use Rattle.plan.proofs.misplaced.Tie as tie
 
--- a job that is not below the one before it, and at most one above, follows on; any other does not
-follows : (j prev : ℕ) → 1 ≤ j → prev ≤ j → j - 1 ≤ prev → (eqb j prev || eqb j (suc prev)) ≡ true
-follows j prev h a b = go (test (eqb j prev))
-  where
-    go : (eqb j prev ≡ true) ⊎ (eqb j prev ≡ false) → (eqb j prev || eqb j (suc prev)) ≡ true
-    go (inl e) = rw e
-    go (inr e) = let n = eqb-false j prev e in rw (e, eq-eqb j (suc prev) (omega arith))
+-- a job that lies 0 or 1 above the one before it, in the word's circle, follows on; any other does not
+module _ (j prev r : ℕ) (least : 1 ≤ j) (few : prev < 2 ^ 32) (fits : r < 2 ^ 32) (is : (r + prev) % 2 ^ 32 ≡ j) where
+  follows : r ≤ 1 → (eqb j prev || eqb j (suc prev)) ≡ true
+  follows h = go (test (eqb j prev))
+    where
+      go : (eqb j prev ≡ true) ⊎ (eqb j prev ≡ false) → (eqb j prev || eqb j (suc prev)) ≡ true
+      go (inl e) = rw e
+      go (inr e) = let n = eqb-false j prev e in rw (e, eq-eqb j (suc prev) (omega arith))
 
-strays : (j prev : ℕ) → (j < prev) ⊎ (prev < j - 1) → (eqb j prev || eqb j (suc prev)) ≡ false
-strays j prev (inl h) = rw (ne-eqb j prev (λ q. omega arith), ne-eqb j (suc prev) (λ q. omega arith))
-strays j prev (inr h) = rw (ne-eqb j prev (λ q. omega arith), ne-eqb j (suc prev) (λ q. omega arith))
+  strays : 1 < r → (eqb j prev || eqb j (suc prev)) ≡ false
+  strays h = rw (ne-eqb j prev (λ q. omega arith), ne-eqb j (suc prev) (λ q. omega arith))
 
 -- too many lines
 returns : tie.Need-returns
@@ -72,29 +72,26 @@ job-least c =
       line-parts devices (l .before .before .args .n) (sym (l .is-line .ensures) ∙ c .before .if2 .taken),
     )
 
--- below the job before, and more than one above it
+-- out of sequence
 returns-2 : tie.Need-returns-2
 unfolding refuseIf
-returns-2 c = ap checked (sym (at-job (c .before) false (strays _ _ (inl (c .if3 .taken)))))
-
-sub-if4 : tie.Need-sub-if4
-sub-if4 c = job-least (c .before)
-
-returns-3 : tie.Need-returns-3
-unfolding refuseIf
-returns-3 c = ap checked (sym (at-job (c .before .before) false (strays _ _ (inr (c .if4 .taken)))))
+returns-2 c =
+    let w = c .before in
+    ap checked (sym (at-job (w .before) false (strays _ _ _ (job-least (w .before)) (omega arith) (omega arith)
+    (w .wrapping-sub-u32 .ensures) (c .if3 .taken))))
 
 -- in sequence
-returns-4 : tie.Need-returns-4
+returns-3 : tie.Need-returns-3
 unfolding refuseIf
-returns-4 c =
-    let j = c .before .before in
-    ap checked (sym (at-job j true (follows _ _ (job-least j) (c .before .if3 .left) (c .if4 .left))))
+returns-3 c =
+    let w = c .before in
+    ap checked (sym (at-job (w .before) true (follows _ _ _ (job-least (w .before)) (omega arith) (omega arith)
+    (w .wrapping-sub-u32 .ensures) (c .if3 .left))))
 
 -- no line
-returns-5 : tie.Need-returns-5
+returns-4 : tie.Need-returns-4
 unfolding placeFault firstRefusal refuseIf lineNumber
-returns-5 c =
+returns-4 c =
     let s = c .before .before .before in
     rw (
       lt-leb maxLines (s .args .i) (c .before .before .if1 .left),
@@ -109,14 +106,11 @@ misplaced-spec =
     returns
     (λ c κs. search needs)
     (λ c κs. search needs)
+    (λ c κs. search needs)
     (λ c. search needs)
     (λ c. search needs)
     returns-2
-    sub-if4
-    (λ c. search needs)
-    (λ c. search needs)
     returns-3
-    returns-4
     (λ c. search needs)
     (λ c. search needs)
-    returns-5)
+    returns-4)

@@ -1,0 +1,2 @@
+-- What the contracts of `line` cite beside `model`.
+pub mod Ranges

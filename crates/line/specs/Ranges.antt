@@ -1,0 +1,12 @@
+-- The lowest and the highest operand of a kind (01, the table of "The plan as text"): do is 0, take 1, give 2, start 3.
+use Prim.Native.Nat.{ℕ, _-_}
+use mathlib.Core.Bool.{cond}
+use lib.Dec.{eqb}
+use Rattle.model.specs.Board.{devices}
+use Rattle.model.specs.Line.{maxJob}
+
+abbrev pub lowestOf : ℕ → ℕ
+lowestOf k = cond (eqb k 3) 2 0
+
+abbrev pub highestOf : ℕ → ℕ
+highestOf k = cond (eqb k 0) 255 (cond (eqb k 3) maxJob (devices - 1))
