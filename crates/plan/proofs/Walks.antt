@@ -7,14 +7,17 @@ use native.Mathlib.Numerals.{add-one}
 use native.Mathlib.Omega.{arith}
 use lib.ListN.{length, drop, drop-of-length-le}
 use lib.Seq.{drop-cons}
+use borrow.Author.Tests.{le-leb}
+use Rattle.model.specs.Answers.{firstRefusal, refuseIf}
 use Rattle.model.specs.Board.{devices}
 use Rattle.model.specs.Line.{job, at, maxLines, maxJob}
 use Rattle.model.specs.WellFormed.{before, lineFault, firstFault}
 use Rattle.model.specs.declared.Refusal.{Refusal}
+use Rattle.model.specs.declared.Refusal.the-variants.{TooManyLines}
 use Rattle.theory.proofs.Line.{line-parts}
 use Rattle.plan.specs.Checked.{checked}
 use Rattle.plan.specs.Tables.{none-yet, Tables}
-use Rattle.plan.specs.Walk.{Next, on, bad, stepOf, heldIn, Stack, nextBy, WalkingBy, Walked}
+use Rattle.plan.specs.Walk.{Next, on, bad, placeFault, stepOf, heldIn, Stack, nextBy, WalkingBy, Walked}
 use Rattle.plan.specs.declared.After.{After}
 use Rattle.plan.specs.declared.Checked.{Checked}
 use Rattle.plan.proofs.Stands.{Stands, begins, Stepped, goes, stops, stepped}
@@ -92,3 +95,11 @@ module _ (p : List ℕ) (i prev depth : ℕ) (stack first starter : List ℕ) (s
                 stands = stands;
                 ahead = s .ahead ∙ ahead-on none z;
               }
+
+    -- a line over the limit has that fault, whatever it says
+    over-limit : maxLines ≤ i → bad TooManyLines ≡ stepOf devices (at p i) i prev (heldIn depth stack) first starter
+    unfolding stepOf placeFault firstRefusal refuseIf
+    over-limit many = rw (le-leb maxLines i many)
+
+    pub at-limit : i < length p → maxLines ≤ i → (f t : List ℕ) → Walked p (Checked.Refused TooManyLines) f t
+    at-limit h many f t = at-refusal h (After.Bad TooManyLines) [] [] [] (over-limit many) TooManyLines refl f t

@@ -16,6 +16,7 @@ use Rattle.model.specs.WellFormed.{isLast, firstFault}
 use Rattle.model.specs.declared.Refusal.{Refusal}
 use Rattle.model.specs.declared.Refusal.the-variants.{Malformed, TooManyLines, JobOutOfSequence, BadStart}
 use Rattle.model.specs.declared.Refusal.the-variants.{GiveWithoutTake}
+use Rattle.sets.specs.Both.{without}
 use Rattle.sets.specs.Only.{onlyOf}
 use Rattle.plan.specs.Checked.{checked}
 use Rattle.plan.specs.Tables.{Tables}
@@ -76,6 +77,10 @@ pub record Stack (stack : List ℕ) : Type 0 where
 -- the set of the device that a line gives
 abbrev pub givenBy : ℕ → ℕ
 givenBy n = cond (isGive n) (onlyOf devices (operand n)) empty
+
+-- a line gives another device than the one taken last
+abbrev pub misgiven : ℕ → ℕ → Bool
+misgiven n latest = not (eqb (without (givenBy n) (onlyOf devices latest)) empty)
 
 -- the depth after a line that breaks nothing
 abbrev pub depthAfter : ℕ → ℕ → ℕ

@@ -11,7 +11,7 @@ ghost use mathlib.Core.Path.{_≡_};
 ghost use mathlib.Core.Bool.{true, false, cond, not, _&&_, _||_};
 ghost use lib.Dec.{eqb, ltb};
 ghost use mathlib.Core.List.{List, []};
-ghost use Prim.Native.Nat.{ℕ, suc, _+_, _-_, _≤_, _<_};
+ghost use Prim.Native.Nat.{ℕ, suc, min, _+_, _-_, _≤_, _<_};
 ghost use lib.ListN.{length, getD, set};
 ghost use Rattle.model.specs.Line.{job, operand, isTake, isGive, isStart, isLine, maxLines, maxJob};
 ghost use Rattle.model.specs.Sets.{empty, member};
@@ -23,7 +23,7 @@ ghost use Rattle.plan.specs.Checked.{checked};
 ghost use Rattle.plan.specs.Tables.{none-yet, Tables};
 ghost use Rattle.plan.specs.Ends.{lowerOf, earlierOf, EndsAs, WholeAs, ScansAs, ScansHoldingAs};
 ghost use Rattle.plan.specs.Again.{none-again};
-ghost use Rattle.plan.specs.Walk.{placeFault, ruleOf, stepOf, heldIn, givenBy, Stack, Walking, Walked};
+ghost use Rattle.plan.specs.Walk.{placeFault, ruleOf, stepOf, heldIn, misgiven, Stack, Walking, Walked};
 ghost use Rattle.plan.specs.Walk.{nextBy, StackBy, WalkingBy};
 ghost use Rattle.plan.specs.Noting.{changeOf, handledBy, NotesAs, NotesOf};
 ghost use Rattle.plan.specs.declared.Checked.{Checked};
@@ -74,29 +74,28 @@ fn deeper(depth: u32, takes: bool, gives: bool) -> u32
 // Is a give not of the device taken last? One test of a word, so that there is no branch on whether it is a give: verbs
 // come in no order, and the processor would guess such a branch wrong at every other line.
 fn misgives(n: u32, latest: u8) -> bool
-    ensures { λ r. ⌜ r ≡ not (eqb (without (givenBy n) (onlyOf devices latest)) empty) ⌝ }
+    ensures { λ r. ⌜ r ≡ misgiven n latest ⌝ }
 {
     let given = sets::only_if(line::is_give(n), line::operand(n));
     sets::without(given, sets::only(latest as u32)) != sets::NONE
 }
 
-// The rule of a do, a take or a give, at position i, without a branch on the verb. The operand is stacked above the
-// open takes whatever the verb; it counts where the depth goes up. Place 0 has a number that no give names.
+// What a do, a take or a give leads to, at position i, without a branch on the verb; a give is of the device taken last.
+// The operand is stacked above the open takes whatever the verb; it counts where the depth goes up.
 fn held_after(i: usize, n: u32, depth: u32, stack: &mut [u8; STACK_PLACES]) -> After
-    requires { ⌜ (i < maxLines) × (depth ≤ i) × (isLine devices n ≡ true) × (isStart n ≡ false) × Stack (now stack) ⌝ }
+    requires { ⌜ (i < maxLines) × (depth ≤ i) × (isLine devices n ≡ true) × (isStart n ≡ false) × Stack (now stack)
+        × (misgiven n (getD (now stack) depth 0) ≡ false) ⌝ }
     ensures led { λ r. ⌜ ((first starter : List ℕ) → nextBy r (now (stack .exit)) first starter
         ≡ ruleOf i n (heldIn depth (now (stack .entry))) first starter) ⌝ }
     ensures keeps { λ r. ⌜ StackBy i r (now (stack .exit)) ⌝ }
 {
-    let t = depth as usize;
-    if misgives(n, stack[t]) {
-        return After::Bad(Refusal::GiveWithoutTake((i + 1) as u32));
-    }
-    stack[t + 1] = line::operand(n) as u8;
+    stack[depth as usize + 1] = line::operand(n) as u8;
     After::On(deeper(depth, line::is_take(n), line::is_give(n)))
 }
 
-// The verb's own rule, at position i. A start that keeps it is its job's starter.
+// The verb's own rule, at position i. That of a give is asked first, of every verb: so the test is no branch on the
+// verb, and what is given is worked out once. Place 0 has a number that no give names. A start that keeps its rule is
+// its job's starter.
 fn rule(
     i: usize,
     n: u32,
@@ -111,6 +110,9 @@ fn rule(
     ensures keeps { λ r. ⌜ StackBy i r (now (stack .exit)) ⌝ }
     ensures long { λ r. ⌜ length (now (starter .exit)) ≡ suc maxJob ⌝ }
 {
+    if misgives(n, stack[depth as usize]) {
+        return After::Bad(Refusal::GiveWithoutTake((i + 1) as u32));
+    }
     if line::is_start(n) {
         let o = line::operand(n);
         let t = o as usize;
@@ -231,9 +233,20 @@ fn note_if(
 
 // ---- the whole plan
 
+// The lesser of two numbers of lines.
+fn fewer(a: usize, b: usize) -> usize
+    ensures { λ r. ⌜ r ≡ min a b ⌝ }
+{
+    if a < b {
+        return a;
+    }
+    b
+}
+
 // The walk along the lines: the first line with a fault decides. Where there is none, the tables are the plan's, and
 // so are the flags and what each job holds at the end, where they are asked for: to read or write a plan nobody needs
-// them.
+// them. It stops before the first line over the limit, which has that fault whatever it says: so no line on the way
+// can be over it, and the compiler drops the test at each.
 fn walk(
     plan: &[u32],
     noting: bool,
@@ -254,7 +267,8 @@ fn walk(
     let mut held: Set = sets::NONE;
     let mut prev: u32 = 0;
     let mut i: usize = 0;
-    while i < plan.len() {
+    let stop = fewer(plan.len(), MOST_LINES);
+    while i < stop {
         let n = plan[i];
         match checked_line(i, n, prev, depth, &mut stack, first, starter) {
             After::Bad(r) => {
@@ -267,6 +281,9 @@ fn walk(
                 i += 1;
             }
         }
+    }
+    if stop < plan.len() {
+        return Checked::Refused(Refusal::TooManyLines);
     }
     Checked::Fine
 }

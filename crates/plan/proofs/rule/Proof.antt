@@ -1,4 +1,4 @@
--- `plan::rule` meets its contract: a start by its own test, any other verb by `held_after`.
+-- `plan::rule` meets its contract: a give by `misgives`, a start by its own test, what is left by `held_after`.
 use mathlib.Core.Path.{_≡_, sym, _∙_}
 use mathlib.Core.Bool.{true, false, _&&_}
 use mathlib.Core.List.{List}
@@ -14,6 +14,7 @@ use Rattle.model.specs.declared.Refusal.the-variants.{BadStart}
 use Rattle.theory.proofs.Line.{start-operand, take-no-start, give-no-start}
 use Rattle.theory.proofs.Tests.{clash, falsely}
 use Rattle.plan.specs.Walk.{on, bad, ruleOf, heldIn}
+use Rattle.plan.proofs.Stacks.{wrongly-given}
 use borrow.Author.Needs.{needs}
 use Rattle.plan.proofs.rule.Statement.{statement}
 use Rattle.plan.proofs.rule.Tie as tie
@@ -35,76 +36,105 @@ module _ (i n : ℕ) (held starter : List ℕ) (s : isStart n ≡ true) where
   unfolding ruleOf lineNumber
   not-begun e first = rw (no-take, no-give, s, e, add-one)
 
+-- a give of what is not the latest
+element-copy-out-misgives : tie.Need-element-copy-out-misgives
+element-copy-out-misgives c = omega (arith, c .pre .0, c .pre .1, c .pre .3 .long)
+
+returns : tie.Need-returns
+returns c =
+    let s = c .before .before .before in
+    let a = s .args in (
+      λ first. wrongly-given (a .n) (a .depth) (a .stack .now) (s .pre .3) (s .pre .2) (a .i)
+          (sym (c .before .misgives .ensures) ∙ c .if1 .taken) first (a .starter .now),
+      (tt, s .pre .4),
+    )
+
+-- the function's entry, from where it is told whether the line is a start
+abbrev entry : tie.After-is-start → tie.Start
+entry c = c .before .before .before .before
+
 -- a start's operand has its entry
-element-copy-out-if2 : tie.Need-element-copy-out-if2
+element-copy-out-if3 : tie.Need-element-copy-out-if3
 unfolding isStart
-element-copy-out-if2 c =
+element-copy-out-if3 c =
     let f = c .before .before .before in
-    let s = f .before in
+    let s = entry f in
     omega (
       arith,
       c .before .operand .ensures,
       start-operand devices (s .args .n) (s .pre .2)
-          (eqb-true (kind (s .args .n)) 3 (sym (f .is-start .ensures) ∙ c .before .before .if1 .taken)),
+          (eqb-true (kind (s .args .n)) 3 (sym (f .is-start .ensures) ∙ c .before .before .if2 .taken)),
     )
 
 element-write-starter : tie.Need-element-write-starter
-element-write-starter c = element-copy-out-if2 (c .before .before)
+element-write-starter c = element-copy-out-if3 (c .before .before)
 
 -- a start that is in order
-returns : tie.Need-returns
-returns c =
-    let o = c .before .before .before in
-    let f = o .before .before in
-    let s = f .before in
-    let a = s .args in
-    rw (o .operand .ensures) (
-      begun (a .i) (a .n) (heldIn (a .depth) (a .stack .now)) (a .starter .now)
-          (sym (f .is-start .ensures) ∙ o .before .if1 .taken)
-          (rw (c .before .before .job .ensures, o .operand .ensures) at (c .if2 .taken)),
-      ((omega (arith, s .pre .1), s .pre .3), length-set (a .starter .now) (operand (a .n)) (a .i + 1) ∙ s .pre .4),
-    )
-
--- one that is not
 returns-2 : tie.Need-returns-2
 returns-2 c =
     let o = c .before .before .before in
     let f = o .before .before in
-    let s = f .before in
+    let s = entry f in
+    let a = s .args in
+    rw (o .operand .ensures) (
+      begun (a .i) (a .n) (heldIn (a .depth) (a .stack .now)) (a .starter .now)
+          (sym (f .is-start .ensures) ∙ o .before .if2 .taken)
+          (rw (c .before .before .job .ensures, o .operand .ensures) at (c .if3 .taken)),
+      ((omega (arith, s .pre .1), s .pre .3), length-set (a .starter .now) (operand (a .n)) (a .i + 1) ∙ s .pre .4),
+    )
+
+-- one that is not
+returns-3 : tie.Need-returns-3
+returns-3 c =
+    let o = c .before .before .before in
+    let f = o .before .before in
+    let s = entry f in
     let a = s .args in (
       not-begun (a .i) (a .n) (heldIn (a .depth) (a .stack .now)) (a .starter .now)
-          (sym (f .is-start .ensures) ∙ o .before .if1 .taken)
-          (rw (c .before .before .job .ensures, o .operand .ensures) at (c .if2 .left)),
+          (sym (f .is-start .ensures) ∙ o .before .if2 .taken)
+          (rw (c .before .before .job .ensures, o .operand .ensures) at (c .if3 .left)),
       (tt, s .pre .4),
     )
 
 held-after-requires : tie.Need-held-after-requires
 held-after-requires c κs =
-    let s = c .before .before .before in
-    (s .pre .0, s .pre .1, s .pre .2, sym (c .before .before .is-start .ensures) ∙ c .before .if1 .left, s .pre .3)
+    let f = c .before .before in
+    let s = entry f in (
+      s .pre .0,
+      s .pre .1,
+      s .pre .2,
+      sym (f .is-start .ensures) ∙ c .before .if2 .left,
+      s .pre .3,
+      sym (f .before .before .misgives .ensures) ∙ f .before .if1 .left,
+    )
 
 -- another verb
-returns-3 : tie.Need-returns-3
-returns-3 c = let s = c .before .before .before .before in
+returns-4 : tie.Need-returns-4
+returns-4 c = let s = entry (c .before .before .before) in
     (λ first. c .held-after .ensures .0 first (s .args .starter .now), (c .held-after .ensures .1, s .pre .4))
 
 pub rule-spec : {M : Type 1} → statement M
 rule-spec =
     tie.close
     (tie.spec
+    element-copy-out-misgives
+    (λ c κs. search needs)
+    (λ c. search needs)
+    (λ c. search needs)
+    returns
     (λ c κs. search needs)
     (λ c κs. search needs)
     (λ c. search needs)
     (λ c κs. search needs)
     (λ c. search needs)
-    element-copy-out-if2
+    element-copy-out-if3
     (λ c. search needs)
     (λ c. search needs)
     (λ c. search needs)
     element-write-starter
-    returns
-    (λ c. search needs)
-    (λ c. search needs)
     returns-2
+    (λ c. search needs)
+    (λ c. search needs)
+    returns-3
     held-after-requires
-    returns-3)
+    returns-4)

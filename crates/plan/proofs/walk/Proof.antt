@@ -5,29 +5,31 @@ use mathlib.Core.Path.{_≡_, refl}
 use native.Mathlib.Omega.{arith}
 use lib.ListN.{length}
 use Rattle.model.specs.Sets.{empty}
-use Rattle.plan.proofs.Walks.{At, at-start, at-end, at-refusal, at-line, at-next}
+use Rattle.plan.proofs.Walks.{At, at-start, at-end, at-limit, at-refusal, at-line, at-next}
 use Rattle.plan.proofs.Notes.{Notes, notes-start, notes-next, notes-end}
 use borrow.Author.Needs.{needs}
 use Rattle.plan.proofs.walk.Statement.{statement}
 use Rattle.plan.proofs.walk.Tie as tie
 
 abbrev Inv-loop : tie.InvT-loop
-Inv-loop plan noting first₀ starter₀ again₀ holdings₀ stack₀ added₀ depth₀ held₀ prev₀ i₀
+Inv-loop plan noting first₀ starter₀ again₀ holdings₀ stack₀ added₀ depth₀ held₀ prev₀ i₀ stop
     first starter again holdings stack added depth held prev i =
     At plan i prev depth stack first starter × (noting ≡ true → Notes plan i depth held stack added again holdings)
+    × (i ≤ stop)
 
 abbrev μ-loop : tie.MeasureT-loop
-μ-loop plan noting first₀ starter₀ again₀ holdings₀ stack₀ added₀ depth₀ held₀ prev₀ i₀
+μ-loop plan noting first₀ starter₀ again₀ holdings₀ stack₀ added₀ depth₀ held₀ prev₀ i₀ stop
     first starter again holdings stack added depth held prev i =
-    length plan - i
+    stop - i
 
 loop-holds : tie.Need-loop-holds Inv-loop μ-loop
 unfolding empty
-loop-holds c = let s = c .before in (
+loop-holds c = let s = c .before .before in (
   at-start (s .args .plan .now) _ (s .args .first .now) (s .args .starter .now)
       (record { long = refl; floor = refl }) (s .pre .0) (s .pre .1),
   λ t. notes-start (s .args .plan .now) _ _ (s .args .again .now) (s .args .holdings .now) refl (s .pre .2)
       (s .pre .3),
+  omega arith,
 )
 
 checked-line-requires : tie.Need-checked-line-requires Inv-loop μ-loop
@@ -46,10 +48,11 @@ returns : tie.Need-returns Inv-loop μ-loop
 returns c =
     let f = c .before .before .before .checked-line in
     let l = c .before .before .before .before .before .before .before .before .before in
-    let r = c .before .r .given in (
-      at-refusal (l .before .before .args .plan .now) (l .loop .i) (l .loop .prev) (l .loop .depth) (l .loop .stack)
-          (l .loop .first) (l .loop .starter) (l .loop .inv .0) (search needs) (f .result) (f .last .1 .1 .1 .1 .0)
-          (f .last .1 .1 .1 .1 .1 .0) (f .last .1 .1 .1 .1 .1 .1 .0) (f .ensures .0) (r .0 .0) (r .1) _ _,
+    let r = c .before .r .given in
+    let p = l .before .before .before .args .plan .now in (
+      at-refusal p (l .loop .i) (l .loop .prev) (l .loop .depth) (l .loop .stack) (l .loop .first) (l .loop .starter)
+          (l .loop .inv .0) (search needs) (f .result) (f .last .1 .1 .1 .1 .0) (f .last .1 .1 .1 .1 .1 .0)
+          (f .last .1 .1 .1 .1 .1 .1 .0) (f .ensures .0) (r .0 .0) (r .1) _ _,
       λ t z. let w : _≡_ {A = ℕ} 0 1 = cc in absurd (omega arith),
     )
 
@@ -60,9 +63,10 @@ note-if-requires c κs t =
     let d = c .before .before .before .before .d .given in
     let a = l .loop .inv .0 in
     let w = l .loop .inv .1 t in
-    let k = at-line (l .before .before .args .plan .now) (l .loop .i) (l .loop .prev) (l .loop .depth) (l .loop .stack)
-    (l .loop .first) (l .loop .starter) a (search needs) (f .result) (f .last .1 .1 .1 .1 .0)
-    (f .last .1 .1 .1 .1 .1 .0) (f .last .1 .1 .1 .1 .1 .1 .0) (f .ensures .0) (d .0 .0) (d .1) in
+    let p = l .before .before .before .args .plan .now in
+    let k = at-line p (l .loop .i) (l .loop .prev) (l .loop .depth) (l .loop .stack) (l .loop .first) (l .loop .starter)
+    a (search needs) (f .result) (f .last .1 .1 .1 .1 .0) (f .last .1 .1 .1 .1 .1 .0) (f .last .1 .1 .1 .1 .1 .1 .0)
+    (f .ensures .0) (d .0 .0) (d .1) in
     (k .0, a .deep, w .noted .long, w .flagged .long, w .kept .long, k .1)
 
 loop-again : tie.Need-loop-again Inv-loop μ-loop
@@ -72,9 +76,9 @@ loop-again c =
     let t = c .before .before .before .before .before .before .before .before .before .before .before .before .before in
     let l = t .before in
     let d = c .before .before .before .before .before .before .d .given in
-    let p = l .before .before .args .plan .now in
+    let p = l .before .before .before .args .plan .now in
     let a = at-next p (l .loop .i) (l .loop .prev) (l .loop .depth) (l .loop .stack) (l .loop .first) (l .loop .starter)
-    (l .loop .inv .0) (t .loop-test .taken) (f .result) (f .last .1 .1 .1 .1 .0) (f .last .1 .1 .1 .1 .1 .0)
+    (l .loop .inv .0) (search needs) (f .result) (f .last .1 .1 .1 .1 .0) (f .last .1 .1 .1 .1 .1 .0)
     (f .last .1 .1 .1 .1 .1 .1 .0) (f .ensures .0) (d .0 .0) (d .1) (f .ensures .1) in
     rw (c .job .ensures) (
       a,
@@ -84,19 +88,30 @@ loop-again c =
           (l .loop .first) (l .loop .starter) (l .loop .added) (l .loop .again) (l .loop .holdings) (l .loop .inv .0)
           (l .loop .inv .1 t) (f .result) (f .last .1 .1 .1 .1 .0) (f .last .1 .1 .1 .1 .1 .0)
           (f .last .1 .1 .1 .1 .1 .1 .0) (f .ensures .0) (d .0 .0) (d .1) a),
+      search needs,
+    )
+
+-- too many lines
+returns-2 : tie.Need-returns-2 Inv-loop μ-loop
+returns-2 c =
+    let l = c .before .before in
+    let p = l .before .before .before .args .plan .now in (
+      at-limit p (l .loop .i) (l .loop .prev) (l .loop .depth) (l .loop .stack) (l .loop .first) (l .loop .starter)
+          (l .loop .inv .0) (search needs) (search needs) _ _,
+      λ t z. let w : _≡_ {A = ℕ} 0 1 = cc in absurd (omega arith),
     )
 
 -- the end
-returns-2 : tie.Need-returns-2 Inv-loop μ-loop
-returns-2 c =
-    let l = c .before in
+returns-3 : tie.Need-returns-3 Inv-loop μ-loop
+returns-3 c =
+    let l = c .before .before in
     let s = l .loop .inv in
-    let e : l .loop .i ≡ length (l .before .before .args .plan .now) =
-    omega (arith, s .0 .at-most, c .loop-test .left) in (
-      at-end (l .before .before .args .plan .now) (l .loop .i) (l .loop .prev) (l .loop .depth) (l .loop .stack)
-          (l .loop .first) (l .loop .starter) (s .0) (c .loop-test .left),
-      λ t z. notes-end (l .before .before .args .plan .now) (l .loop .i) (l .loop .depth) (l .loop .held)
-          (l .loop .stack) (l .loop .added) (l .loop .again) (l .loop .holdings) e (s .1 t),
+    let p = l .before .before .before .args .plan .now in
+    let e : l .loop .i ≡ length p = omega (arith, s .0 .at-most, c .before .loop-test .left, c .if1 .left) in (
+      at-end p (l .loop .i) (l .loop .prev) (l .loop .depth) (l .loop .stack) (l .loop .first) (l .loop .starter)
+          (s .0) (omega arith),
+      λ t z. notes-end p (l .loop .i) (l .loop .depth) (l .loop .held) (l .loop .stack) (l .loop .added)
+          (l .loop .again) (l .loop .holdings) e (s .1 t),
     )
 
 pub walk-spec : {M : Type 1} → statement M
@@ -105,6 +120,7 @@ walk-spec =
     (tie.spec
     Inv-loop
     μ-loop
+    (λ c κs. search needs)
     loop-holds
     (λ c. search needs)
     (λ c. search needs)
@@ -117,4 +133,5 @@ walk-spec =
     (λ c. search needs)
     (λ c. search needs)
     loop-again
-    returns-2)
+    returns-2
+    returns-3)
