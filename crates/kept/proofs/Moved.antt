@@ -1,7 +1,7 @@
 -- What a move leaves of rows and held set, as the code keeps them, is what `model` says (02, request 4): the devices of
 -- the lasting takes on the way from the last line under the take are those of the lines that may change, asked of the
 -- edited plan; and a bit taken out and put in is a bit put as it should be.
-use Prim.Native.Nat.{ℕ, _-_, _^_, _<_, _≤_}
+use Prim.Native.Nat.{ℕ, _^_, _<_, _≤_}
 use mathlib.Core.Bool.{Bool, true, false, cond, not, _&&_, _||_}
 use mathlib.Core.List.{List, [], _∷_}
 use mathlib.Core.Logic.{_⊎_, inl, inr}

@@ -12,12 +12,11 @@ use model::Refusal;
 use plan::Checked;
 ghost use mathlib.Core.Path.{_≡_};
 ghost use mathlib.Core.Bool.{true, false, _&&_};
-ghost use Prim.Native.Nat.{ℕ, _%_, _^_, _-_, _≤_, _<_};
+ghost use Prim.Native.Nat.{_%_, _^_, _-_, _≤_, _<_};
 ghost use lib.Dec.{eqb};
-ghost use lib.ListN.{length};
 ghost use Rattle.model.specs.Lists.{has};
 ghost use Rattle.model.specs.Answers.{firstRefusal};
-ghost use Rattle.model.specs.Line.{operand, isTake, isGive, maxLines};
+ghost use Rattle.model.specs.Line.{operand, isTake, isGive};
 ghost use Rattle.model.specs.WellFormed.{heldThere};
 ghost use Rattle.model.specs.Move.{withDevice, edited, askedAt, isTakeOf};
 ghost use Rattle.model.specs.Board.{devices};
@@ -301,8 +300,8 @@ pub enum Through {
 }
 
 // The move, with what it has worked out on the way left in the lent arrays: as the edited plan has it, the first line
-// of each job, the line that starts it, and the flags of the lines that take again; as the plan had it before, what each
-// job holds at its end. Where the plan has a fault, they are left as they were.
+// of each job, the line that starts it, and the flags of the lines that take again; as the plan had it before, what
+// each job holds at its end. Where the plan has a fault, they are left as they were.
 pub fn move_through(
     plan: &mut [u32],
     sets: &mut [Set],

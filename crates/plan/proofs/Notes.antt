@@ -3,7 +3,7 @@
 use mathlib.Core.Path.{_≡_, refl, ap, sym, _∙_}
 use mathlib.Core.Bool.{Bool, true, false, cond, not}
 use mathlib.Core.List.{List, []}
-use Prim.Native.Nat.{ℕ, suc, _+_, _^_, _≤_, _<_}
+use Prim.Native.Nat.{ℕ, suc, _+_, _^_, _<_}
 use native.Mathlib.Numerals.{add-one}
 use native.Mathlib.Omega.{arith}
 use lib.Dec.{eqb}
@@ -11,7 +11,7 @@ use lib.ListN.{length, getD, set}
 use mir.Val.{boolByte}
 use Rattle.model.specs.Board.{devices}
 use Rattle.model.specs.Lists.{has}
-use Rattle.model.specs.Line.{job, isLine, at, maxLines}
+use Rattle.model.specs.Line.{job, at, maxLines}
 use Rattle.model.specs.Sets.{empty}
 use Rattle.model.specs.WellFormed.{heldThere}
 use Rattle.model.specs.Mate.{deviceAt, holdsAlready}
@@ -21,7 +21,7 @@ use Rattle.theory.proofs.Line.{line-parts}
 use Rattle.theory.proofs.Sets.{empty-below}
 use Rattle.theory.specs.Outer.{againAt, holdsBeneath}
 use Rattle.plan.specs.Walk.{stepOf, heldIn, nextBy}
-use Rattle.plan.specs.Noting.{handledBy, changeOf, changeAfter, Noted, NotesOf}
+use Rattle.plan.specs.Noting.{handledBy, changeAfter, Noted, NotesOf}
 use Rattle.plan.specs.Again.{none-again}
 use Rattle.plan.specs.Tables.{none-yet}
 use Rattle.plan.specs.declared.After.{After}
@@ -31,7 +31,7 @@ use Rattle.plan.proofs.Stands.{there-is}
 use Rattle.plan.proofs.Walks.{At}
 use Rattle.plan.proofs.Flags.{Flagged, none-flagged, one-flagged, all-flagged}
 use Rattle.plan.proofs.Holdings.{Held, nothing-held, one-held, all-held}
-use Rattle.plan.proofs.Noting.{heldNext, againIn, none-noted, noted-or-none, says, change-of-below, Went, went}
+use Rattle.plan.proofs.Noting.{againIn, none-noted, noted-or-none, says, change-of-below, Went, went}
 
 pub record Notes (p : List ℕ) (i depth held : ℕ) (stack added again left : List ℕ) : Type 0 where
   pub noted : Noted (heldIn depth stack) held added

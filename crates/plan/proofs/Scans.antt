@@ -1,19 +1,16 @@
 -- What a scan of the whole plan answers and leaves, from what the walk and the last tests found.
 use mathlib.Core.Path.{_≡_, refl, ap, sym, _∙_}
 use mathlib.Core.List.{List, []}
-use mathlib.Core.Option.{Option, none, some}
+use mathlib.Core.Option.{Option}
 use Prim.Native.Nat.{ℕ}
 use native.Mathlib.Omega.{arith}
-use lib.ListN.{length}
 use Rattle.model.specs.Board.{devices}
 use Rattle.model.specs.Answers.{firstRefusal}
 use Rattle.model.specs.WellFormed.{firstFault, fault}
 use Rattle.model.specs.declared.Refusal.{Refusal}
-use Rattle.plan.specs.Checked.{checked}
 use Rattle.plan.specs.Jobs.{firstLines, starters}
 use Rattle.plan.specs.Again.{againFlags}
 use Rattle.plan.specs.Holdings.{holdings}
-use Rattle.plan.specs.Tables.{Tables}
 use Rattle.plan.specs.Walk.{Walked}
 use Rattle.plan.specs.Noting.{NotesOf}
 use Rattle.plan.specs.Ends.{EndsAs, WholeAs, leftBy, ScansHoldingAs}

@@ -1,6 +1,6 @@
 -- The whole walk, from line to line: the fault of the lines not yet passed is that of all of them.
 use mathlib.Core.Path.{_≡_, refl, ap, sym, _∙_}
-use mathlib.Core.List.{List, [], _∷_}
+use mathlib.Core.List.{List, []}
 use mathlib.Core.Option.{Option, none, some}
 use Prim.Native.Nat.{ℕ, suc, _+_, _≤_, _<_}
 use native.Mathlib.Numerals.{add-one}
@@ -16,8 +16,8 @@ use Rattle.model.specs.declared.Refusal.{Refusal}
 use Rattle.model.specs.declared.Refusal.the-variants.{TooManyLines}
 use Rattle.theory.proofs.Line.{line-parts}
 use Rattle.plan.specs.Checked.{checked}
-use Rattle.plan.specs.Tables.{none-yet, Tables}
-use Rattle.plan.specs.Walk.{Next, on, bad, placeFault, stepOf, heldIn, Stack, nextBy, WalkingBy, Walked}
+use Rattle.plan.specs.Tables.{none-yet}
+use Rattle.plan.specs.Walk.{on, bad, placeFault, stepOf, heldIn, Stack, nextBy, WalkingBy, Walked}
 use Rattle.plan.specs.declared.After.{After}
 use Rattle.plan.specs.declared.Checked.{Checked}
 use Rattle.plan.proofs.Stands.{Stands, begins, Stepped, goes, stops, stepped}

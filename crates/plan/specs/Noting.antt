@@ -10,7 +10,7 @@ use lib.ListN.{length, getD, set}
 use mir.Val.{boolByte}
 use Rattle.model.specs.Board.{devices}
 use Rattle.model.specs.Lists.{has}
-use Rattle.model.specs.Line.{job, operand, isTake, isGive, maxLines}
+use Rattle.model.specs.Line.{job, operand, isTake, maxLines}
 use Rattle.model.specs.Sets.{empty, union, member}
 use Rattle.sets.specs.Both.{both, differ, without}
 use Rattle.sets.specs.Only.{onlyOf}

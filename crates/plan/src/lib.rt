@@ -8,19 +8,18 @@ use board::MOST_LINES;
 use board::Set;
 use model::Refusal;
 ghost use mathlib.Core.Path.{_≡_};
-ghost use mathlib.Core.Bool.{true, false, cond, not, _&&_, _||_};
-ghost use lib.Dec.{eqb, ltb};
+ghost use mathlib.Core.Bool.{true, false, cond, not};
+ghost use lib.Dec.{eqb};
 ghost use mathlib.Core.List.{List, []};
 ghost use Prim.Native.Nat.{ℕ, suc, min, _+_, _-_, _≤_, _<_};
-ghost use lib.ListN.{length, getD, set};
-ghost use Rattle.model.specs.Line.{job, operand, isTake, isGive, isStart, isLine, maxLines, maxJob};
-ghost use Rattle.model.specs.Sets.{empty, member};
+ghost use lib.ListN.{length, getD};
+ghost use Rattle.model.specs.Line.{job, operand, isStart, isLine, maxLines, maxJob};
+ghost use Rattle.model.specs.Sets.{empty};
 ghost use Rattle.model.specs.WellFormed.{fault, firstFault};
 ghost use Rattle.model.specs.Board.{devices};
 ghost use Rattle.sets.specs.Both.{differ, without};
-ghost use Rattle.sets.specs.Only.{onlyOf};
 ghost use Rattle.plan.specs.Checked.{checked};
-ghost use Rattle.plan.specs.Tables.{none-yet, Tables};
+ghost use Rattle.plan.specs.Tables.{none-yet};
 ghost use Rattle.plan.specs.Ends.{lowerOf, earlierOf, EndsAs, WholeAs, ScansAs, ScansHoldingAs};
 ghost use Rattle.plan.specs.Again.{none-again};
 ghost use Rattle.plan.specs.Walk.{placeFault, ruleOf, stepOf, heldIn, misgiven, Stack, Walking, Walked};
@@ -80,8 +79,8 @@ fn misgives(n: u32, latest: u8) -> bool
     sets::without(given, sets::only(latest as u32)) != sets::NONE
 }
 
-// What a do, a take or a give leads to, at position i, without a branch on the verb; a give is of the device taken last.
-// The operand is stacked above the open takes whatever the verb; it counts where the depth goes up.
+// What a do, a take or a give leads to, at position i, without a branch on the verb; a give is of the device taken
+// last. The operand is stacked above the open takes whatever the verb; it counts where the depth goes up.
 fn held_after(i: usize, n: u32, depth: u32, stack: &mut [u8; STACK_PLACES]) -> After
     requires { ⌜ (i < maxLines) × (depth ≤ i) × (isLine devices n ≡ true) × (isStart n ≡ false) × Stack (now stack)
         × (misgiven n (getD (now stack) depth 0) ≡ false) ⌝ }

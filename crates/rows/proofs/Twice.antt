@@ -1,23 +1,22 @@
 -- What the jobs hold after their last lines tells which devices are held to the end, and which have two lasting takes
 -- (02, request 4): a job has one lasting take of a device at most.
-use Prim.Native.Nat.{ℕ, zero, suc, _^_, _≤_, _<_}
-use mathlib.Core.Bool.{Bool, true, false}
+use Prim.Native.Nat.{ℕ, zero, suc, _^_, _<_}
+use mathlib.Core.Bool.{true}
 use mathlib.Core.List.{List, [], _∷_, map}
 use mathlib.Core.Logic.{_⊎_, inl, inr, _≢_}
-use mathlib.Core.Option.{none}
-use mathlib.Core.Path.{_≡_, refl, sym, _∙_, ap}
+use mathlib.Core.Path.{_≡_, sym, _∙_, ap}
 use native.Mathlib.Omega.{arith}
 use lib.Dec.{leb}
 use lib.ListN.{length}
 use Rattle.model.specs.Board.{devices}
-use Rattle.model.specs.Lists.{upFrom, positions, any, has}
+use Rattle.model.specs.Lists.{upFrom, positions, has}
 use Rattle.model.specs.Line.{job, at, maxJob}
 use Rattle.model.specs.Mate.{lasting}
-use Rattle.model.specs.Sets.{empty, union, unionOf, member, devicesWhere}
+use Rattle.model.specs.Sets.{empty, unionOf, member}
 use Rattle.model.specs.Rows.{lastingTakes}
-use Rattle.model.specs.WellFormed.{before, heldBy, WellFormed, fault}
+use Rattle.model.specs.WellFormed.{before, heldBy, WellFormed}
 use Rattle.model.specs.Kept.{lastsAmong, lastsIn, heldToEnd}
-use Rattle.theory.proofs.Tests.{clash, test, and-split, and-both, tests-agree}
+use Rattle.theory.proofs.Tests.{clash, and-split, and-both, tests-agree}
 use Rattle.theory.proofs.Lists.{has-head, has-tail, has-cases, has-upFrom, upFrom-has, position-has, any-found, any-at}
 use Rattle.theory.proofs.Sets.{member-empty, in-union, in-left, in-right, in-unionOf, unionOf-in, empty-below}
 use Rattle.theory.proofs.Sets.{union-below}

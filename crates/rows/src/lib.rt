@@ -24,7 +24,7 @@ ghost use Rattle.rows.specs.Lasting.{wantedBefore, rowJoined};
 ghost use Rattle.rows.specs.Twice.{twiceIn};
 ghost use Rattle.rows.specs.declared.HoldsAnswer.{HoldsAnswer};
 ghost use Rattle.model.specs.Sets.{unionOf};
-ghost use Rattle.rows.specs.Holds.{PassedOn, JoinedOn, HeldAs, WalkedAs, HoldsAs};
+ghost use Rattle.rows.specs.Holds.{PassedOn, JoinedOn, WalkedAs, HoldsAs};
 ghost use Rattle.rows.specs.Holds.{TabledAs, holdsBy};
 
 mod search;

@@ -14,7 +14,7 @@ use lib.ListN.{length, getD, set, length-set, getD-replicate}
 use lib.Seq.{getD-set-same, getD-set-other}
 use borrow.Author.Tests.{eqb-true, eqb-false, eq-eqb, ne-eqb, le-leb, lt-leb, leb-true, lt-ltb, le-ltb, not-true}
 use Rattle.model.specs.Lists.{any, has}
-use Rattle.model.specs.Sets.{empty, union, member}
+use Rattle.model.specs.Sets.{member}
 use Rattle.model.specs.Line.{at, isTake, operand, maxLines}
 use Rattle.model.specs.Mate.{takesAt, deviceAt, takes}
 use Rattle.model.specs.Handed.{undone, alone}

@@ -13,7 +13,6 @@ ghost use lib.Dec.{eqb};
 ghost use lib.ListN.{length, getD, set};
 ghost use Rattle.model.specs.Lists.{firstOf};
 ghost use Rattle.model.specs.Sets.{empty};
-ghost use Rattle.model.specs.Line.{at};
 ghost use Rattle.model.specs.Move.{changed};
 ghost use Rattle.mates.specs.Found.{found};
 ghost use Rattle.way.specs.Back.{lineBefore, beginOf, wayBy, underBy};

@@ -1,5 +1,5 @@
 -- `kept::job_at` meets its contract: past the plan's end stands 0, a line of no job.
-use mathlib.Core.Path.{_≡_, sym, _∙_, ap}
+use mathlib.Core.Path.{sym, ap}
 use native.Mathlib.Omega.{arith}
 use lib.ListN.{List·getD-eq-default}
 use borrow.Author.Needs.{needs}

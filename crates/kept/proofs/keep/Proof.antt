@@ -27,7 +27,8 @@ slice-aggregate-flagged-devices c = sym (ap length (c .before .before .gather .e
 -- the held set has its place: the function's entry, from where it is read; it is written two calls later
 abbrev entry : tie.After-slice-known4 → tie.Start
 entry c =
-    let at-gather = c .before .before .before .before .before .before .before .before .before .before .before .before .before in
+    let at-put = c .before .before .before in
+    let at-gather = at-put .before .before .before .before .before .before .before .before .before .before in
     at-gather .before .before .before .before .before .before .before .before
 
 slice-read-with-device : tie.Need-slice-read-with-device

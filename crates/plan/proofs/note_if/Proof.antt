@@ -1,7 +1,5 @@
 -- `plan::note_if` meets its contract.
-use mathlib.Core.Path.{sym}
 use Rattle.theory.proofs.Tests.{clash}
-use borrow.Author.Needs.{needs}
 use Rattle.plan.proofs.note_if.Statement.{statement}
 use Rattle.plan.proofs.note_if.Tie as tie
 

@@ -24,7 +24,8 @@ returns c =
     let at-scan = c .before .before .before in
     let p = at-scan .before .before .before .before .before .before .args .plan .now in
     let r = c .before .r .given .0 .0 in
-    held-refused p r (told (fault devices p) r (sym (c .before .r .given .1) ∙ at-scan .scan-holding .ensures .scanned .answers))
+    held-refused p r
+    (told (fault devices p) r (sym (c .before .r .given .1) ∙ at-scan .scan-holding .ensures .scanned .answers))
 
 -- what the jobs hold is the plan's
 held-is : (c : tie.After-enum-told)
