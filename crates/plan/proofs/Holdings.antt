@@ -18,7 +18,7 @@ use Rattle.theory.proofs.Claims.{length-upFrom, getD-upFrom}
 use Rattle.theory.proofs.Held.{held-foreign}
 use Rattle.theory.proofs.Sets.{member-empty, empty-below}
 use Rattle.theory.proofs.Tests.{test}
-use Rattle.theory.proofs.Where.{member-where, is-where}
+use Rattle.theory.proofs.Where.{member-where, where-below, is-where}
 use Rattle.plan.specs.Holdings.{holding, holdings}
 use Rattle.plan.specs.Tables.{none-yet}
 use Rattle.plan.proofs.Tables.{table-is}
@@ -80,11 +80,21 @@ pub holdings-long : (p : List ℕ) → length (holdings p) ≡ suc maxJob
 unfolding holdings
 holdings-long p = length-map (upFrom 0 (suc maxJob)) (holding p) ∙ length-upFrom 0 (suc maxJob)
 
--- job j holds device d after the last line exactly if d is in its entry
+-- the members of a job's set are the devices that it holds after the last line
+pub holding-has : (p : List ℕ) (j d : ℕ) → d < devices
+    → member (holding p j) d ≡ has d (heldBy j (before p (length p)))
+unfolding holding
+holding-has p j d h = member-where (λ e. has e (heldBy j (before p (length p)))) devices d h
+
+pub holding-below : (p : List ℕ) (j : ℕ) → holding p j < 2 ^ devices
+unfolding holding
+holding-below p j = where-below (λ e. has e (heldBy j (before p (length p)))) devices
+
+-- and so it is of its entry in the list
 pub holding-at : (p : List ℕ) (j d : ℕ) → j ≤ maxJob → d < devices
     → member (getD (holdings p) j 0) d ≡ has d (heldBy j (before p (length p)))
-unfolding holdings holding
+unfolding holdings
 holding-at p j d h k =
     ap (λ (s : ℕ). member s d)
     (getD-upFrom (holding p) 0 (suc maxJob) j (omega arith) ∙ ap (holding p) (omega arith))
-    ∙ member-where (λ d. has d (heldBy j (before p (length p)))) devices d k
+    ∙ holding-has p j d k

@@ -27,8 +27,9 @@ use Rattle.theory.proofs.Claims.{takes-line}
 use Rattle.theory.proofs.Places.{lasting-parts}
 use Rattle.theory.proofs.JobEnds.{holds-lasting, lasting-holds, two-jobs}
 use Rattle.theory.proofs.Verdict.{lasts-twice-exactly}
-use Rattle.theory.proofs.Where.{where-below, member-where, is-where}
+use Rattle.theory.proofs.Where.{is-where}
 use Rattle.plan.specs.Holdings.{holding, holdings}
+use Rattle.plan.proofs.Holdings.{holding-has, holding-below}
 use Rattle.rows.specs.Twice.{twiceIn}
 use Rattle.rows.specs.Lasting.{heldTwice}
 
@@ -130,14 +131,6 @@ module _ (p : List ℕ) (w : WellFormed devices p) where
   abbrev jobs : List ℕ
   jobs = upFrom 0 (suc maxJob)
 
-  holding-has : (j d : ℕ) → d < devices → member (holding p j) d ≡ has d (heldBy j (before p (length p)))
-  unfolding holding
-  holding-has j d h = member-where (λ e. has e (heldBy j (before p (length p)))) devices d h
-
-  holding-below : (j : ℕ) → holding p j < 2 ^ devices
-  unfolding holding
-  holding-below j = where-below (λ e. has e (heldBy j (before p (length p)))) devices
-
   -- a lasting take stands in the plan, and its job is one of them
   lasts-at : (k d : ℕ) → lasting p k d ≡ true → k < length p
   lasts-at k d l = takes-line p k d (lasting-parts p k d l .0)
@@ -152,13 +145,14 @@ module _ (p : List ℕ) (w : WellFormed devices p) where
   pub one-of-jobs : unionOf (holdings p) ≡ heldToEnd devices p
   unfolding holdings heldToEnd lastsIn lastsAmong
   one-of-jobs =
-      is-where (lastsIn p) devices (unionOf (map (holding p) jobs)) (one-below devices (holding p) holding-below jobs)
+      is-where (lastsIn p) devices (unionOf (map (holding p) jobs))
+      (one-below devices (holding p) (holding-below p) jobs)
       (λ d h. tests-agree (member (unionOf (map (holding p) jobs)) d) (lastsIn p d) (to d h) (from d h))
     where
       to : (d : ℕ) → d < devices → member (unionOf (map (holding p) jobs)) d ≡ true → lastsIn p d ≡ true
       to d h m =
           let r = in-unionOf (holding p) jobs d m in
-          let k = holds-lasting p (w .rules) (r .0) d (sym (holding-has (r .0) d h) ∙ r .2) in
+          let k = holds-lasting p (w .rules) (r .0) d (sym (holding-has p (r .0) d h) ∙ r .2) in
           any-at (λ i. lasting p i d) (positions p) (k .0) (position-has p (k .0) (lasts-at (k .0) d (k .1))) (k .1)
 
       from : (d : ℕ) → d < devices → lastsIn p d ≡ true → member (unionOf (map (holding p) jobs)) d ≡ true
@@ -166,14 +160,14 @@ module _ (p : List ℕ) (w : WellFormed devices p) where
           let r = any-found (λ i. lasting p i d) (positions p) m in
           let j = job (at p (r .0)) in
           let l = lasting-holds p (w .rules) (r .0) d (r .2) in
-          unionOf-in (holding p) jobs j d (of-jobs j d l) (holding-has j d h ∙ l)
+          unionOf-in (holding p) jobs j d (of-jobs j d l) (holding-has p j d h ∙ l)
 
   -- and in two of them those with two lasting takes.
   pub two-of-jobs : twiceIn (holdings p) ≡ heldTwice devices p
   unfolding holdings heldTwice
   two-of-jobs =
       is-where (λ d. leb 2 (length (lastingTakes p d))) devices (twiceIn (map (holding p) jobs))
-      (twice-below devices (holding p) holding-below jobs)
+      (twice-below devices (holding p) (holding-below p) jobs)
       (λ d h. tests-agree (member (twiceIn (map (holding p) jobs)) d) (leb 2 (length (lastingTakes p d))) (to d h)
       (from d h))
     where
@@ -186,8 +180,8 @@ module _ (p : List ℕ) (w : WellFormed devices p) where
             t .i,
             t .k,
             t .apart,
-            sym (holding-has (t .i) d h) ∙ t .i-has,
-            sym (holding-has (t .k) d h) ∙ t .k-has,
+            sym (holding-has p (t .i) d h) ∙ t .i-has,
+            sym (holding-has p (t .k) d h) ∙ t .k-has,
           ))
 
       from : (d : ℕ) → d < devices → leb 2 (length (lastingTakes p d)) ≡ true
@@ -200,6 +194,6 @@ module _ (p : List ℕ) (w : WellFormed devices p) where
             apart = t .2;
             i-in = of-jobs (t .0) d (t .3);
             k-in = of-jobs (t .1) d (t .4);
-            i-has = holding-has (t .0) d h ∙ t .3;
-            k-has = holding-has (t .1) d h ∙ t .4;
+            i-has = holding-has p (t .0) d h ∙ t .3;
+            k-has = holding-has p (t .1) d h ∙ t .4;
           })

@@ -17,13 +17,13 @@ ghost use lib.Dec.{ltb};
 ghost use lib.ListN.{length, set};
 ghost use Rattle.model.specs.Board.{devices};
 ghost use Rattle.model.specs.Line.{operand, isTake, isLine, maxJob};
+ghost use Rattle.model.specs.Sets.{unionOf};
 ghost use Rattle.model.specs.WellFormed.{fault};
 ghost use Rattle.plan.specs.Again.{againFlags};
 ghost use Rattle.rows.specs.Where.{circlesOf};
 ghost use Rattle.rows.specs.Lasting.{wantedBefore, rowJoined};
 ghost use Rattle.rows.specs.Twice.{twiceIn};
 ghost use Rattle.rows.specs.declared.HoldsAnswer.{HoldsAnswer};
-ghost use Rattle.model.specs.Sets.{unionOf};
 ghost use Rattle.rows.specs.Holds.{PassedOn, JoinedOn, WalkedAs, HoldsAs};
 ghost use Rattle.rows.specs.Holds.{TabledAs, holdsBy};
 
