@@ -222,7 +222,7 @@ module _ {p again t rs flags first holdings : List ℕ} {passed : Passed} {behin
             clash (member empty d)
             (rw (same, nothing) at (skips .among i d lasts (λ q. other (sym same ∙ q)))) (member-empty d)
 
-    -- the line before the job's first is of an earlier job than the line passed last
+    -- the line before the job's first is of an earlier job
     before-job : (i : ℕ) → suc i ≡ listed .line → job (at p i) < j
     before-job i e = go (le-or-lt j (job (at p i)))
       where
@@ -235,6 +235,7 @@ module _ {p again t rs flags first holdings : List ℕ} {passed : Passed} {behin
             ) in
             absurd (omega (arith, listed .lowest i (omega (arith, above, here)) same))
 
+    -- so it is of another job than the line passed last
     earlier : (i : ℕ) → suc i ≡ listed .line → eqb (job (at p i)) (passed .job) ≡ false
     earlier i e = go (m .later k (omega arith))
       where

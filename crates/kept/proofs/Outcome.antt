@@ -73,9 +73,9 @@ unfolding askedAt
 asked-device p zero h = absurd (omega arith)
 asked-device p (suc i) h = refl
 
-module _ {p t : List ℕ} {line device : ℕ} {first starter again held : List ℕ} {answer : Through}
-    {p′ t′ first′ starter′ again′ held′ : List ℕ}
-    (m : MovesThrough p t line device first starter again held answer p′ t′ first′ starter′ again′ held′)
+module _ {p t : List ℕ} {line device : ℕ} {first starter again ofJobs : List ℕ} {answer : Through}
+    {p′ t′ first′ starter′ again′ ofJobs′ : List ℕ}
+    (m : MovesThrough p t line device first starter again ofJobs answer p′ t′ first′ starter′ again′ ofJobs′)
     {count stop : ℕ} (told : answer ≡ Through.Moved count stop) where
   none-refuses : moveRefusal devices p t line device ≡ none
   unfolding moving
@@ -175,7 +175,7 @@ module _ {p t : List ℕ} {line device : ℕ} {first starter again held : List �
       taken x e = edit-is .alike .jobs x ∙ e ∙ sym last-in-job
 
   -- what the scan left of the jobs serves the edited plan, but for the take's job
-  pub may-skip : Skips p′ first′ held′ (job (at p′ (stop - 1)))
+  pub may-skip : Skips p′ first′ ofJobs′ (job (at p′ (stop - 1)))
   may-skip = record {
     firsts = m .firsts ∙ left (firstLines p) first ∙ sym (same-firsts p p′ (edit-is .alike));
     among = among′;
@@ -185,7 +185,7 @@ module _ {p t : List ℕ} {line device : ℕ} {first starter again held : List �
       w = rw (plan-is, k .position) (k .fine)
 
       among′ : (x d : ℕ) → lasting p′ x d ≡ true → job (at p′ x) ≢ job (at p′ (stop - 1))
-          → member (getD held′ (job (at p′ x)) 0) d ≡ true
+          → member (getD ofJobs′ (job (at p′ x)) 0) d ≡ true
       among′ x d l n =
           let j = job (at p′ x) in
           let taken = lasting-parts p′ x d l .0 in
@@ -193,19 +193,19 @@ module _ {p t : List ℕ} {line device : ℕ} {first starter again held : List �
           let same : heldBy j (before p′ (length p′)) ≡ heldBy j (before p (length p′)) =
           held-alike p′ p j (length p′) (λ y h. edit-is .alike .jobs y)
           (λ y h e. other-line y (λ q. n (sym e ∙ q))) in
-          ap (λ xs. member (getD xs j 0) d) (m .holds ∙ left (holdings p) held)
+          ap (λ xs. member (getD xs j 0) d) (m .holds ∙ left (holdings p) ofJobs)
           ∙ holding-at p j d small (device-below devices p′ w x d taken)
           ∙ ap (λ (y : ℕ). has d (heldBy j (before p y))) (sym (edit-is .alike .long)) ∙ sym (ap (has d) same)
           ∙ lasting-holds p′ (w .rules) x d l
 
-  pub moves-kept : (rs ends : List ℕ) (old : ℕ) (rs′ ends′ : List ℕ) → devices ≤ length rs → 1 ≤ length ends
-      → getD ends 0 0 < 2 ^ devices → old ≡ deviceOf p line
-      → KeepsAs p′ starter′ t′ (stop - 1) old device rs ends rs′ ends′
-      → MovesKeptAs p t rs ends line device (MoveAnswer.Changed count) p′ t′ rs′ ends′
-  moves-kept rs ends old rs′ ends′ a b h o keeps =
+  pub moves-kept : (rs held : List ℕ) (old : ℕ) (rs′ held′ : List ℕ) → devices ≤ length rs → 1 ≤ length held
+      → getD held 0 0 < 2 ^ devices → old ≡ deviceOf p line
+      → KeepsAs p′ starter′ t′ (stop - 1) old device rs held rs′ held′
+      → MovesKeptAs p t rs held line device (MoveAnswer.Changed count) p′ t′ rs′ held′
+  moves-kept rs held old rs′ held′ a b h o keeps =
       rw (rows-are, held-are)
-      (met-accepted p (beside t rs ends) line device a b count p′ t′
-      (plainly-moved p t line device first starter again held answer p′ t′ first′ starter′ again′ held′ m count stop
+      (met-accepted p (beside t rs held) line device a b count p′ t′
+      (plainly-moved p t line device first starter again ofJobs answer p′ t′ first′ starter′ again′ ofJobs′ m count stop
       told))
     where
       old-is : old ≡ deviceAt p (line - 1)
@@ -222,9 +222,9 @@ module _ {p t : List ℕ} {line device : ℕ} {first starter again held : List �
           edit-is starter′ t′ (stop - 1) old on-way old-is rs
           ∙ ap (λ (x : ℕ). over (keptRows devices p′ t′ (concerned p x device) rs) rs) (sym (k .position))
 
-      held-are : ends′ ≡ over (keptHeld p′ (deviceAt p (askedAt line)) device (getD ends 0 0) ∷ []) ends
+      held-are : held′ ≡ over (keptHeld p′ (deviceAt p (askedAt line)) device (getD held 0 0) ∷ []) held
       held-are =
           keeps .heldIs
-          ∙ held-kept p′ old device old-on-board (k .asked .onBoard) ends b h
-          ∙ ap (λ (x : ℕ). over (keptHeld p′ x device (getD ends 0 0) ∷ []) ends)
+          ∙ held-kept p′ old device old-on-board (k .asked .onBoard) held b h
+          ∙ ap (λ (x : ℕ). over (keptHeld p′ x device (getD held 0 0) ∷ []) held)
           (old-is ∙ ap (deviceAt p) (sym (k .position)))

@@ -8,11 +8,9 @@ use native.Mathlib.Omega.{arith}
 use lib.Dec.{eqb, leb, ltb}
 use borrow.Author.Tests.{le-leb, lt-leb, lt-ltb, le-ltb}
 use Rattle.model.specs.Board.{devices}
-use Rattle.model.specs.Line.{kind, operand, isStep, isLine, operandFits, maxJob}
-use Rattle.line.specs.Ranges.{lowestOf, highestOf}
+use Rattle.model.specs.Line.{kind, isStep, operandFits, maxJob}
+use Rattle.line.specs.Ranges.{lowestOperand, highestOperand}
 use Rattle.theory.proofs.Tests.{le-or-lt}
-use Rattle.theory.specs.Line.{Fits, ofDo, ofDevice, ofStart}
-use Rattle.theory.proofs.Line.{line-parts}
 
 pub or-none : (b : Bool) → (b || false) ≡ b
 or-none true = refl
@@ -39,7 +37,7 @@ ranges =
     256 * 255
     + 65536 * (256 * (devices - 1) + 65536 * (256 * (devices - 1) + 65536 * (256 * maxJob + 2)))
 
-pub in-word : (k : ℕ) → k < 4 → ranges / 2 ^ (k * 16) % 65536 ≡ lowestOf k + 256 * highestOf k
+pub in-word : (k : ℕ) → k < 4 → ranges / 2 ^ (k * 16) % 65536 ≡ lowestOperand k + 256 * highestOperand k
 in-word zero h = refl
 in-word (suc zero) h = refl
 in-word (suc (suc zero)) h = refl
@@ -53,7 +51,7 @@ on-board o = go (le-or-lt devices o)
     go (inl h) = le-ltb o devices h ∙ sym (lt-leb o (devices - 1) (omega arith))
     go (inr h) = lt-ltb o devices h ∙ sym (le-leb o (devices - 1) (omega arith))
 
-below : (k o : ℕ) → k < 4 → o < lowestOf k → operandFits devices k o ≡ false
+below : (k o : ℕ) → k < 4 → o < lowestOperand k → operandFits devices k o ≡ false
 unfolding operandFits
 below zero o h l = absurd (omega arith)
 below (suc zero) o h l = absurd (omega arith)
@@ -61,7 +59,7 @@ below (suc (suc zero)) o h l = absurd (omega arith)
 below (suc (suc (suc zero))) o h l = rw (lt-leb 2 o l)
 below (suc (suc (suc (suc k)))) o h l = absurd (omega arith)
 
-from : (k o : ℕ) → k < 4 → lowestOf k ≤ o → operandFits devices k o ≡ leb o (highestOf k)
+from : (k o : ℕ) → k < 4 → lowestOperand k ≤ o → operandFits devices k o ≡ leb o (highestOperand k)
 unfolding operandFits
 from zero o h l = or-none (leb o 255 || false) ∙ or-none (leb o 255)
 from (suc zero) o h l = or-none (ltb o devices) ∙ on-board o
@@ -70,18 +68,18 @@ from (suc (suc (suc zero))) o h l = rw (le-leb 2 o l)
 from (suc (suc (suc (suc k)))) o h l = absurd (omega arith)
 
 -- by what the code finds of the kind
-module _ (j k o r : ℕ) (low : 1 ≤ j) (high : j ≤ maxJob) (kind : k < 4) (is : r ≡ lowestOf k + 256 * highestOf k) where
-  low-is : r % 256 ≡ lowestOf k
+module _ (j k o r : ℕ) (low : 1 ≤ j) (high : j ≤ maxJob) (kind : k < 4) (is : r ≡ lowestOperand k + 256 * highestOperand k) where
+  low-is : r % 256 ≡ lowestOperand k
   low-is = rw is (go (eqb k 3))
     where
-      go : (b : Bool) → (cond b 2 0 + 256 * highestOf k) % 256 ≡ cond b 2 0
+      go : (b : Bool) → (cond b 2 0 + 256 * highestOperand k) % 256 ≡ cond b 2 0
       go true = omega arith
       go false = omega arith
 
-  high-is : r / 256 ≡ highestOf k
+  high-is : r / 256 ≡ highestOperand k
   high-is = rw is (go (eqb k 3))
     where
-      go : (b : Bool) → (cond b 2 0 + 256 * highestOf k) / 256 ≡ highestOf k
+      go : (b : Bool) → (cond b 2 0 + 256 * highestOperand k) / 256 ≡ highestOperand k
       go true = omega arith
       go false = omega arith
 
@@ -90,12 +88,3 @@ module _ (j k o r : ℕ) (low : 1 ≤ j) (high : j ≤ maxJob) (kind : k < 4) (i
 
   pub high-operand : r % 256 ≤ o → isStep devices j k o ≡ leb o (r / 256)
   high-operand h = fits devices j k o low high ∙ from k o kind (rw low-is at h) ∙ ap (leb o) (sym high-is)
-
--- the operand of a take or a give that is a line's is a device's number
-pub device-operand : (n : ℕ) → isLine devices n ≡ true → kind n < 3 → 1 ≤ kind n → operand n < devices
-device-operand n h l m = go (line-parts devices n h .2)
-  where
-    go : Fits devices (kind n) (operand n) → operand n < devices
-    go (ofDo k b) = absurd (omega arith)
-    go (ofDevice k b) = b
-    go (ofStart k a b) = absurd (omega arith)

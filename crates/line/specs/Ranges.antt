@@ -5,8 +5,8 @@ use lib.Dec.{eqb}
 use Rattle.model.specs.Board.{devices}
 use Rattle.model.specs.Line.{maxJob}
 
-abbrev pub lowestOf : ℕ → ℕ
-lowestOf k = cond (eqb k 3) 2 0
+abbrev pub lowestOperand : ℕ → ℕ
+lowestOperand k = cond (eqb k 3) 2 0
 
-abbrev pub highestOf : ℕ → ℕ
-highestOf k = cond (eqb k 0) 255 (cond (eqb k 3) maxJob (devices - 1))
+abbrev pub highestOperand : ℕ → ℕ
+highestOperand k = cond (eqb k 0) 255 (cond (eqb k 3) maxJob (devices - 1))

@@ -8,7 +8,7 @@ ghost use Prim.Native.Nat.{_+_, _*_, _%_, _^_};
 ghost use Rattle.model.specs.Line.{pack, job, kind, operand, isTake, isGive, isStart, isLine};
 ghost use Rattle.model.specs.Board.{devices};
 ghost use Rattle.theory.specs.Outer.{plain};
-ghost use Rattle.line.specs.Ranges.{lowestOf, highestOf};
+ghost use Rattle.line.specs.Ranges.{lowestOperand, highestOperand};
 
 // So many numbers has an operand room for, from 0 on.
 pub const OPERANDS: u32 = 256;
@@ -85,9 +85,9 @@ const LAST_STARTED: u64 = LAST_JOB as u64;
 const RANGES: u64 = 256 * LAST_ACTION
     + 65536 * (256 * LAST_DEVICE + 65536 * (256 * LAST_DEVICE + 65536 * (256 * LAST_STARTED + 2)));
 
-// The lowest operand of a kind and 256 times the highest.
+// The lowest operand of a kind, of two bits, and 256 times the highest, as one number.
 fn range(k: u32) -> u32
-    ensures { λ r. ⌜ r ≡ lowestOf (k % 4) + 256 * highestOf (k % 4) ⌝ }
+    ensures { λ r. ⌜ r ≡ lowestOperand (k % 4) + 256 * highestOperand (k % 4) ⌝ }
 {
     ((RANGES >> (k % KINDS * 16) as u64) % 65536) as u32
 }

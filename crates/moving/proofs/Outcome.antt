@@ -127,13 +127,13 @@ module _ (p t : List ℕ) (line device : ℕ) where
             ∙ ap (rewritten q t) (same-way p q alike (stop - 1) ∙ from-last)
 
 -- the move for a caller that keeps more, refused and done
-module _ (p t : List ℕ) (line device : ℕ) (first starter again held first′ starter′ held′ : List ℕ)
+module _ (p t : List ℕ) (line device : ℕ) (first starter again ofJobs first′ starter′ ofJobs′ : List ℕ)
     (firsts : first′ ≡ leftBy (fault devices p) (firstLines p) first)
     (starts : starter′ ≡ leftBy (fault devices p) (starters p) starter)
-    (holds : held′ ≡ leftBy (fault devices p) (holdings p) held) where
+    (holds : ofJobs′ ≡ leftBy (fault devices p) (holdings p) ofJobs) where
   pub through-refused : (again′ : List ℕ) → again′ ≡ leftBy (fault devices p) (againFlags p) again → (r : Refusal)
       → moveRefusal devices p t line device ≡ some r
-      → MovesThrough p t line device first starter again held (Through.Refused r) p t first′ starter′ again′ held′
+      → MovesThrough p t line device first starter again ofJobs (Through.Refused r) p t first′ starter′ again′ ofJobs′
   through-refused again′ agains r e =
       let x = refused p t line device r e in record {
         answers = ap (λ (a : MoveAnswer). throughBy a (stopOf (spanOf p (askedAt line)))) (x .0);
@@ -164,8 +164,8 @@ module _ (p t : List ℕ) (line device : ℕ) (first starter again held first′
     pub through-moved : (scanned : List ℕ) → scanned ≡ leftBy (fault devices p) (againFlags p) again
         → (count stop : ℕ) (p′ t′ again′ : List ℕ) → stop ≡ stopOf (spanOf p (askedAt line))
         → RewritesAs p t first′ starter′ (line - 1) device count p′ t′ again′
-        → MovesThrough p t line device first starter again held (Through.Moved count stop) p′ t′ first′ starter′ again′
-        held′
+        → MovesThrough p t line device first starter again ofJobs (Through.Moved count stop) p′ t′ first′ starter′ again′
+        ofJobs′
     through-moved scanned agains count stop p′ t′ again′ e r =
         let s = by-scan scanned agains in
         let x = moved p t line device none-refuses first′ starter′ scanned count p′ t′ again′ s r in
@@ -182,9 +182,9 @@ module _ (p t : List ℕ) (line device : ℕ) (first starter again held first′
         }
 
 -- the plain move, by that
-module _ (p t : List ℕ) (line device : ℕ) (first starter again held : List ℕ) (answer : Through)
-    (p′ t′ first′ starter′ again′ held′ : List ℕ)
-    (m : MovesThrough p t line device first starter again held answer p′ t′ first′ starter′ again′ held′) where
+module _ (p t : List ℕ) (line device : ℕ) (first starter again ofJobs : List ℕ) (answer : Through)
+    (p′ t′ first′ starter′ again′ ofJobs′ : List ℕ)
+    (m : MovesThrough p t line device first starter again ofJobs answer p′ t′ first′ starter′ again′ ofJobs′) where
   plainly : (a : MoveAnswer) → a ≡ moving devices p t line device .answer → MovesAs p t line device a p′ t′
   plainly a e = meets e (rw (m .plan, m .sets))
 

@@ -6,12 +6,12 @@ use mathlib.Core.Path.{_≡_}
 use Rattle.moving.specs.declared.Through.{Through}
 use Rattle.moving.specs.Through.{MovesThrough}
 
-module _ (p t : List ℕ) (line device : ℕ) (first starter again held : List ℕ) where
+module _ (p t : List ℕ) (line device : ℕ) (first starter again ofJobs : List ℕ) where
   pub through-one : (a b : Through)
-      (p₁ p₂ t₁ t₂ first₁ first₂ starter₁ starter₂ again₁ again₂ held₁ held₂ : List ℕ)
-      → MovesThrough p t line device first starter again held a p₁ t₁ first₁ starter₁ again₁ held₁
-      → MovesThrough p t line device first starter again held b p₂ t₂ first₂ starter₂ again₂ held₂
+      (p₁ p₂ t₁ t₂ first₁ first₂ starter₁ starter₂ again₁ again₂ ofJobs₁ ofJobs₂ : List ℕ)
+      → MovesThrough p t line device first starter again ofJobs a p₁ t₁ first₁ starter₁ again₁ ofJobs₁
+      → MovesThrough p t line device first starter again ofJobs b p₂ t₂ first₂ starter₂ again₂ ofJobs₂
       → (a ≡ b) × (p₁ ≡ p₂) × (t₁ ≡ t₂) × (first₁ ≡ first₂) × (starter₁ ≡ starter₂) × (again₁ ≡ again₂)
-      × (held₁ ≡ held₂)
-  through-one a b p₁ p₂ t₁ t₂ first₁ first₂ starter₁ starter₂ again₁ again₂ held₁ held₂ x y =
+      × (ofJobs₁ ≡ ofJobs₂)
+  through-one a b p₁ p₂ t₁ t₂ first₁ first₂ starter₁ starter₂ again₁ again₂ ofJobs₁ ofJobs₂ x y =
       (cc, cc, cc, cc, cc, cc, cc)

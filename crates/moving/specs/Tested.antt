@@ -54,13 +54,13 @@ askedTests D p t line device =
     ∷ lastTests p t (askedAt line)
 
 -- what all tests answer, and leave in the arrays
-pub record TestsAs (p t : List ℕ) (line device : ℕ) (first starter again held : List ℕ) (answer : TestAnswer)
-    (first′ starter′ again′ held′ : List ℕ) : Type 0 where
+pub record TestsAs (p t : List ℕ) (line device : ℕ) (first starter again ofJobs : List ℕ) (answer : TestAnswer)
+    (first′ starter′ again′ ofJobs′ : List ℕ) : Type 0 where
   pub answers : answer ≡ testedBy (moveRefusal devices p t line device) (spanOf p (askedAt line))
   pub firsts : first′ ≡ leftBy (fault devices p) (firstLines p) first
   pub starts : starter′ ≡ leftBy (fault devices p) (starters p) starter
   pub agains : again′ ≡ leftBy (fault devices p) (againFlags p) again
-  pub holds : held′ ≡ leftBy (fault devices p) (holdings p) held
+  pub holds : ofJobs′ ≡ leftBy (fault devices p) (holdings p) ofJobs
 
 -- what the rewriting answers and leaves: the plan as p′, the table as t′, the flags as again′
 pub record RewritesAs (p t first starter : List ℕ) (i device count : ℕ) (p′ t′ again′ : List ℕ) : Type 0 where

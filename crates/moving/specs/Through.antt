@@ -21,12 +21,12 @@ throughBy (MoveAnswer.Changed n) stop = Through.Moved n stop
 throughBy (MoveAnswer.Refused r) stop = Through.Refused r
 
 -- a plan with a fault leaves the arrays as they were
-pub record MovesThrough (p t : List ℕ) (line device : ℕ) (first starter again held : List ℕ) (answer : Through)
-    (p′ t′ first′ starter′ again′ held′ : List ℕ) : Type 0 where
+pub record MovesThrough (p t : List ℕ) (line device : ℕ) (first starter again ofJobs : List ℕ) (answer : Through)
+    (p′ t′ first′ starter′ again′ ofJobs′ : List ℕ) : Type 0 where
   pub answers : answer ≡ throughBy (moving devices p t line device .answer) (stopOf (spanOf p (askedAt line)))
   pub plan : p′ ≡ moving devices p t line device .left .plan
   pub sets : t′ ≡ moving devices p t line device .left .sets
   pub firsts : first′ ≡ leftBy (fault devices p) (firstLines p) first
   pub starts : starter′ ≡ leftBy (fault devices p) (starters p) starter
   pub agains : again′ ≡ leftBy (fault devices p) (againFlags p′) again
-  pub holds : held′ ≡ leftBy (fault devices p) (holdings p) held
+  pub holds : ofJobs′ ≡ leftBy (fault devices p) (holdings p) ofJobs

@@ -1,8 +1,8 @@
 -- The stack of the devices held: what a do, a take and a give leave of it, and which case of `ruleOf` the code's one
 -- test picks.
 use Prim.Native.Nat.{ℕ, zero, suc, _+_, _-_, _^_, _≤_, _<_}
-use mathlib.Core.Bool.{Bool, true, false, cond, not, _&&_, _||_}
-use mathlib.Core.List.{List, [], _∷_, tail}
+use mathlib.Core.Bool.{Bool, true, false, cond, not, _&&_}
+use mathlib.Core.List.{List, _∷_, tail}
 use mathlib.Core.Logic.{_⊎_, inl, inr}
 use mathlib.Core.Path.{_≡_, refl, sym, _∙_, ap}
 use native.Mathlib.Numerals.{add-one}
@@ -22,7 +22,7 @@ use Rattle.sets.proofs.Members.{member-only-of, only-of-below, member-without, 
 use Rattle.theory.proofs.Line.{device-line, take-no-give}
 use Rattle.theory.proofs.Sets.{member-empty, empty-below, same-members}
 use Rattle.theory.proofs.Tests.{clash, test, falsely, tests-agree, or-right, and-split, and-second}
-use Rattle.plan.specs.Walk.{on, bad, ruleOf, heldIn, givenBy, Stack, depthAfter}
+use Rattle.plan.specs.Walk.{misgiven, on, bad, ruleOf, heldIn, Stack, depthAfter}
 
 -- ---- a store above what is held
 
@@ -114,7 +114,7 @@ module _ (n depth : ℕ) (stack : List ℕ) (h : Stack stack) (line : isLine dev
   device e = device-line devices n line (or-right (isTake n) (isGive n) e)
 
   abbrev wrong : Bool
-  wrong = not (eqb (without (givenBy n) (onlyOf devices (getD stack depth 0))) empty)
+  wrong = misgiven n (getD stack depth 0)
 
   wrong-is : wrong ≡ (isGive n && not (eqb (getD stack depth 0) (operand n)))
   wrong-is = given-known (isGive n) (operand n) (getD stack depth 0) device

@@ -1,6 +1,7 @@
 -- Which lines take again what their job holds, or give such a take back (02, request 2), as the walk finds them: beside
 -- the devices held it has for each open take what that has added to them, its device or nothing. A line changes less
--- than its verb says exactly if it is such a line.
+-- than its verb says exactly if it is such a line. Beside them, what each job holds after the lines so far (02, request
+-- 4).
 use Prim.Native.Nat.{ℕ, suc, _<_}
 use mathlib.Core.Bool.{Bool, cond, not}
 use mathlib.Core.List.{List, [], _∷_}

@@ -46,7 +46,8 @@ const STACK_PLACES: usize = MOST_LINES + 1;
 const FLOOR: u8 = DEVICES as u8;
 
 // The first three tests of the line at position i, after a line of job `prev`, which is 0 before the first. No test
-// asks whether the job is the same, which cannot be foretold: a lower job is far above in the word's circle.
+// asks whether the job is the same, which cannot be foretold: the job less `prev` is 0 or 1, and that of a lower job
+// goes round the word's end and is far above.
 fn misplaced(i: usize, n: u32, prev: u32) -> Checked
     ensures { λ r. ⌜ r ≡ checked (placeFault devices n i prev) ⌝ }
 {
@@ -93,7 +94,7 @@ fn held_after(i: usize, n: u32, depth: u32, stack: &mut [u8; STACK_PLACES]) -> A
 }
 
 // The verb's own rule, at position i. That of a give is asked first, of every verb: so the test is no branch on the
-// verb, and what is given is worked out once. Place 0 has a number that no give names. A start that keeps its rule is
+// verb, and the compiler can use what is given for the notes too. Place 0 has a number that no give names. A start that keeps its rule is
 // its job's starter.
 fn rule(
     i: usize,
@@ -175,8 +176,8 @@ fn is_again(n: u32, changed: Set) -> bool
 }
 
 // The flag of the line at position i, after a line of job `prev`; and the devices held after it. `added` has for each
-// open take what it has added to the devices held. Each line stores them as its job's, so that those after the job's
-// last line stay: there is no branch on whether it is the last.
+// open take what it has added to the devices held. Each line stores the devices held after it as its job's, so that
+// those after the job's last line stay: there is no branch on whether it is the last.
 fn note(
     i: usize,
     n: u32,

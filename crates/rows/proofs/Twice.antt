@@ -36,17 +36,17 @@ use Rattle.rows.specs.Lasting.{heldTwice}
 -- ---- sets over places
 
 -- two places
-pub record Two (f : ℕ → ℕ) (a n d : ℕ) : Type 0 where
-  pub i : ℕ
-  pub k : ℕ
-  pub apart : i ≢ k
-  pub i-in : has i (upFrom a n) ≡ true
-  pub k-in : has k (upFrom a n) ≡ true
-  pub i-has : member (f i) d ≡ true
-  pub k-has : member (f k) d ≡ true
+record Two (f : ℕ → ℕ) (a n d : ℕ) : Type 0 where
+  i : ℕ
+  k : ℕ
+  apart : i ≢ k
+  i-in : has i (upFrom a n) ≡ true
+  k-in : has k (upFrom a n) ≡ true
+  i-has : member (f i) d ≡ true
+  k-has : member (f k) d ≡ true
 
 module _ (f : ℕ → ℕ) (d : ℕ) where
-  pub in-twice : (a n : ℕ) → member (twiceIn (map f (upFrom a n))) d ≡ true → Two f a n d
+  in-twice : (a n : ℕ) → member (twiceIn (map f (upFrom a n))) d ≡ true → Two f a n d
   unfolding twiceIn upFrom
   in-twice a zero h = clash (member empty d) h (member-empty d)
   in-twice a (suc n) h =
@@ -79,7 +79,7 @@ module _ (f : ℕ → ℕ) (d : ℕ) where
         k-has = t .k-has;
       }
 
-  pub twice-in : (a n : ℕ) → Two f a n d → member (twiceIn (map f (upFrom a n))) d ≡ true
+  twice-in : (a n : ℕ) → Two f a n d → member (twiceIn (map f (upFrom a n))) d ≡ true
   unfolding twiceIn upFrom
   twice-in a zero t = absurd (omega (arith, has-upFrom a 0 (t .i) (t .i-in)))
   twice-in a (suc n) t =
@@ -113,12 +113,12 @@ module _ (f : ℕ → ℕ) (d : ℕ) where
           }))
 
 module _ (D : ℕ) (f : ℕ → ℕ) (small : (j : ℕ) → f j < 2 ^ D) where
-  pub one-below : (xs : List ℕ) → unionOf (map f xs) < 2 ^ D
+  all-below : (xs : List ℕ) → unionOf (map f xs) < 2 ^ D
   unfolding unionOf
-  one-below [] = empty-below D
-  one-below (x ∷ xs) = union-below D (f x) (unionOf (map f xs)) (small x) (one-below xs)
+  all-below [] = empty-below D
+  all-below (x ∷ xs) = union-below D (f x) (unionOf (map f xs)) (small x) (all-below xs)
 
-  pub twice-below : (xs : List ℕ) → twiceIn (map f xs) < 2 ^ D
+  twice-below : (xs : List ℕ) → twiceIn (map f xs) < 2 ^ D
   unfolding twiceIn
   twice-below [] = empty-below D
   twice-below (x ∷ xs) =
@@ -146,7 +146,7 @@ module _ (p : List ℕ) (w : WellFormed devices p) where
   unfolding holdings heldToEnd lastsIn lastsAmong
   one-of-jobs =
       is-where (lastsIn p) devices (unionOf (map (holding p) jobs))
-      (one-below devices (holding p) (holding-below p) jobs)
+      (all-below devices (holding p) (holding-below p) jobs)
       (λ d h. tests-agree (member (unionOf (map (holding p) jobs)) d) (lastsIn p d) (to d h) (from d h))
     where
       to : (d : ℕ) → d < devices → member (unionOf (map (holding p) jobs)) d ≡ true → lastsIn p d ≡ true

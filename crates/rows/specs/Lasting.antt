@@ -31,7 +31,8 @@ unfoldable pub wantedBefore : ℕ → ℕ → ℕ
 unfolding isTake isGive
 wantedBefore l after = cond (isTake l) (after - 1) (cond (isGive l) (suc after) after)
 
--- what is wanted after a line, with so much wanted from the next line on, which is of job j: another job wants nothing
+-- what is wanted after a line, with so much wanted from the line passed last on, which is of job j: another job wants
+-- nothing
 unfoldable pub wantedAfter : ℕ → ℕ → ℕ → ℕ
 unfolding job
 wantedAfter l j wanted = cond (eqb (job l) j) wanted 0

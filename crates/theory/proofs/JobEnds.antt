@@ -155,7 +155,7 @@ module _ (p : List ℕ) (rules : Rules p) where
       let g = given-between p rules i k d (s .0) (lasting-parts p k d b .0) e lt in no-some (sym (s .1) ∙ g .1)
 
   -- a job has one lasting take of a device
-  pub one-a-job : (i k d : ℕ) → lasting p i d ≡ true → lasting p k d ≡ true → job (at p i) ≡ job (at p k) → i ≡ k
+  one-a-job : (i k d : ℕ) → lasting p i d ≡ true → lasting p k d ≡ true → job (at p i) ≡ job (at p k) → i ≡ k
   one-a-job i k d a b e = go (le-or-lt i k) (le-or-lt k i)
     where
       go : (i ≤ k) ⊎ (k < i) → (k ≤ i) ⊎ (i < k) → i ≡ k

@@ -6,7 +6,7 @@ use borrow.Author.Needs.{needs}
 use Rattle.model.specs.Board.{devices}
 use Rattle.model.specs.Line.{job, kind, operand, isLine}
 use Rattle.theory.proofs.Line.{kind-small}
-use Rattle.line.specs.Ranges.{lowestOf, highestOf}
+use Rattle.line.specs.Ranges.{lowestOperand, highestOperand}
 use Rattle.line.proofs.Ranges.{low-job, high-job, low-operand, high-operand}
 use Rattle.line.proofs.is_line.Statement.{statement}
 use Rattle.line.proofs.is_line.Tie as tie
@@ -19,7 +19,7 @@ job-is : (c : tie.After-operand) → c .before .before .before .job .result ≡ 
 job-is c = c .before .before .before .job .ensures
 
 range-is : (c : tie.After-operand)
-    → let k = kind (entry c .args .l) in c .before .range .result ≡ lowestOf k + 256 * highestOf k
+    → let k = kind (entry c .args .l) in c .before .range .result ≡ lowestOperand k + 256 * highestOperand k
 range-is c =
     let k = c .before .before .kind .ensures in
     let small : kind (entry c .args .l) % 4 ≡ kind (entry c .args .l) = omega (arith, kind-small (entry c .args .l)) in
