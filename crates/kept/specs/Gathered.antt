@@ -26,7 +26,8 @@ pub record Prepared (p again t : List ℕ) : Type 0 where
   pub room : length p ≤ length t
 
 -- The first line of each job; and for each job but `moved` a set that has the devices of its lasting takes, so that a
--- job whose set is empty can be passed over. (What each job held at its end before a claim of `moved` was moved is such.)
+-- job whose set is empty can be passed over. (What each job held at its end before a claim of `moved` was moved is such
+-- a set.)
 pub record Skips (p first holdings : List ℕ) (moved : ℕ) : Type 0 where
   pub firsts : first ≡ firstLines p
   pub among : (k d : ℕ) → lasting p k d ≡ true → job (at p k) ≢ moved → member (getD holdings (job (at p k)) 0) d ≡ true

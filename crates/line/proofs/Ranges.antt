@@ -68,7 +68,8 @@ from (suc (suc (suc zero))) o h l = rw (le-leb 2 o l)
 from (suc (suc (suc (suc k)))) o h l = absurd (omega arith)
 
 -- by what the code finds of the kind
-module _ (j k o r : ℕ) (low : 1 ≤ j) (high : j ≤ maxJob) (kind : k < 4) (is : r ≡ lowestOperand k + 256 * highestOperand k) where
+module _ (j k o r : ℕ) (low : 1 ≤ j) (high : j ≤ maxJob) (kind : k < 4)
+    (is : r ≡ lowestOperand k + 256 * highestOperand k) where
   low-is : r % 256 ≡ lowestOperand k
   low-is = rw is (go (eqb k 3))
     where

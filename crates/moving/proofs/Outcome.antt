@@ -164,8 +164,8 @@ module _ (p t : List ℕ) (line device : ℕ) (first starter again ofJobs first�
     pub through-moved : (scanned : List ℕ) → scanned ≡ leftBy (fault devices p) (againFlags p) again
         → (count stop : ℕ) (p′ t′ again′ : List ℕ) → stop ≡ stopOf (spanOf p (askedAt line))
         → RewritesAs p t first′ starter′ (line - 1) device count p′ t′ again′
-        → MovesThrough p t line device first starter again ofJobs (Through.Moved count stop) p′ t′ first′ starter′ again′
-        ofJobs′
+        → MovesThrough p t line device first starter again ofJobs (Through.Moved count stop)
+        p′ t′ first′ starter′ again′ ofJobs′
     through-moved scanned agains count stop p′ t′ again′ e r =
         let s = by-scan scanned agains in
         let x = moved p t line device none-refuses first′ starter′ scanned count p′ t′ again′ s r in

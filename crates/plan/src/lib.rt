@@ -94,8 +94,8 @@ fn held_after(i: usize, n: u32, depth: u32, stack: &mut [u8; STACK_PLACES]) -> A
 }
 
 // The verb's own rule, at position i. That of a give is asked first, of every verb: so the test is no branch on the
-// verb, and the compiler can use what is given for the notes too. Place 0 has a number that no give names. A start that keeps its rule is
-// its job's starter.
+// verb, and the compiler can use what is given for the notes too. Place 0 has a number that no give names. A start that
+// keeps its rule is its job's starter.
 fn rule(
     i: usize,
     n: u32,
