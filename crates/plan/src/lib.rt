@@ -396,8 +396,7 @@ pub fn scan_holding(
     Checked::Fine
 }
 
-// The same for a caller who does not ask what the jobs hold. It is not made by the one above: that would take the stack
-// of one more list.
+// The same for a caller who does not ask what the jobs hold.
 pub fn scan(
     plan: &[u32],
     first: &mut [u32; EACH_JOB],
@@ -409,17 +408,8 @@ pub fn scan(
         r (now (first .exit)) (now (starter .exit)) (now (again .exit))
         ⌝ }
 {
-    let mut f = [0u32; EACH_JOB];
-    let mut s = [0u32; EACH_JOB];
-    let mut a = [0u8; MOST_LINES];
-    let mut h = [sets::NONE; EACH_JOB];
-    if let Checked::Refused(r) = whole(plan, &mut f, &mut s, &mut a, &mut h) {
-        return Checked::Refused(r);
-    }
-    *first = f;
-    *starter = s;
-    *again = a;
-    Checked::Fine
+    let mut holdings = [sets::NONE; EACH_JOB];
+    scan_holding(plan, first, starter, again, &mut holdings)
 }
 
 // The fault of a plan, if it has one.

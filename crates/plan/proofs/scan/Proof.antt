@@ -1,22 +1,10 @@
--- `plan::scan` meets its contract: the tables are handed over where there is no fault. What the jobs hold is dropped.
-use mathlib.Core.List.{[]}
-use Rattle.plan.proofs.Scans.{scan-refused, scan-fine}
+-- `plan::scan` meets its contract, which is part of that of `plan::scan_holding`.
 use borrow.Author.Needs.{needs}
 use Rattle.plan.proofs.scan.Statement.{statement}
 use Rattle.plan.proofs.scan.Tie as tie
 
 returns : tie.Need-returns
-returns c =
-    let a = c .before .before .before .before .before .before .before .before .before .args in
-    let r = c .before .r .given in
-    scan-refused (a .plan .now) (a .first .now) (a .starter .now) (a .again .now) [] _ _ _ _ (r .0 .0)
-    (rw (r .1) at (c .before .before .before .whole .ensures)) .scanned
-
-returns-2 : tie.Need-returns-2
-returns-2 c =
-    let a = c .before .before .before .before .before .before .before .before .args in
-    scan-fine (a .plan .now) (a .first .now) (a .starter .now) (a .again .now) [] _ _ _ _
-    (rw (c .enum-told .given .1) at (c .before .before .whole .ensures)) .scanned
+returns c = c .«scan-holding» .ensures .scanned
 
 pub scan-spec : {M : Type 1} → statement M
-scan-spec = tie.close (tie.spec (λ c κs. search needs) (λ c. search needs) returns (λ c. search needs) returns-2)
+scan-spec = tie.close (tie.spec (λ c κs. search needs) returns)
