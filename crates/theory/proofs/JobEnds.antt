@@ -1,7 +1,7 @@
 -- What a job holds after the plan's last line (02, request 4). The quick verdict and the kept rows find lasting takes
 -- by what each job holds at its end: those are the devices of its lasting takes, of which a job has one for a device.
 -- So a device has two lasting takes exactly if two jobs hold it at the end.
-use Prim.Native.Nat.{ℕ, zero, suc, _+_, _-_, _<_, _≤_}
+use Prim.Native.Nat.{ℕ, zero, suc, _-_, _<_, _≤_}
 use mathlib.Core.Bool.{true, false}
 use mathlib.Core.List.{List, _∷_, map, tail}
 use mathlib.Core.Logic.{_⊎_, inl, inr, _≢_, _↔_}
@@ -10,21 +10,20 @@ use mathlib.Core.Path.{_≡_, refl, sym, _∙_, ap}
 use native.Mathlib.Omega.{arith}
 use lib.Dec.{eqb}
 use lib.ListN.{length, drop, getElem?}
-use lib.Seq.{drop-cons}
 use borrow.Author.Tests.{eqb-true, eqb-false}
 use Rattle.model.specs.Lists.{has}
 use Rattle.model.specs.Line.{job, operand, isTake, isGive, at}
-use Rattle.model.specs.Mate.{deviceAt, holdsAlready, takes, mateIn, mate, isNone, lasting}
+use Rattle.model.specs.Mate.{deviceAt, holdsAlready, takes, mate, isNone, lasting}
 use Rattle.model.specs.WellFormed.{before, heldBy, Rules}
 use Rattle.theory.specs.Verdict.{LastsTwice}
 use Rattle.theory.proofs.Tests.{clash, no-some, falsely, test, and-both, le-or-lt}
 use Rattle.theory.proofs.Line.{take-no-give}
 use Rattle.theory.proofs.Held.{held-foreign}
 use Rattle.theory.proofs.Claims.{makes-take, takes-parts, takes-line, taking}
-use Rattle.theory.proofs.Mate.{Seen, foreign, deeper, level, back, seen, Pair, pair, openTakes, held-open}
-use Rattle.theory.proofs.Mate.{open-take, open-give, open-level, open-foreign, Opens, pushes, pops, stays, opens}
-use Rattle.theory.proofs.Mate.{nth-tail, drop-tail, Open, open-is, take-open-at-mate, mapped-has, open-mates}
-use Rattle.theory.proofs.Mate.{given-between}
+use Rattle.theory.proofs.Mate.{Pair, pair, openTakes, held-open}
+use Rattle.theory.proofs.Mate.{open-give, Opens, pushes, pops, stays, opens}
+use Rattle.theory.proofs.Mate.{nth-tail, drop-tail, Open, open-is, take-open-at-mate, mapped-has}
+use Rattle.theory.proofs.Mate.{mated-or-open, given-between}
 use Rattle.theory.proofs.Around.{deepest}
 use Rattle.theory.proofs.Places.{lasting-parts}
 
@@ -82,31 +81,6 @@ unmated p j n t o = go (mate p t) refl
     go (some m) e = absurd (omega (arith, mate-later p j (length p) n t m o e, pair p t m e .inPlan))
 
 module _ (p : List ℕ) (rules : Rules p) where
-  -- a take without a mate stays open, down to line k and the plan's end
-  stays-open : (n i k j : ℕ) → k ≡ suc i + n → k ≤ length p → isTake (at p i) ≡ true → job (at p i) ≡ j
-      → mate p i ≡ none → (o : ℕ) × (getElem? (openTakes p j k) o ≡ some i)
-  stays-open zero i k j m h t a e = let z : k ≡ suc i = omega arith in (0, rw (z, open-take p j i a t))
-  stays-open (suc n) i k j m h t a e =
-      let r = stays-open n i x j refl (omega arith) t a e in
-      rw z (deep (r .0) (r .1) (seen j (at p x) (drop (suc x) p)))
-    where
-      x : ℕ
-      x = suc i + n
-
-      z : k ≡ suc x
-      z = omega arith
-
-      deep : (o : ℕ) → getElem? (openTakes p j x) o ≡ some i → Seen j (at p x) (drop (suc x) p)
-          → (o : ℕ) × (getElem? (openTakes p j (suc x)) o ≡ some i)
-      deep o q (foreign f y) = (o, rw (open-foreign p j x f) q)
-      deep o q (deeper c u y) = (suc o, rw (open-take p j x c u) q)
-      deep o q (level c u v y) = (o, rw (open-level p j x c u v) q)
-      deep zero q (back c u v y w) =
-          no-some
-          (sym e ∙ open-mates p rules x j 0 i (omega arith) c q ∙ ap (mateIn j 0 x) (drop-cons p x 0 (omega arith))
-          ∙ y x)
-      deep (suc o) q (back c u v y w) = (o, rw (open-give p j x c u v) (nth-tail (openTakes p j x) o ∙ q))
-
   -- ---- what a job holds at the end
 
   -- what a job holds after the last line, a lasting take of the job has taken
@@ -144,9 +118,17 @@ module _ (p : List ℕ) (rules : Rules p) where
       s : (takes p k d ≡ true) × (mate p k ≡ none)
       s = lasting-parts p k d l
 
+      -- a take without a mate is open to the end
+      stays-open : ((m : ℕ) × (mate p k ≡ some m) × (m < length p))
+          ⊎ ((o : ℕ) × (getElem? (openTakes p j (length p)) o ≡ some k))
+          → (o : ℕ) × (getElem? (openTakes p j (length p)) o ≡ some k)
+      stays-open (inl m) = no-some (sym (s .1) ∙ m .1)
+      stays-open (inr o) = o
+
       r : (o : ℕ) × (getElem? (openTakes p j (length p)) o ≡ some k)
-      r = stays-open (length p - suc k) k (length p) j (omega (arith, takes-line p k d (s .0))) (omega arith)
-          (taking p k d (s .0)) refl (s .1)
+      r = stays-open
+          (mated-or-open p rules (length p - suc k) k (length p) j (omega (arith, takes-line p k d (s .0)))
+          (omega arith) (taking p k d (s .0)) refl)
 
   -- of two lasting takes of a device by one job the earlier would be given back
   not-twice : (i k d : ℕ) → lasting p i d ≡ true → lasting p k d ≡ true → job (at p i) ≡ job (at p k) → i < k → ⊥

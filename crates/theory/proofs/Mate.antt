@@ -263,7 +263,7 @@ held-open p j (suc i) = go (eqb (job (at p i)) j) (isTake (at p i)) (isGive (at 
     go true false true ih = ap tail ih ∙ map-tail (deviceAt p) (openTakes p j i)
 
 -- the open takes after line i, by what the line is
-pub open-take : (p : List ℕ) (j i : ℕ) → job (at p i) ≡ j → isTake (at p i) ≡ true
+open-take : (p : List ℕ) (j i : ℕ) → job (at p i) ≡ j → isTake (at p i) ≡ true
     → openTakes p j (suc i) ≡ i ∷ openTakes p j i
 unfolding openTakes
 open-take p j i e t = rw (eq-eqb (job (at p i)) j e, t, openTakes)
@@ -273,12 +273,12 @@ pub open-give : (p : List ℕ) (j i : ℕ) → job (at p i) ≡ j → isTake (at
 unfolding openTakes
 open-give p j i e t g = rw (eq-eqb (job (at p i)) j e, t, g, openTakes)
 
-pub open-level : (p : List ℕ) (j i : ℕ) → job (at p i) ≡ j → isTake (at p i) ≡ false → isGive (at p i) ≡ false
+open-level : (p : List ℕ) (j i : ℕ) → job (at p i) ≡ j → isTake (at p i) ≡ false → isGive (at p i) ≡ false
     → openTakes p j (suc i) ≡ openTakes p j i
 unfolding openTakes
 open-level p j i e t g = rw (eq-eqb (job (at p i)) j e, t, g, openTakes)
 
-pub open-foreign : (p : List ℕ) (j i : ℕ) → (job (at p i) ≡ j → ⊥) → openTakes p j (suc i) ≡ openTakes p j i
+open-foreign : (p : List ℕ) (j i : ℕ) → (job (at p i) ≡ j → ⊥) → openTakes p j (suc i) ≡ openTakes p j i
 unfolding openTakes
 open-foreign p j i n = rw (ne-eqb (job (at p i)) j n, openTakes)
 
@@ -471,13 +471,11 @@ module _ (p : List ℕ) (rules : Rules p) where
       found (level e u v q) = clash (isGive (at p m)) g v
       found (back e u v z q) = ap (mateIn (job (at p m)) 0 m) (drop-cons p m 0 inPlan) ∙ z m
 
-  -- before a later line of its job, a take has its mate behind it, or is open there
-  pub mated-or-open : (n i k j : ℕ) → k ≡ suc i + n → k < length p → isTake (at p i) ≡ true → job (at p i) ≡ j
-      → job (at p k) ≡ j
+  -- further down, and at the plan's end, a take has its mate behind it, or is open there
+  pub mated-or-open : (n i k j : ℕ) → k ≡ suc i + n → k ≤ length p → isTake (at p i) ≡ true → job (at p i) ≡ j
       → ((m : ℕ) × (mate p i ≡ some m) × (m < k)) ⊎ ((o : ℕ) × (getElem? (openTakes p j k) o ≡ some i))
-  mated-or-open zero i k j e h t a b =
-      let z : k ≡ suc i = omega arith in inr (0, rw (z, open-take p j i a t))
-  mated-or-open (suc n) i k j e h t a b = rw z (go (mated-or-open n i x j refl (omega arith) t a between))
+  mated-or-open zero i k j e h t a = let z : k ≡ suc i = omega arith in inr (0, rw (z, open-take p j i a t))
+  mated-or-open (suc n) i k j e h t a = rw z (go (mated-or-open n i x j refl (omega arith) t a))
     where
       x : ℕ
       x = suc i + n
@@ -485,25 +483,15 @@ module _ (p : List ℕ) (rules : Rules p) where
       z : k ≡ suc x
       z = omega arith
 
-      between : job (at p x) ≡ j
-      between = omega (
-        arith,
-        a,
-        b,
-        jobs-grow p rules i x (omega arith) (omega arith),
-        jobs-grow p rules x k
-            (omega arith) h,
-      )
-
       deep : (o : ℕ) → getElem? (openTakes p j x) o ≡ some i → Seen j (at p x) (drop (suc x) p)
           → ((m : ℕ) × (mate p i ≡ some m) × (m < suc x)) ⊎ ((o : ℕ) × (getElem? (openTakes p j (suc x)) o ≡ some i))
-      deep o q (foreign f y) = absurd (f between)
+      deep o q (foreign f y) = inr (o, rw (open-foreign p j x f) q)
       deep o q (deeper c u y) = inr (suc o, rw (open-take p j x c u) q)
       deep o q (level c u v y) = inr (o, rw (open-level p j x c u v) q)
       deep zero q (back c u v y w) =
           inl (
             x,
-            open-mates x j 0 i (omega arith) between q ∙ ap (mateIn j 0 x) (drop-cons p x 0 (omega arith))
+            open-mates x j 0 i (omega arith) c q ∙ ap (mateIn j 0 x) (drop-cons p x 0 (omega arith))
                 ∙ y x,
             omega arith,
           )
@@ -519,7 +507,7 @@ module _ (p : List ℕ) (rules : Rules p) where
       → (m : ℕ) × (mate p i ≡ some m) × (m < k)
   unfolding holdsAlready
   given-between i k d ti tk e lt =
-      go (mated-or-open (k - suc i) i k (job (at p k)) (omega arith) (take-line p k (ok .0)) (oi .0) e refl)
+      go (mated-or-open (k - suc i) i k (job (at p k)) (omega arith) (omega (arith, take-line p k (ok .0))) (oi .0) e)
     where
       si : (takesAt p i ≡ true) × (deviceAt p i ≡ d)
       si = takes-parts p i d ti
