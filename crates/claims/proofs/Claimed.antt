@@ -10,9 +10,9 @@ use lib.Dec.{eqb}
 use lib.ListN.{length, getD, drop, set, replicate, length-set, getD-replicate, drop-of-length-le}
 use lib.Seq.{drop-cons, getD-set-same, getD-set-other}
 use borrow.Author.Tests.{eqb-true, eqb-false}
-use Rattle.model.specs.Board.{devices}
+use Rattle.model.specs.Board.{board}
 use Rattle.model.specs.Sets.{empty, union, unionOf}
-use Rattle.model.specs.Line.{job, operand, isLine, at, firstLine}
+use Rattle.model.specs.Line.{Settings, job, operand, isLine, at, firstLine}
 use Rattle.model.specs.Claims.{own, joined, table}
 use Rattle.theory.proofs.Tests.{test}
 use Rattle.theory.proofs.Line.{line-parts}
@@ -31,8 +31,8 @@ pub record Claimed (p claimed : List ℕ) (i : ℕ) : Type 0 where
   pub are : (j : ℕ) → j < operands → getD claimed j 0 ≡ claimFrom p i j
 
 -- the job of a line has its place
-pub job-place : (D l : ℕ) → isLine D l ≡ true → job l < operands
-job-place D l h = omega (arith, line-parts D l h .1)
+pub job-place : (S : Settings) (l : ℕ) → isLine S l ≡ true → job l < operands
+job-place S l h = omega (arith, line-parts S l h .1)
 
 -- at the plan's end no job has a line
 pub none-claimed : (p : List ℕ) → Claimed p (replicate operands 0) (length p)
@@ -44,18 +44,18 @@ none-claimed p = record {
 }
 
 module _ (p claimed : List ℕ) (k : ℕ) (m : Claimed p claimed (suc k)) (h : k < length p)
-    (ok : isLine devices (at p k) ≡ true) where
+    (ok : isLine board (at p k) ≡ true) where
   abbrev l : ℕ
   l = at p k
 
   pub next-is : getD claimed (job (at p k)) 0 ≡ claimFrom p (suc k) (job (at p k))
-  next-is = m .are (job l) (job-place devices l ok)
+  next-is = m .are (job l) (job-place board l ok)
 
   -- what the code makes of a line is the table's set
   pub claim-made : claimOf (plainAt p k) (getD claimed (job (at p k)) 0) claimed ≡ claim p k
   unfolding claimOf begunOf operand
   claim-made =
-      rw (own-is devices p k ok, begun-is p claimed k, next-is, m .are (operand l) (omega arith))
+      rw (own-is board p k ok, begun-is p claimed k, next-is, m .are (operand l) (omega arith))
       (ap (union (own p k)) (sym (beyond-is p (table p) k)) ∙ sym (claim-is p k h))
 
   -- the first of the job's lines is now this one, and the other jobs have theirs

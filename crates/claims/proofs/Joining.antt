@@ -9,11 +9,12 @@ use lib.Dec.{eqb}
 use lib.ListN.{getD, drop}
 use Rattle.model.specs.Sets.{empty, only, union, unionOf}
 use Rattle.sets.specs.Only.{onlyOf}
-use Rattle.model.specs.Line.{job, operand, isTake, isStart, isLine, at, firstLine}
+use Rattle.model.specs.Line.{Settings, job, operand, opens, isTake, isGive, isStart, deviceOf, isLine, at, firstLine}
 use Rattle.model.specs.Mate.{takesAt, deviceAt}
 use Rattle.model.specs.Claims.{successors, own, joined, beyond}
 use Rattle.theory.specs.Outer.{againAt, plainAt}
-use Rattle.theory.proofs.Line.{device-line}
+use Rattle.theory.proofs.Line.{device-line, own-device, take-no-held, take-opens}
+use Rattle.theory.proofs.Tests.{or-left}
 use Rattle.theory.proofs.Claims.{outermost}
 use Rattle.theory.proofs.Outer.{plain-operand, plain-take, plain-start}
 use Rattle.sets.proofs.Members.{only-of}
@@ -89,15 +90,20 @@ set-there v l t ls j e = rw (firstLine, e) (shifted v t (firstLine j ls))
 
 -- ---- the own claim, as the code works it out from the line as it counts
 
-pub own-is : (D : ℕ) (p : List ℕ) (i : ℕ) → isLine D (at p i) ≡ true
-    → cond (isTake (plainAt p i)) (onlyOf D (operand (plainAt p i))) empty ≡ own p i
+pub own-is : (S : Settings) (p : List ℕ) (i : ℕ) → isLine S (at p i) ≡ true
+    → cond (isTake (plainAt p i)) (onlyOf (S .devices) (operand (plainAt p i))) empty ≡ own p i
 unfolding own deviceAt
-own-is D p i h = rw (plain-take p i, plain-operand (againAt p i) (at p i)) (go (takesAt p i) refl)
+own-is S p i h = rw (plain-take p i, plain-operand (againAt p i) (at p i)) (go (takesAt p i) refl)
   where
     go : (b : Bool) → takesAt p i ≡ b
-        → cond b (onlyOf D (operand (at p i))) empty ≡ cond b (only (operand (at p i))) empty
+        → cond b (onlyOf (S .devices) (operand (at p i))) empty ≡ cond b (only (deviceOf (at p i))) empty
     go false e = refl
-    go true e = only-of D (operand (at p i)) (device-line D (at p i) h (rw (outermost p i e .0)))
+    go true e =
+        let l = at p i in
+        let t = outermost p i e .0 in
+        let same = own-device l (take-no-held l t) in
+        ap (onlyOf (S .devices)) (sym same)
+        ∙ only-of (S .devices) (deviceOf l) (device-line S l h (or-left (opens l) (isGive l) (take-opens l t)))
 
 -- what a started job claims, by the line as it counts
 pub begun-is : (p claimed : List ℕ) (i : ℕ) → begunOf (plainAt p i) claimed ≡ begunOf (at p i) claimed

@@ -14,7 +14,7 @@ ghost use lib.ListN.{length};
 ghost use Rattle.model.specs.Lists.{over};
 ghost use Rattle.model.specs.WellFormed.{fault};
 ghost use Rattle.model.specs.Claims.{table};
-ghost use Rattle.model.specs.Board.{devices};
+ghost use Rattle.model.specs.Board.{board};
 ghost use Rattle.plan.specs.Again.{againFlags};
 ghost use Rattle.claims.specs.Claim.{ownOf, claimWith, begunOf, claimOf};
 ghost use Rattle.promises.specs.Table.{TablesAs};
@@ -51,7 +51,7 @@ pub fn claim(l: u32, next: Set, claimed: &[Set; EACH_OPERAND]) -> Set
 
 // The table, from the plan's end, into the front of the lent list. `again` has the flags of the lines that take again.
 fn fill(plan: &[u32], again: &[u8; MOST_LINES], sets: &mut [Set])
-    requires { ⌜ (fault devices (now plan) ≡ none) × (now again ≡ againFlags (now plan))
+    requires { ⌜ (fault board (now plan) ≡ none) × (now again ≡ againFlags (now plan))
         × (length (now plan) ≤ length (now sets)) ⌝ }
     ensures { λ r. ⌜ now (sets .exit) ≡ over (table (now (plan .entry))) (now (sets .entry)) ⌝ }
 {
@@ -69,7 +69,7 @@ fn fill(plan: &[u32], again: &[u8; MOST_LINES], sets: &mut [Set])
 
 // The table of a plan's claims, into the front of the lent list; a refusal (2 to 7, 11) leaves the list as it was.
 pub fn table(plan: &[u32], sets: &mut [Set]) -> TableAnswer
-    ensures { λ r. ⌜ TablesAs (now (plan .entry)) (now (sets .entry)) r (now (sets .exit)) ⌝ }
+    ensures { λ r. ⌜ TablesAs board (now (plan .entry)) (now (sets .entry)) r (now (sets .exit)) ⌝ }
 {
     let mut first = [0u32; EACH_JOB];
     let mut starter = [0u32; EACH_JOB];

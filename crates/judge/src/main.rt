@@ -8,7 +8,7 @@ ghost use Prim.Native.Nat.{ℕ};
 ghost use mathlib.Core.List.{List};
 ghost use mathlib.Core.Path.{_≡_};
 ghost use lib.ListN.{length, take};
-ghost use Rattle.model.specs.Board.{devices};
+ghost use Rattle.model.specs.Board.{board};
 ghost use Rattle.model.specs.Judged.{judgePrinted, judgeRoom};
 ghost use Rattle.shell.specs.Input.{Within};
 
@@ -23,7 +23,7 @@ fn read_text(room: &mut [u8]) -> Input
 // Writes what is printed for an input, which these bytes are, to standard output. The text is the input's front, as
 // much of it as decides.
 fn write_printed(text: &[u8], bytes: &[u8]) -> bool
-    requires { ⌜ ((input : List ℕ) → now text ≡ take judgeRoom input → now bytes ≡ judgePrinted devices input) ⌝ }
+    requires { ⌜ ((input : List ℕ) → now text ≡ take judgeRoom input → now bytes ≡ judgePrinted board input) ⌝ }
 {
     shell::write_output(bytes)
 }

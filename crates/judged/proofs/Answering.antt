@@ -5,7 +5,7 @@ use mathlib.Core.List.{List, [], _∷_}
 use mathlib.Core.Path.{_≡_, sym, _∙_}
 use lib.ListN.{length, take}
 use Rattle.model.specs.Answers.{refuseAt, firstRefusal}
-use Rattle.model.specs.Board.{devices}
+use Rattle.model.specs.Board.{board}
 use Rattle.model.specs.Line.{maxLines}
 use Rattle.model.specs.Text.{spelt}
 use Rattle.model.specs.Entries.{textFault}
@@ -26,43 +26,43 @@ use Rattle.judged.specs.Entered.{entriesAt, Gathers}
 -- ---- the judge's answer
 
 -- entries that go wrong at the same place have the same answer
-same-answer : (p es fs : List ℕ) → stray p es ≡ stray p fs → judging devices p es ≡ judging devices p fs
+same-answer : (p es fs : List ℕ) → stray p es ≡ stray p fs → judging board p es ≡ judging board p fs
 unfolding judging judgeRefusal
 same-answer p es fs e = rw e
 
 pub answer-on-text : (p : List ℕ) → length p ≤ maxLines → {text : List ℕ} {from count : ℕ} {left : List ℕ}
-    → Gathers text from count left → (a : JudgeAnswer) → JudgesAs p (take count left) a
-    → a ≡ judging devices p (entriesAt text from)
+    → Gathers text from count left → (a : JudgeAnswer) → JudgesAs board p (take count left) a
+    → a ≡ judging board p (entriesAt text from)
 answer-on-text p few {text} {from} {count} {left} g a j =
-    one-judge-answer a (judging devices p (take count left)) (j .answers)
+    one-judge-answer a (judging board p (take count left)) (j .answers)
     ∙ same-answer p (take count left) (entriesAt text from) (sym (g .same p few))
 
 -- ---- what is printed
 
 module _ (text : List ℕ) (end : ℕ) (x : PlanEnds text end) where
   abbrev plan : List ℕ
-  plan = spelt devices (take end text)
+  plan = spelt board (take end text)
 
   abbrev entries : List ℕ
   entries = entriesAt text (pastLine text end)
 
-  printed-is : judgePrinted devices text
+  printed-is : judgePrinted board text
       ≡ judgeLine
-      (judgedBy (firstRefusal (textFault devices (take end text) ∷ refuseAt IllegalStep (stray plan entries) ∷ [])))
+      (judgedBy (firstRefusal (textFault board (take end text) ∷ refuseAt IllegalStep (stray plan entries) ∷ [])))
   unfolding judgePrinted judgeTextRefusal entriesOf
   printed-is = rw (x .plan, x .entries)
 
-  module _ (lent : List ℕ) {a : ReadAnswer} {left : List ℕ} (m : ReadsAs (take end text) lent a left) where
+  module _ (lent : List ℕ) {a : ReadAnswer} {left : List ℕ} (m : ReadsAs board (take end text) lent a left) where
     -- a fault of the text
     pub prints-fault : length lent ≡ maxLines → (r : Refusal) → a ≡ ReadAnswer.Refused r
-        → printedRefusal r ≡ judgePrinted devices text
+        → printedRefusal r ≡ judgePrinted board text
     unfolding firstRefusal judgedBy judgeLine
-    prints-fault long r q = sym (printed-is ∙ rw (read-fault (take end text) lent m long r q))
+    prints-fault long r q = sym (printed-is ∙ rw (read-fault board (take end text) lent m long r q))
 
     -- the judge's answer on the plan read
     pub prints-answer : (n : ℕ) → a ≡ ReadAnswer.Lines n
-        → judgeLine (judging devices (take n left) entries) ≡ judgePrinted devices text
+        → judgeLine (judging board (take n left) entries) ≡ judgePrinted board text
     unfolding firstRefusal judging judgeRefusal
     prints-answer n q =
-        rw (front-read (take end text) lent m q, well-formed-read (take end text) lent m q)
-        (sym (printed-is ∙ rw (no-fault-read (take end text) lent m q)))
+        rw (front-read board (take end text) lent m q, well-formed-read board (take end text) lent m q)
+        (sym (printed-is ∙ rw (no-fault-read board (take end text) lent m q)))

@@ -8,7 +8,7 @@ use mathlib.Core.Path.{_≡_, refl}
 use native.Mathlib.Omega.{arith}
 use lib.ListN.{length}
 use Rattle.model.specs.Answers.{refuseAt, firstRefusal}
-use Rattle.model.specs.Board.{devices}
+use Rattle.model.specs.Board.{board}
 use Rattle.model.specs.Text.{linesOf, spelt}
 use Rattle.model.specs.Entries.{textFault}
 use Rattle.model.specs.Judged.{stray, judgedBy, planPart, entriesOf, judgeTextRefusal, legalLine, judgeLine}
@@ -22,28 +22,28 @@ use Rattle.theory.proofs.Judged.{stray-bounds}
 use Rattle.theory.proofs.Text.{no-text-fault}
 use Rattle.theory.proofs.Printed.{Short, fault-short, refusal-length}
 
-pub answer-fits : (text : List ℕ) → length (judgePrinted devices text) ≤ 22
+pub answer-fits : (text : List ℕ) → length (judgePrinted board text) ≤ 22
 unfolding judgePrinted judgeTextRefusal judgedBy judgeLine firstRefusal refuseAt legalLine
-answer-fits text = go (textFault devices plan) refl (fault-short devices plan) (stray p es) refl
+answer-fits text = go (textFault board plan) refl (fault-short board plan) (stray p es) refl
   where
     plan : List ℕ
     plan = planPart (linesOf text)
 
     p : List ℕ
-    p = spelt devices plan
+    p = spelt board plan
 
     es : List ℕ
     es = entriesOf (linesOf text)
 
-    go : (x : Option Refusal) → textFault devices plan ≡ x → Short x → (o : Option ℕ) → stray p es ≡ o
+    go : (x : Option Refusal) → textFault board plan ≡ x → Short x → (o : Option ℕ) → stray p es ≡ o
         → length (judgeLine (judgedBy (firstRefusal (x ∷ refuseAt IllegalStep o ∷ [])))) ≤ 22
     go (some r) e h o q = omega (arith, refusal-length r (omega arith) (omega arith))
     go none e h none q = omega arith
     go none e h (some k) q =
-        let few = no-fault-exactly devices p .0 (no-text-fault devices plan .0 e .1) .few in
+        let few = no-fault-exactly board p .0 (no-text-fault board plan .0 e .1) .few in
         omega (arith, refusal-length (IllegalStep k) (omega arith) (omega (arith, stray-bounds p es k q .0)))
 
 -- so with that room it is put whole
 pub put-within : (text : List ℕ) {lent : List ℕ} {n : ℕ} {left : List ℕ}
-    → PutsAs (judgePrinted devices text) 0 lent n left → 22 ≤ length lent → n ≤ length lent
+    → PutsAs (judgePrinted board text) 0 lent n left → 22 ≤ length lent → n ≤ length lent
 put-within text x h = omega (arith, answer-fits text, moves x (omega (arith, answer-fits text)))

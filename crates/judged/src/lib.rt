@@ -7,7 +7,7 @@ use model::ReadAnswer;
 ghost use Prim.Native.Nat.{_≤_, _<_};
 ghost use mathlib.Core.Path.{_≡_};
 ghost use lib.ListN.{length, drop};
-ghost use Rattle.model.specs.Board.{devices};
+ghost use Rattle.model.specs.Board.{board};
 ghost use Rattle.model.specs.Line.{maxLines};
 ghost use Rattle.model.specs.Judged.{judging, judgeLine, judgePrinted};
 ghost use Rattle.fields.specs.Puts.{PutsAs};
@@ -91,7 +91,7 @@ fn gather(text: &[u8], from: usize, entries: &mut [u16]) -> usize
 // The judge's answer on a plan and the entries that stand in a text from a place on.
 fn judge_entries(plan: &[u32], text: &[u8], from: usize) -> JudgeAnswer
     requires { ⌜ length (now plan) ≤ maxLines ⌝ }
-    ensures { λ a. ⌜ a ≡ judging devices (now (plan .entry)) (entriesAt (now (text .entry)) from) ⌝ }
+    ensures { λ a. ⌜ a ≡ judging board (now (plan .entry)) (entriesAt (now (text .entry)) from) ⌝ }
 {
     let mut entries = [0u16; ENTRIES];
     let n = gather(text, from, &mut entries);
@@ -116,7 +116,7 @@ pub const ANSWER_ROOM: usize = 22;
 // What the program prints for a text, into the front of the lent buffer: the number of bytes. Where they do not fit
 // nothing is written, and the number is one over the room; with ANSWER_ROOM bytes they always fit.
 pub fn print(text: &[u8], out: &mut [u8]) -> usize
-    ensures { λ n. ⌜ PutsAs (judgePrinted devices (now (text .entry))) 0 (now (out .entry)) n (now (out .exit)) ⌝ }
+    ensures { λ n. ⌜ PutsAs (judgePrinted board (now (text .entry))) 0 (now (out .entry)) n (now (out .exit)) ⌝ }
 {
     let mut plan = [0u32; MOST_LINES];
     let end = plan_end(text);

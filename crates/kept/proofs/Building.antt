@@ -10,7 +10,7 @@ use lib.Dec.{ltb}
 use lib.ListN.{length, getD, set}
 use lib.Seq.{ext-getD}
 use borrow.Author.Tests.{ltb-false}
-use Rattle.model.specs.Board.{devices}
+use Rattle.model.specs.Board.{devices, board}
 use Rattle.model.specs.Lists.{over}
 use Rattle.model.specs.Sets.{member, devicesWhere}
 use Rattle.model.specs.Answers.{refuseIf, firstRefusal, tooShort}
@@ -89,11 +89,11 @@ one-set (x ∷ xs) s h = refl
 module _ (p : List ℕ) (lent : Beside) where
   pub no-room : (ltb (length (lent .sets)) (length p) ≡ false → ltb (length (lent .rows)) devices ≡ false
       → ltb (length (lent .held)) 1 ≡ true)
-      → firstRefusal (fault devices p ∷ roomFor devices p lent ∷ [])
-      ≡ some (refusedBy (fault devices p) (length p) (length (lent .sets)) (length (lent .rows)))
+      → firstRefusal (fault board p ∷ roomFor devices p lent ∷ [])
+      ≡ some (refusedBy (fault board p) (length p) (length (lent .sets)) (length (lent .rows)))
   unfolding roomFor
   no-room h =
-      refused-in (fault devices p) (length p) (length (lent .sets)) (length (lent .rows)) (length (lent .held)) h
+      refused-in (fault board p) (length p) (length (lent .sets)) (length (lent .rows)) (length (lent .held)) h
 
   -- where no list is too short
   pub has-room : (ltb (length (lent .sets)) (length p) || ltb (length (lent .rows)) devices
@@ -107,12 +107,12 @@ module _ (p : List ℕ) (lent : Beside) where
       let u = or-neither (ltb sets n) (ltb rs devices) (t .0) in
       (ltb-false sets n (u .0), ltb-false rs devices (u .1), ltb-false held 1 (t .1))
 
-  pub refused-as : {r : Refusal} → firstRefusal (fault devices p ∷ roomFor devices p lent ∷ []) ≡ some r
+  pub refused-as : {r : Refusal} → firstRefusal (fault board p ∷ roomFor devices p lent ∷ []) ≡ some r
       → BuildsWith p lent (TableAnswer.Refused r) lent
   unfolding building
   refused-as {r} e =
       by-refusal TableAnswer.Refused (TableAnswer.Lines (length p)) (overAll (besideOf devices p) lent) lent
-      (firstRefusal (fault devices p ∷ roomFor devices p lent ∷ [])) r e
+      (firstRefusal (fault board p ∷ roomFor devices p lent ∷ [])) r e
 
   module _ {rs rs′ sets′ : List ℕ} {a : HoldsAnswer} (t : TabledAs p rs (lent .sets) a rs′ sets′) where
     -- a fault
@@ -132,7 +132,7 @@ module _ (p : List ℕ) (lent : Beside) where
         let s = told-sets p (sym e ∙ t .answers) in
         let f = s .0 in
         let made : rs′ ≡ rows devices p = rw f at (t .rowsAre) in
-        builds-with p lent _ (no-fault-exactly devices p .0 f) room
+        builds-with p lent _ (no-fault-exactly board p .0 f) room
         (rw (
           (rw f at (t .tableIs)) ∙ whole-table p (lent .sets) (room .0),
           made,

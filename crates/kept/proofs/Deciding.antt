@@ -8,7 +8,7 @@ use lib.Dec.{ltb}
 use lib.ListN.{length, take}
 use lib.Seq.{length-take-le}
 use borrow.Author.Tests.{ltb-false, lt-ltb, le-ltb}
-use Rattle.model.specs.Board.{devices}
+use Rattle.model.specs.Board.{devices, board}
 use Rattle.model.specs.Answers.{verdictValues, refuseIf, firstRefusal, tooShort}
 use Rattle.model.specs.Lists.{upFrom, those}
 use Rattle.model.specs.Sets.{member, lowestOf}
@@ -87,18 +87,18 @@ module _ (p rs : List ℕ) where
   unfolding heldNumber lastsIn lastsAmong
   number = ap length (sym (held-those devices p))
 
-  by-sets : fault devices p ≡ none → quick devices p rs ≡ decided rs (heldToEnd devices p) (heldTwice devices p)
+  by-sets : fault board p ≡ none → quick devices p rs ≡ decided rs (heldToEnd devices p) (heldTwice devices p)
   unfolding quick quickRefusal decided
   by-sets e = rw (e, tests, number)
 
   -- what the walk back over the plan found
-  pub quick-refused : {r : Refusal} → HoldsAnswer.Refused r ≡ holdsBy (fault devices p) p
+  pub quick-refused : {r : Refusal} → HoldsAnswer.Refused r ≡ holdsBy (fault board p) p
       → QuickAs p rs (VerdictAnswer.Refused r)
   unfolding quick quickRefusal quickBy firstRefusal
   quick-refused e = record { answers = rw (told-fault p e) }
 
   pub quick-decided : {held twice : ℕ} {a : VerdictAnswer}
-      → HoldsAnswer.Made held twice ≡ holdsBy (fault devices p) p → a ≡ decided rs held twice → QuickAs p rs a
+      → HoldsAnswer.Made held twice ≡ holdsBy (fault board p) p → a ≡ decided rs held twice → QuickAs p rs a
   quick-decided {a = a} e d =
       let t = told-sets p e in
       let is : a ≡ quick devices p rs = d ∙ rw (t .1, t .2) (sym (by-sets (t .0))) in

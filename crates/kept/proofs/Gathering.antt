@@ -13,20 +13,21 @@ use lib.ListN.{length, getD, set, replicate, getD-replicate, List·getD-eq-defau
 use lib.Seq.{drop-cons, getD-set-other}
 use mir.Val.{boolByte}
 use borrow.Author.Tests.{lt-ltb, eqb-true, eqb-false, eq-eqb, ne-eqb}
-use Rattle.model.specs.Board.{devices}
-use Rattle.model.specs.Line.{job, operand, isTake, isGive, at, maxLines, maxJob}
+use Rattle.model.specs.Board.{devices, board}
+use Rattle.model.specs.Line.{job, operand, isTake, at, maxLines, maxJob}
 use Rattle.model.specs.Mate.{deviceAt, lastingAt, lasting}
 use Rattle.model.specs.Sets.{empty, member}
 use Rattle.model.specs.Claims.{beyond}
 use Rattle.model.specs.WellFormed.{WellFormed}
 use Rattle.theory.specs.Outer.{plainAt}
-use Rattle.theory.proofs.Tests.{clash, test, le-or-lt, or-left}
-use Rattle.theory.proofs.Line.{line-parts, device-line, take-no-start}
+use Rattle.theory.proofs.Tests.{clash, test, le-or-lt}
+use Rattle.theory.proofs.Line.{line-parts, take-no-start}
 use Rattle.theory.proofs.Claims.{outermost}
 use Rattle.theory.proofs.LastingKept.{eqb-turned}
 use Rattle.theory.proofs.Sets.{member-empty}
 use Rattle.theory.proofs.Successors.{jobs-grow}
-use Rattle.theory.proofs.WellFormed.{no-fault-exactly}
+use Rattle.theory.proofs.WellFormed.{no-fault-exactly, morning-midday, no-held-in-morning}
+use Rattle.theory.proofs.Move.{taken-device}
 use Rattle.claims.proofs.Joining.{union-none, beyond-is}
 use Rattle.claims.proofs.Written.{EndOf, end-whole}
 use Rattle.plan.proofs.Firsts.{Listed, first-listed}
@@ -35,8 +36,8 @@ use Rattle.rows.specs.Holds.{PassedOn}
 use Rattle.rows.specs.declared.Passed.{Passed}
 use Rattle.rows.proofs.Wanted.{wanted, flag-at}
 use Rattle.rows.proofs.Counted.{lasting-is, Counted, Knows, none-counted, none-known, lasts-made, known-on, counted-on}
-use Rattle.rows.proofs.Counted.{counted-past, all-counted}
-use Rattle.rows.proofs.RowsFrom.{lasting-takes, RowsBy, none-by, by-on, all-by}
+use Rattle.rows.proofs.Counted.{counted-past, all-counted, lasting-takes, taken-operand}
+use Rattle.rows.proofs.RowsFrom.{RowsBy, none-by, by-on, all-by}
 use Rattle.rows.proofs.Walked.{length-flags, none-flagged, one-flagged}
 use Rattle.way.specs.Join.{nextSet}
 use Rattle.way.proofs.Joins.{next-is}
@@ -74,7 +75,7 @@ none-gathered p again t known = record {
 }
   where
     few : length p ≤ maxLines
-    few = no-fault-exactly devices p .0 (known .sound) .few
+    few = no-fault-exactly board p .0 (known .sound) .few
 
     nothing : (b : Bool) → _≡_ {A = ℕ} (cond b 0 0) 0
     nothing true = refl
@@ -84,22 +85,22 @@ none-gathered p again t known = record {
         → cond (eqb (job (at p (suc k))) (job (at p k))) (getD t (suc k) 0) 0 ≡ 0
     past k e =
         let z : at p (suc k) ≡ 0 = List·getD-eq-default p 0 (omega arith) in
-        let j = line-parts devices (at p k) (no-fault-exactly devices p .0 (known .sound) .lines k (omega arith)) .0 in
+        let j = line-parts board (at p k) (no-fault-exactly board p .0 (known .sound) .lines k (omega arith)) .0 in
         rw (z, ne-eqb 0 (job (at p k)) (λ q. omega (arith, j)))
 
 -- ---- one line further back
 
 module _ {p again t rs flags : List ℕ} {old : Passed} {behind k : ℕ} (known : Prepared p again t)
     (m : Gathered p t rs flags old behind (suc k)) where
-  well : WellFormed devices p
-  well = no-fault-exactly devices p .0 (known .sound)
+  well : WellFormed board p
+  well = no-fault-exactly board p .0 (known .sound)
 
   inPlan : k < length p
   inPlan = m .found .counted .inPlan
 
   beyond-take : (next : ℕ) → next ≡ nextSet p t k → isTake (at p k) ≡ true → next ≡ beyond p t k
   beyond-take next e taken =
-      e ∙ next-is p t well (known .room) k inPlan
+      e ∙ next-is p t (morning-midday devices p well) (known .room) k inPlan
       ∙ sym (beyond-is p t k ∙ rw (take-no-start (at p k) taken) (union-none _))
 
   module _ {new : Passed} (n : PassedOn new old (at p k) (plainAt p k)) where
@@ -113,9 +114,8 @@ module _ {p again t rs flags : List ℕ} {old : Passed} {behind k : ℕ} (known 
         go : (b : Bool) → lastingAt p k ≡ b → (b && ltb (operand (at p k)) devices) ≡ b
         go false e = refl
         go true e =
-            lt-ltb (operand (at p k)) devices
-            (device-line devices (at p k) (well .lines k inPlan)
-            (or-left (isTake (at p k)) (isGive (at p k)) (outermost p k (lasting-takes p k e) .0)))
+            let taken = outermost p k (lasting-takes p k e) .0 in
+            rw (← taken-operand p k taken) (lt-ltb (deviceAt p k) devices (taken-device board p k well taken))
 
     pub one-gathered : (next : ℕ) → next ≡ cond (eqb (job (at p k)) (old .job)) behind empty → (rs′ : List ℕ)
         → rs′ ≡ rowJoined (at p k) (new .lasts && ltb (operand (at p k)) devices) next rs
@@ -174,15 +174,15 @@ module _ {p again t rs flags first holdings : List ℕ} {passed : Passed} {behin
   abbrev j : ℕ
   j = job (at p k)
 
-  w : WellFormed devices p
-  w = no-fault-exactly devices p .0 (known .sound)
+  w : WellFormed board p
+  w = no-fault-exactly board p .0 (known .sound)
 
   here : k < length p
   here = m .found .counted .inPlan
 
   -- its number is a job's
   pub in-range : j ≤ maxJob
-  in-range = line-parts devices (at p k) (w .lines k here) .1
+  in-range = line-parts board (at p k) (w .lines k here) .1
 
   abbrev listed : Listed p j
   listed = first-listed p j k in-range here refl
@@ -202,7 +202,6 @@ module _ {p again t rs flags first holdings : List ℕ} {passed : Passed} {behin
   -- all lines between are of the job, and no take of it lasts
   module _ (other : j ≢ moved) (nothing : getD holdings j 0 ≡ empty) where
     none-here : (i : ℕ) → listed .line ≤ i → i < suc k → lastingAt p i ≡ false
-    unfolding deviceAt
     none-here i h l = go (lastingAt p i) refl
       where
         same : job (at p i) ≡ j
@@ -217,8 +216,8 @@ module _ {p again t rs flags first holdings : List ℕ} {passed : Passed} {behin
         go : (b : Bool) → lastingAt p i ≡ b → b ≡ false
         go false e = refl
         go true e =
-            let d = operand (at p i) in
-            let lasts : lasting p i d ≡ true = rw (lasting-is p i d, e, eq-eqb (operand (at p i)) d refl) refl in
+            let d = deviceAt p i in
+            let lasts : lasting p i d ≡ true = rw (lasting-is p i d, e, eq-eqb (deviceAt p i) d refl) refl in
             clash (member empty d)
             (rw (same, nothing) at (skips .among i d lasts (λ q. other (sym same ∙ q)))) (member-empty d)
 
@@ -243,7 +242,7 @@ module _ {p again t rs flags first holdings : List ℕ} {passed : Passed} {behin
         go (inl le) = ne-eqb (job (at p i)) (passed .job) (λ q. omega (arith, before-job i e))
         go (inr z) =
             ne-eqb (job (at p i)) (passed .job)
-            (λ q. omega (arith, line-parts devices (at p i) (w .lines i (omega (arith, above, here))) .0))
+            (λ q. omega (arith, line-parts board (at p i) (w .lines i (omega (arith, above, here))) .0))
 
     pub past-job : Gathered p t rs flags passed behind (getD first j 0 - 1)
     unfolding nextSet wantedAfter wanted
@@ -267,10 +266,12 @@ module _ {p again t rs flags first holdings : List ℕ} {passed : Passed} {behin
         whole = omega (arith, above)
 
 -- at the front all is the plan's
-pub all-gathered : {p t rs flags : List ℕ} {passed : Passed} {behind : ℕ}
+pub all-gathered : {p again t rs flags : List ℕ} {passed : Passed} {behind : ℕ} → Prepared p again t
     → Gathered p t rs flags passed behind 0 → GathersAs p t (passed .held) rs flags
-all-gathered {p} {t} {rs} {flags} {passed} m = record {
-  heldIs = all-counted p passed (m .found .counted) .toEnd;
+all-gathered {p} {again} {t} {rs} {flags} {passed} known m = record {
+  heldIs =
+      all-counted p (no-held-in-morning devices p (no-fault-exactly board p .0 (known .sound))) passed
+      (m .found .counted) .toEnd;
   rowsAre = all-by p t rs (m .found .rowsBy);
   flagsAre = end-whole (lastingFlags p) flags (m .found .flagged);
 }

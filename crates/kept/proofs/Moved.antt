@@ -10,7 +10,7 @@ use native.Mathlib.Omega.{arith}
 use lib.Dec.{eqb}
 use lib.ListN.{length, getD, set}
 use borrow.Author.Tests.{eqb-true}
-use Rattle.model.specs.Board.{devices}
+use Rattle.model.specs.Board.{devices, board}
 use Rattle.model.specs.Lists.{upFrom, has, any, over}
 use Rattle.model.specs.Sets.{empty, union, member, put}
 use Rattle.model.specs.Line.{operand, isTake, at, maxLines}
@@ -22,6 +22,7 @@ use Rattle.model.specs.Kept.{lastsAmong, lastsIn, heldToEnd, concerned, keptRow
 use Rattle.theory.proofs.Tests.{test, tests-agree, and-right, or-false, and-true}
 use Rattle.theory.proofs.Lists.{has-upFrom, any-found, any-at}
 use Rattle.theory.proofs.Sets.{member-union, member-empty, same-members, union-below, member-put, put-below}
+use Rattle.theory.proofs.Claims.{outermost}
 use Rattle.theory.proofs.Edited.{EditOf}
 use Rattle.theory.proofs.Way.{from-last-same, may-change-line}
 use Rattle.theory.proofs.LastingKept.{map-same, eqb-turned, lasts-among-same}
@@ -32,7 +33,7 @@ use Rattle.sets.proofs.Members.{member-only-of, member-both, member-without, bo
 use Rattle.rows.specs.Lasting.{lastingFlag, lastingFlags}
 use Rattle.rows.proofs.Entries.{entry-of}
 use Rattle.rows.proofs.Wanted.{flag-at}
-use Rattle.rows.proofs.Counted.{lasting-is}
+use Rattle.rows.proofs.Counted.{lasting-is, lasting-takes, taken-operand}
 use Rattle.way.specs.Back.{wayBy}
 use Rattle.way.specs.Flagged.{flaggedBy}
 use Rattle.kept.specs.Gathered.{rowsBy}
@@ -87,7 +88,7 @@ any-agree f g xs ys same agree =
     (λ m. let r = any-found g ys m in
     let h = same (r .0) ∙ r .1 in any-at f xs (r .0) h (agree (r .0) h ∙ r .2))
 
-module _ (p q : List ℕ) (i e : ℕ) (w : WellFormed devices p) (taken : isTake (at p i) ≡ true) (inPlan : i < length p)
+module _ (p q : List ℕ) (i e : ℕ) (w : WellFormed board p) (taken : isTake (at p i) ≡ true) (inPlan : i < length p)
     (d : EditOf p i e q) where
   -- a line that may change has its flag
   few : (k : ℕ) → has k (fromLast p i) ≡ true → k < maxLines
@@ -95,14 +96,15 @@ module _ (p q : List ℕ) (i e : ℕ) (w : WellFormed devices p) (taken : isTake
 
   flag-lasts : (k x : ℕ) → k < maxLines
       → (eqb (getD (lastingFlags q) k 0) 1 && eqb (operand (at q k)) x) ≡ lasting q k x
-  unfolding lastingFlag deviceAt
+  unfolding lastingFlag
   flag-lasts k x h =
       ap (λ (n : ℕ). eqb n 1 && eqb (operand (at q k)) x) (flag-at q (lastingFlags q) k refl h)
-      ∙ go (lastingAt q k) ∙ sym (lasting-is q k x)
+      ∙ go (lastingAt q k) refl ∙ sym (lasting-is q k x)
     where
-      go : (b : Bool) → (eqb (cond b 1 0) 1 && eqb (operand (at q k)) x) ≡ (b && eqb (operand (at q k)) x)
-      go true = refl
-      go false = refl
+      go : (b : Bool) → lastingAt q k ≡ b
+          → (eqb (cond b 1 0) 1 && eqb (operand (at q k)) x) ≡ (b && eqb (deviceAt q k) x)
+      go true l = rw (taken-operand q k (outermost q k (lasting-takes q k l) .0))
+      go false l = refl
 
   -- lasting takes on that way, asked of the edited plan
   lasts-on-way : (x : ℕ) → x < devices

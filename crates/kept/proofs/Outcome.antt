@@ -9,9 +9,9 @@ use native.Mathlib.Omega.{arith}
 use lib.Dec.{eqb}
 use lib.ListN.{length, getD}
 use borrow.Author.Tests.{eqb-true, eqb-false}
-use Rattle.model.specs.Board.{devices}
+use Rattle.model.specs.Board.{devices, board}
 use Rattle.model.specs.Lists.{has, over}
-use Rattle.model.specs.Line.{job, at}
+use Rattle.model.specs.Line.{job, operand, at}
 use Rattle.model.specs.Mate.{deviceAt, lasting}
 use Rattle.model.specs.Sets.{member}
 use Rattle.model.specs.WellFormed.{before, heldBy, WellFormed, fault}
@@ -37,6 +37,7 @@ use Rattle.plan.specs.Ends.{leftBy}
 use Rattle.plan.specs.Holdings.{holdings}
 use Rattle.plan.specs.Jobs.{firstLines, starters}
 use Rattle.plan.proofs.Holdings.{holding-at}
+use Rattle.rows.proofs.Counted.{taken-operand}
 use Rattle.way.specs.Back.{wayBy}
 use Rattle.way.specs.Known.{Scanned}
 use Rattle.moving.specs.Through.{MovesThrough}
@@ -48,7 +49,7 @@ use Rattle.moving.proofs.Outcome.{last-way, plainly-moved}
 use Rattle.promises.specs.Kept.{beside, MovesKeptAs}
 use Rattle.promises.proofs.Kept.{met-accepted}
 use Rattle.kept.specs.Gathered.{Prepared, Skips}
-use Rattle.kept.specs.Keeping.{deviceOf, KeepsAs}
+use Rattle.kept.specs.Keeping.{operandOf, KeepsAs}
 use Rattle.kept.proofs.Moved.{rows-kept, held-kept}
 
 -- what was accepted was refused by no test
@@ -59,8 +60,8 @@ accepted none a new lent n e = refl
 accepted (some r) a new lent n e = let z : _≡_ {A = ℕ} 0 1 = cc in absurd (omega arith)
 
 -- plan and table as it leaves them
-left-by : (p t : List ℕ) (line device : ℕ) → moveRefusal devices p t line device ≡ none
-    → moving devices p t line device .left
+left-by : (p t : List ℕ) (line device : ℕ) → moveRefusal board p t line device ≡ none
+    → moving board p t line device .left
     ≡ record {
       plan = edited p (askedAt line) device;
       sets = rewritten (edited p (askedAt line) device) t (fromLast p (askedAt line));
@@ -68,26 +69,26 @@ left-by : (p t : List ℕ) (line device : ℕ) → moveRefusal devices p t line 
 unfolding moving outcome
 left-by p t line device e = rw e
 
-asked-device : (p : List ℕ) (line : ℕ) → 1 ≤ line → deviceOf p line ≡ deviceAt p (askedAt line)
+asked-operand : (p : List ℕ) (line : ℕ) → 1 ≤ line → operandOf p line ≡ operand (at p (askedAt line))
 unfolding askedAt
-asked-device p zero h = absurd (omega arith)
-asked-device p (suc i) h = refl
+asked-operand p zero h = absurd (omega arith)
+asked-operand p (suc i) h = refl
 
 module _ {p t : List ℕ} {line device : ℕ} {first starter again ofJobs : List ℕ} {answer : Through}
     {p′ t′ first′ starter′ again′ ofJobs′ : List ℕ}
-    (m : MovesThrough p t line device first starter again ofJobs answer p′ t′ first′ starter′ again′ ofJobs′)
+    (m : MovesThrough board p t line device first starter again ofJobs answer p′ t′ first′ starter′ again′ ofJobs′)
     {count stop : ℕ} (told : answer ≡ Through.Moved count stop) where
-  none-refuses : moveRefusal devices p t line device ≡ none
+  none-refuses : moveRefusal board p t line device ≡ none
   unfolding moving
   none-refuses =
       let q : List ℕ = edited p (askedAt line) device in
       let u : List ℕ = rewritten q t (fromLast p (askedAt line)) in
-      accepted (moveRefusal devices p t line device) (MoveAnswer.Changed (changed p t u))
+      accepted (moveRefusal board p t line device) (MoveAnswer.Changed (changed p t u))
       (record { plan = q; sets = u }) (record { plan = p; sets = t }) count
       (told-moved _ _ count stop (sym told ∙ m .answers) .0)
 
-  k : Passes p t line device
-  k = passes p t line device none-refuses
+  k : Passes false p t line device
+  k = passes false p t line device none-refuses
 
   abbrev i : ℕ
   i = askedAt line
@@ -100,13 +101,13 @@ module _ {p t : List ℕ} {line device : ℕ} {first starter again ofJobs : List
 
   stop-is : stop ≡ stopOf (spanOf p (line - 1))
   stop-is =
-      told-moved (moving devices p t line device .answer) (stopOf (spanOf p i)) count stop (sym told ∙ m .answers) .1
+      told-moved (moving board p t line device .answer) (stopOf (spanOf p i)) count stop (sym told ∙ m .answers) .1
       ∙ ap (λ (x : ℕ). stopOf (spanOf p x)) (k .position)
 
-  no-fault : fault devices p ≡ none
-  no-fault = no-fault-exactly devices p .1 (k .asked .line .wellFormed)
+  no-fault : fault board p ≡ none
+  no-fault = no-fault-exactly board p .1 (k .sound)
 
-  left : (made lent : List ℕ) → leftBy (fault devices p) made lent ≡ made
+  left : (made lent : List ℕ) → leftBy (fault board p) made lent ≡ made
   left made lent = ap (λ (o : Option Refusal). leftBy o made lent) no-fault
 
   edit-is : EditOf p (line - 1) device p′
@@ -134,7 +135,7 @@ module _ {p t : List ℕ} {line device : ℕ} {first starter again ofJobs : List
 
   pub is-edited : Prepared p′ again′ t′
   is-edited = record {
-    sound = no-fault-exactly devices p′ .1 (rw (plan-is, k .position) (k .fine));
+    sound = no-fault-exactly board p′ .1 (rw (plan-is, k .position) (k .fine));
     agains = m .agains ∙ left (againFlags p′) again;
     room = omega (arith, edit-is .alike .long, room);
   }
@@ -142,7 +143,7 @@ module _ {p t : List ℕ} {line device : ℕ} {first starter again ofJobs : List
   on-way : wayBy p′ t′ starter′ (stop - 1) ≡ fromLast p (line - 1)
   on-way =
       rw (plan-is, k .position, stop-is)
-      (last-way p t line device none-refuses first′ starter′ (againFlags p) t′ scanned room)
+      (last-way false p t line device none-refuses first′ starter′ (againFlags p) t′ scanned room)
     where
       scanned : Scanned p first′ starter′ (againFlags p)
       scanned = record {
@@ -181,7 +182,7 @@ module _ {p t : List ℕ} {line device : ℕ} {first starter again ofJobs : List
     among = among′;
   }
     where
-      w : WellFormed devices p′
+      w : WellFormed board p′
       w = rw (plan-is, k .position) (k .fine)
 
       among′ : (x d : ℕ) → lasting p′ x d ≡ true → job (at p′ x) ≢ job (at p′ (stop - 1))
@@ -189,36 +190,39 @@ module _ {p t : List ℕ} {line device : ℕ} {first starter again ofJobs : List
       among′ x d l n =
           let j = job (at p′ x) in
           let taken = lasting-parts p′ x d l .0 in
-          let small = line-parts devices (at p′ x) (w .lines x (takes-line p′ x d taken)) .1 in
+          let small = line-parts board (at p′ x) (w .lines x (takes-line p′ x d taken)) .1 in
           let same : heldBy j (before p′ (length p′)) ≡ heldBy j (before p (length p′)) =
           held-alike p′ p j (length p′) (λ y h. edit-is .alike .jobs y)
           (λ y h e. other-line y (λ q. n (sym e ∙ q))) in
           ap (λ xs. member (getD xs j 0) d) (m .holds ∙ left (holdings p) ofJobs)
-          ∙ holding-at p j d small (device-below devices p′ w x d taken)
+          ∙ holding-at p j d small (device-below board p′ w x d taken)
           ∙ ap (λ (y : ℕ). has d (heldBy j (before p y))) (sym (edit-is .alike .long)) ∙ sym (ap (has d) same)
           ∙ lasting-holds p′ (w .rules) x d l
 
   pub moves-kept : (rs held : List ℕ) (old : ℕ) (rs′ held′ : List ℕ) → devices ≤ length rs → 1 ≤ length held
-      → getD held 0 0 < 2 ^ devices → old ≡ deviceOf p line
+      → getD held 0 0 < 2 ^ devices → old ≡ operandOf p line
       → KeepsAs p′ starter′ t′ (stop - 1) old device rs held rs′ held′
       → MovesKeptAs p t rs held line device (MoveAnswer.Changed count) p′ t′ rs′ held′
   moves-kept rs held old rs′ held′ a b h o keeps =
       rw (rows-are, held-are)
       (met-accepted p (beside t rs held) line device a b count p′ t′
-      (plainly-moved p t line device first starter again ofJobs answer p′ t′ first′ starter′ again′ ofJobs′ m count stop
-      told))
+      (plainly-moved false p t line device first starter again ofJobs answer p′ t′ first′ starter′ again′ ofJobs′ m
+      count
+      stop told))
     where
       old-is : old ≡ deviceAt p (line - 1)
-      old-is = o ∙ asked-device p line (k .positive) ∙ ap (deviceAt p) (k .position)
+      old-is =
+          o ∙ asked-operand p line (k .positive) ∙ ap (λ (x : ℕ). operand (at p x)) (k .position)
+          ∙ sym (taken-operand p (line - 1) (k .asked .takes))
 
       old-on-board : old < devices
       old-on-board =
-          omega (arith, old-is, taken-device devices p (line - 1) (k .asked .line .wellFormed) (k .asked .takes))
+          omega (arith, old-is, taken-device board p (line - 1) (k .sound) (k .asked .takes))
 
       rows-are : rs′ ≡ over (keptRows devices p′ t′ (concerned p (askedAt line) device) rs) rs
       rows-are =
           keeps .rowsAre
-          ∙ rows-kept p p′ (line - 1) device (k .asked .line .wellFormed) (k .asked .takes) (k .asked .line .inPlan)
+          ∙ rows-kept p p′ (line - 1) device (k .sound) (k .asked .takes) (k .asked .line .inPlan)
           edit-is starter′ t′ (stop - 1) old on-way old-is rs
           ∙ ap (λ (x : ℕ). over (keptRows devices p′ t′ (concerned p x device) rs) rs) (sym (k .position))
 

@@ -7,7 +7,7 @@ use mathlib.Core.Logic.{_≢_}
 use mathlib.Core.Option.{none}
 use mathlib.Core.Path.{_≡_}
 use lib.ListN.{length, getD}
-use Rattle.model.specs.Board.{devices}
+use Rattle.model.specs.Board.{devices, board}
 use Rattle.model.specs.Lists.{upFrom}
 use Rattle.model.specs.Line.{job, at}
 use Rattle.model.specs.Mate.{lasting}
@@ -21,7 +21,7 @@ use Rattle.rows.specs.Lasting.{lastingFlags}
 
 -- a plan without a fault, the flags of the lines that take again, and a table with a set for each line
 pub record Prepared (p again t : List ℕ) : Type 0 where
-  pub sound : fault devices p ≡ none
+  pub sound : fault board p ≡ none
   pub agains : again ≡ againFlags p
   pub room : length p ≤ length t
 

@@ -11,7 +11,7 @@ use Rattle.model.specs.Board.{devices}
 use Rattle.model.specs.Lists.{upFrom, those, over}
 use Rattle.model.specs.Sets.{empty, union, member, lowestOf}
 use Rattle.model.specs.Answers.{refuseIf, firstRefusal, tooShort}
-use Rattle.model.specs.Mate.{deviceAt}
+use Rattle.model.specs.Line.{operand, at}
 use Rattle.model.specs.Kept.{heldToEnd, quickBy}
 use Rattle.model.specs.declared.Refusal.{Refusal}
 use Rattle.model.specs.declared.Refusal.the-variants.{ListTooShort, TwoLasting, LeadsBack}
@@ -51,10 +51,10 @@ unfoldable pub heldWith : ℕ → ℕ → ℕ → ℕ
 unfolding union without both onlyOf
 heldWith held toEnd d = union (without held (onlyOf devices d)) (both toEnd (onlyOf devices d))
 
--- the device of the line asked for; 0 where the plan has no such line
-abbrev pub deviceOf : List ℕ → ℕ → ℕ
-deviceOf p zero = 0
-deviceOf p (suc i) = deviceAt p i
+-- the operand of the line asked for, which of a take is its device; 0 where the plan has no such line
+abbrev pub operandOf : List ℕ → ℕ → ℕ
+operandOf p zero = 0
+operandOf p (suc i) = operand (at p i)
 
 -- the old device, the new one, and those with a lasting take on the way of the line at `last`
 unfoldable pub concernedBy : List ℕ → List ℕ → List ℕ → ℕ → ℕ → ℕ → ℕ

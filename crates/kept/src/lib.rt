@@ -18,20 +18,20 @@ ghost use mathlib.Core.Bool.{not, _&&_};
 ghost use Prim.Native.Nat.{_≤_};
 ghost use lib.Dec.{eqb};
 ghost use lib.ListN.{length, getD, take};
-ghost use Rattle.model.specs.Board.{devices};
+ghost use Rattle.model.specs.Board.{devices, board};
 ghost use Rattle.model.specs.Line.{job, at, maxJob};
 ghost use Rattle.model.specs.Sets.{empty};
 ghost use Rattle.model.specs.WellFormed.{fault};
 ghost use Rattle.promises.specs.Kept.{BuildsAs, MovesKeptAs, QuickAs};
 ghost use Rattle.kept.specs.Gathered.{GathersAs, Prepared, Skips};
-ghost use Rattle.kept.specs.Keeping.{rowsOver, refusedBy, heldWith, deviceOf, KeepsAs, decided};
+ghost use Rattle.kept.specs.Keeping.{rowsOver, refusedBy, heldWith, operandOf, KeepsAs, decided};
 
 // ---- what is lent beside the plan
 
 // Why lists of which one is too short are refused: a fault of the plan, 2 to 7; then 11 for the table, or the rows;
 // otherwise it is the held set that is too short.
 fn no_room(plan: &[u32], sets: &[Set], rows: &[Set]) -> Refusal
-    ensures { λ r. ⌜ r ≡ refusedBy (fault devices (now (plan .entry))) (length (now (plan .entry)))
+    ensures { λ r. ⌜ r ≡ refusedBy (fault board (now (plan .entry))) (length (now (plan .entry)))
         (length (now (sets .entry))) (length (now (rows .entry))) ⌝ }
 {
     if let Checked::Refused(r) = plan::fault(plan) {
@@ -188,9 +188,9 @@ fn keep(
     held[0] = with_device(with_device(held[0], to_end, old), to_end, device);
 }
 
-// The device of the line with a number, counted from 1; 0 where the plan has no such line.
+// The device of the line with a number, counted from 1, if that is a take; 0 where the plan has no such line.
 fn device_at(plan: &[u32], line: u32) -> u32
-    ensures { λ r. ⌜ r ≡ deviceOf (now (plan .entry)) line ⌝ }
+    ensures { λ r. ⌜ r ≡ operandOf (now (plan .entry)) line ⌝ }
 {
     if line == 0 {
         return 0;

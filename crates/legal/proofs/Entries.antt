@@ -4,7 +4,8 @@
 use Prim.Native.Nat.{ℕ, suc, _+_, _-_, _<_, _≤_}
 use mathlib.Core.Bool.{Bool, true, false, cond, not, _&&_, _||_}
 use mathlib.Core.List.{List}
-use mathlib.Core.Path.{_≡_, refl, sym, _∙_}
+use mathlib.Core.Logic.{_⊎_, inl, inr}
+use mathlib.Core.Path.{_≡_, refl, sym, _∙_, ap}
 use native.Mathlib.Numerals.{add-one}
 use native.Mathlib.Omega.{arith}
 use lib.Dec.{eqb, ltb}
@@ -12,12 +13,12 @@ use lib.ListN.{length, getD, set}
 use borrow.Author.Tests.{eqb-true, eqb-false, ltb-false}
 use Rattle.model.specs.Sets.{empty, member}
 use Rattle.model.specs.Line.{job, kind, operand, isTake, isGive, isStart, starts, isLine, at, maxJob, maxLines}
-use Rattle.model.specs.Mate.{deviceAt, takesAt}
+use Rattle.model.specs.Mate.{deviceAt, holdsAlready, takesAt}
 use Rattle.model.specs.WellFormed.{WellFormed}
-use Rattle.model.specs.Board.{devices}
+use Rattle.model.specs.Board.{devices, board}
 use Rattle.theory.specs.Outer.{againAt, plain, plainAt}
-use Rattle.theory.proofs.Tests.{clash, or-neither}
-use Rattle.theory.proofs.Line.{line-parts, start-parts, start-of, start-operand}
+use Rattle.theory.proofs.Tests.{clash, test, or-neither, and-split}
+use Rattle.theory.proofs.Line.{line-parts, start-parts, start-of, start-operand, take-no-held, own-device}
 use Rattle.theory.proofs.Claims.{getD-upFrom}
 use Rattle.theory.proofs.Outer.{plain-job, plain-operand, plain-line, plain-take, plain-start}
 use Rattle.sets.specs.Only.{onlyOf}
@@ -48,7 +49,7 @@ flag-tells p i h =
     go true = refl
     go false = refl
 
-module _ {p : List ℕ} (w : WellFormed devices p) (e l : ℕ) where
+module _ {p : List ℕ} (w : WellFormed board p) (e l : ℕ) where
   pub named : {again : List ℕ} → again ≡ againFlags p → (eqb e 0 || ltb (length p) e) ≡ false
       → l ≡ plain (eqb (getD again (e - 1) 0) 1) (at p (e - 1)) → Names p e l
   named a h q =
@@ -58,15 +59,25 @@ module _ {p : List ℕ} (w : WellFormed devices p) (e l : ℕ) where
         counts = q ∙ rw (a, flag-tells p (e - 1) (omega (arith, r .1, w .few)));
       }
 
-  pub counted-line : Names p e l → isLine devices l ≡ true
-  counted-line n = rw (n .counts) (plain-line (againAt p (e - 1)) (at p (e - 1)) devices (w .lines (e - 1) (n .line)))
+  pub counted-line : Names p e l → isLine board l ≡ true
+  counted-line n = rw (n .counts) (plain-line (againAt p (e - 1)) (at p (e - 1)) board (w .lines (e - 1) (n .line)))
 
 module _ (p : List ℕ) (i : ℕ) where
   -- the test of line i: it is its job's next line, and no outermost take of a device held
   pub next-counted : (next : List ℕ) (held n : ℕ) → isNext next held (plainAt p i) n
       ≡ (eqb (getD next (job (at p i)) 0) n && not (takesAt p i && member held (deviceAt p i)))
-  unfolding isNext deviceAt
-  next-counted next held n = rw (plain-job (againAt p i) (at p i), plain-take p i, plain-operand (againAt p i) (at p i))
+  unfolding isNext takesAt deviceAt
+  next-counted next held n =
+      rw (plain-job (againAt p i) (at p i), plain-take p i, plain-operand (againAt p i) (at p i))
+      (ap (λ (b : Bool). eqb (getD next (job (at p i)) 0) n && not b) (barred (test (takesAt p i))))
+    where
+      -- what a take takes is what its operand names
+      barred : (takesAt p i ≡ true) ⊎ (takesAt p i ≡ false)
+          → (takesAt p i && member held (operand (at p i))) ≡ (takesAt p i && member held (deviceAt p i))
+      barred (inr n) = rw n
+      barred (inl t) =
+          let takes = and-split (isTake (at p i)) (not (holdsAlready p i)) t .0 in
+          ap (λ (d : ℕ). takesAt p i && member held d) (sym (own-device (at p i) (take-no-held (at p i) takes)))
 
   -- it changes the same places as the line as it is written
   pub passed-counted : (next first : List ℕ) (n : ℕ)
@@ -77,15 +88,15 @@ module _ (p : List ℕ) (i : ℕ) where
 
 -- ---- the places that a line changes
 
-pub job-place : (l : ℕ) → isLine devices l ≡ true → job l < suc maxJob
-job-place l h = omega (arith, line-parts devices l h .1)
+pub job-place : (l : ℕ) → isLine board l ≡ true → job l < suc maxJob
+job-place l h = omega (arith, line-parts board l h .1)
 
-pub started-place : (l : ℕ) → isLine devices l ≡ true → startedBy l < suc maxJob
+pub started-place : (l : ℕ) → isLine board l ≡ true → startedBy l < suc maxJob
 unfolding startedBy isStart
 started-place l h = go (isStart l) refl
   where
     go : (b : Bool) → isStart l ≡ b → cond b (operand l) 0 < suc maxJob
-    go true e = omega (arith, start-operand devices l h (eqb-true (kind l) 3 e))
+    go true e = omega (arith, start-operand board l h (eqb-true (kind l) 3 e))
     go false e = omega arith
 
 -- it is the one that the code chooses

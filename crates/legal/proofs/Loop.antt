@@ -15,19 +15,21 @@ use lib.Seq.{drop-cons}
 use borrow.Author.Tests.{eqb-true, eq-eqb, ne-eqb, ltb-true, not-true}
 use Rattle.model.specs.Lists.{positions, all, has}
 use Rattle.model.specs.Sets.{empty, member}
-use Rattle.model.specs.Line.{job, operand, at}
-use Rattle.model.specs.Mate.{takesAt, deviceAt, takes}
+use Rattle.model.specs.Line.{job, operand, isHeld, at}
+use Rattle.model.specs.Mate.{takesAt, deviceAt, takes, heldAt, heldLines}
 use Rattle.model.specs.WellFormed.{WellFormed}
 use Rattle.model.specs.Legal.{held, MayFollow}
 use Rattle.model.specs.Judged.{strayAfter, stray}
-use Rattle.model.specs.Board.{devices}
+use Rattle.model.specs.Board.{devices, board}
 use Rattle.theory.specs.Outer.{freesAt, againAt, plainAt}
-use Rattle.theory.proofs.Tests.{clash, test, tests-agree, or-split, and-split, and-both, and-left, and-right}
+use Rattle.theory.proofs.Tests.{clash, falsely, test, tests-agree, or-split, and-split, and-both, and-left, and-right}
 use Rattle.theory.proofs.Tests.{and-second}
 use Rattle.theory.proofs.Lists.{has-position, position-has, all-at, each-all, left, left-none, left-zero}
 use Rattle.theory.proofs.Lists.{left-every, among}
 use Rattle.theory.proofs.Sets.{member-empty}
-use Rattle.theory.proofs.WellFormed.{no-fault-exactly}
+use Rattle.theory.proofs.WellFormed.{no-fault-exactly, no-held-in-morning}
+use Rattle.theory.proofs.Morning.{no-held-lines}
+use Rattle.theory.proofs.LineByLine.{more-old}
 use Rattle.theory.proofs.Claims.{takes-parts}
 use Rattle.theory.proofs.Outer.{plain-operand, plain-take, plain-give}
 use Rattle.theory.proofs.Progress.{device-below}
@@ -46,29 +48,37 @@ pub record Following (p first es next : List ℕ) (set k : ℕ) : Type 0 where
   pub done : List ℕ
   pub within : k ≤ length es
   pub standing : Standing p done next
+  pub begun : (i : ℕ) → heldAt p i ≡ true → has i done ≡ true
   pub once : HeldOnce p done
   pub holds : (d : ℕ) → d < devices → member set d ≡ held p done d
   pub rest : left (among done) (length p) + k ≡ length p
   pub answer : stray p es ≡ strayAfter p done k (drop k es)
 
-pub formed : {p first : List ℕ} → FirstsListed p first → WellFormed devices p
-formed {p} l = no-fault-exactly devices p .0 (l .sound)
+pub formed : {p first : List ℕ} → FirstsListed p first → WellFormed board p
+formed {p} l = no-fault-exactly board p .0 (l .sound)
 
 pub follows-first : {p first : List ℕ} (es : List ℕ) → FirstsListed p first → Following p first es atFirst empty 0
-unfolding stray held
+unfolding stray held heldAt
 follows-first {p} es l = record {
   listed = l;
   done = [];
   within = omega arith;
   standing = stands-first (formed l);
-  once = held-once-first p;
+  begun = λ i h. clash (heldAt p i) h (unheld i);
+  once = subst (HeldOnce p) nothing (held-once-first p (formed l .rules));
   holds = λ d h. member-empty d;
   rest = omega (arith, left-every (length p));
-  answer = refl;
+  answer = ap (λ (d : List ℕ). strayAfter p d 0 es) nothing;
 }
+  where
+    unheld : (i : ℕ) → isHeld (at p i) ≡ false
+    unheld i = no-held-in-morning devices p (formed l) i
+
+    nothing : heldLines p ≡ []
+    nothing = no-held-lines p unheld
 
 module _ {p first es next : List ℕ} {set k : ℕ} (f : Following p first es next set k) where
-  abbrev w : WellFormed devices p
+  abbrev w : WellFormed board p
   w = formed (f .listed)
 
   abbrev done : List ℕ
@@ -76,7 +86,7 @@ module _ {p first es next : List ℕ} {set k : ℕ} (f : Following p first es ne
 
   -- the device of an outermost take is in the set exactly if it is held
   take-held : (i d : ℕ) → takes p i d ≡ true → member set d ≡ held p done d
-  take-held i d t = f .holds d (device-below devices p w i d t)
+  take-held i d t = f .holds d (device-below board p w i d t)
 
   -- the code's test of line i is the rule's
   may-follow : (i : ℕ) → i < length p → isNext next set (plainAt p i) (suc i) ≡ true → MayFollow p done i
@@ -200,6 +210,10 @@ module _ {p first es next : List ℕ} {set k : ℕ} (f : Following p first es ne
         may : MayFollow p done x
         may = may-follow x (n .line) (sym tested ∙ yes)
 
+        -- no held line, since those are done
+        step : heldAt p x ≡ false
+        step = falsely (heldAt p x) (λ h. clash (has x done) (f .begun x h) (may .once))
+
         stood : getD next (job (at p x)) 0 ≡ suc x
         stood = ready-stands w (f .standing) (may .line) (may .once) (may .after)
 
@@ -209,7 +223,7 @@ module _ {p first es next : List ℕ} {set k : ℕ} (f : Following p first es ne
             rw (plain-take p x, plain-give p x, plain-operand (againAt p x) (at p x))
             (member-differ set (cond (takesAt p x || freesAt p x) (onlyOf devices (operand (at p x))) empty) d
             ∙ rw (member-only-if devices (takesAt p x || freesAt p x) (operand (at p x)) d h, f .holds d h)
-            (sym (held-step p (w .rules) done x may (f .once) (later-undone w (f .standing) (may .line) stood) d)))
+            (sym (held-step p (w .rules) done x may step (f .once) (later-undone w (f .standing) (may .line) stood) d)))
 
         -- the list of next lines, as the code has it
         listed-on : passed next (firstLines p) (at p x) (suc x) ≡ passed next first l entry
@@ -225,7 +239,8 @@ module _ {p first es next : List ℕ} {set k : ℕ} (f : Following p first es ne
           within = omega arith;
           standing = subst (λ (s : List ℕ). Standing p (done ++ (x ∷ [])) s) listed-on
               (stands-on w (f .standing) (may .line) stood);
-          once = held-once-on p (w .rules) done x may (f .once);
+          begun = λ i h. more-old i x done (f .begun i h);
+          once = held-once-on p (w .rules) done x may step (f .once);
           holds = λ d h. ap (λ (s : ℕ). member (setAfter s set) d) (n .counts) ∙ turned d h;
           rest = omega (arith, f .rest, one-less p done x may);
           answer = f .answer

@@ -11,7 +11,7 @@ use lib.ListN.{length}
 use Rattle.model.specs.Answers.{refuseAt, firstRefusal}
 use Rattle.model.specs.WellFormed.{fault}
 use Rattle.model.specs.Judged.{judgeRefusal, judgedBy, judging}
-use Rattle.model.specs.Board.{devices}
+use Rattle.model.specs.Board.{board}
 use Rattle.model.specs.declared.Refusal.{Refusal}
 use Rattle.model.specs.declared.Refusal.the-variants.{IllegalStep}
 use Rattle.model.specs.declared.JudgeAnswer.{JudgeAnswer}
@@ -24,7 +24,7 @@ use Rattle.legal.specs.Steps.{StepsAs}
 
 -- what the scan lists of a plan without a fault
 pub scanned : {p first starter again first′ starter′ again′ : List ℕ} {answer : Checked}
-    → ScansAs p first starter again answer first′ starter′ again′ → fault devices p ≡ none
+    → ScansAs p first starter again answer first′ starter′ again′ → fault board p ≡ none
     → FirstsListed p first′ × (again′ ≡ againFlags p)
 scanned {p} {first} {starter} {again} s e = (
   record { sound = e; firsts = s .firsts ∙ ap (λ (o : Option Refusal). leftBy o (firstLines p) first) e },
@@ -32,16 +32,16 @@ scanned {p} {first} {starter} {again} s e = (
 )
 
 module _ (p es : List ℕ) where
-  pub faulty : (r : Refusal) → fault devices p ≡ some r → JudgesAs p es (JudgeAnswer.Refused r)
+  pub faulty : (r : Refusal) → fault board p ≡ some r → JudgesAs board p es (JudgeAnswer.Refused r)
   unfolding judging judgedBy judgeRefusal firstRefusal
   faulty r e = record { answers = rw e }
 
-  module _ (sound : fault devices p ≡ none) (steps : ℕ) (s : StepsAs p es steps) where
-    pub legal : (eqb steps (length p) && eqb steps (length es)) ≡ true → JudgesAs p es JudgeAnswer.Legal
+  module _ (sound : fault board p ≡ none) (steps : ℕ) (s : StepsAs p es steps) where
+    pub legal : (eqb steps (length p) && eqb steps (length es)) ≡ true → JudgesAs board p es JudgeAnswer.Legal
     unfolding judging judgedBy judgeRefusal firstRefusal refuseAt
     legal e = record { answers = rw (sound, s .strays, e) }
 
     pub illegal : (eqb steps (length p) && eqb steps (length es)) ≡ false
-        → JudgesAs p es (JudgeAnswer.Refused (IllegalStep (steps + 1)))
+        → JudgesAs board p es (JudgeAnswer.Refused (IllegalStep (steps + 1)))
     unfolding judging judgedBy judgeRefusal firstRefusal refuseAt
     illegal e = record { answers = rw (sound, s .strays, e, add-one steps) }

@@ -14,7 +14,7 @@ use Rattle.model.specs.Lists.{has}
 use Rattle.model.specs.Line.{job, starts, at, maxJob}
 use Rattle.model.specs.WellFormed.{WellFormed}
 use Rattle.model.specs.Legal.{precedes}
-use Rattle.model.specs.Board.{devices}
+use Rattle.model.specs.Board.{board}
 use Rattle.theory.proofs.Tests.{clash, test, le-or-lt}
 use Rattle.theory.proofs.Line.{line-parts}
 use Rattle.theory.proofs.WellFormed.{any-line, start-line}
@@ -46,9 +46,9 @@ none-listed zero j = refl
 none-listed (suc n) zero = refl
 none-listed (suc n) (suc j) = none-listed n j
 
-module _ {p : List ℕ} (w : WellFormed devices p) where
+module _ {p : List ℕ} (w : WellFormed board p) where
   from-1 : (i : ℕ) → i < length p → 1 ≤ job (at p i)
-  from-1 i h = line-parts devices (at p i) (w .lines i h) .0
+  from-1 i h = line-parts board (at p i) (w .lines i h) .0
 
   -- ---- before the first step
 
@@ -95,7 +95,7 @@ module _ {p : List ℕ} (w : WellFormed devices p) where
           let z = eqb-true (job (at p i)) 1 q in
           (0, w .rules .first (omega arith) ∙ sym z, rw z (omega arith))
       stands′ i h f (inr q) =
-          let r = any-line (λ l. starts l (job (at p i))) p (w .rules .started i h (eqb-false (job (at p i)) 1 q)) in
+          let r = any-line (λ l. starts l (job (at p i))) p (w .started refl i h (eqb-false (job (at p i)) 1 q)) in
           clash false (f (r .0) (r .2)) refl
 
   module _ {done next : List ℕ} (s : Standing p done next) where
@@ -219,7 +219,7 @@ module _ {p : List ℕ} (w : WellFormed devices p) where
 
         -- the first line of the job that begins
         first-of : (i : ℕ) → i < length p → Listed p (job (at p i))
-        first-of i h = first-listed p (job (at p i)) i (line-parts devices (at p i) (w .lines i h) .1) h refl
+        first-of i h = first-listed p (job (at p i)) i (line-parts board (at p i) (w .lines i h) .1) h refl
 
         -- a job that line x starts did not stand anywhere
         unbegun : (i : ℕ) → i < length p → starts (at p x) (job (at p i)) ≡ true → has i more ≡ false

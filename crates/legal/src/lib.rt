@@ -11,7 +11,7 @@ ghost use mathlib.Core.Bool.{true};
 ghost use mathlib.Core.Path.{_≡_};
 ghost use Prim.Native.Nat.{_≤_};
 ghost use Rattle.model.specs.Line.{isLine, maxLines};
-ghost use Rattle.model.specs.Board.{devices};
+ghost use Rattle.model.specs.Board.{devices, board};
 ghost use Rattle.plan.specs.Again.{againFlags};
 ghost use Rattle.plan.specs.Jobs.{FirstsListed};
 ghost use Rattle.promises.specs.Judge.{JudgesAs};
@@ -21,7 +21,7 @@ ghost use Rattle.legal.specs.Steps.{isNext, passed, setAfter, StepsAs};
 // which is 0 until the job is started, and `held` the devices held. No branch stands between the two tests: every entry
 // of a legal order passes both.
 fn is_next(next: &[u32; EACH_JOB], held: Set, l: u32, n: u32) -> bool
-    requires { ⌜ isLine devices l ≡ true ⌝ }
+    requires { ⌜ isLine board l ≡ true ⌝ }
     ensures { λ r. ⌜ r ≡ isNext (now (next .entry)) held l n ⌝ }
 {
     let stands = next[line::job(l) as usize] == n;
@@ -31,7 +31,7 @@ fn is_next(next: &[u32; EACH_JOB], held: Set, l: u32, n: u32) -> bool
 // The line of number `n` is done: the next line of its job is the one after it, and that of a job that it starts is the
 // job's first. There is no branch on the verb, which cannot be foretold: another line starts job 0, which is none.
 fn pass(next: &mut [u32; EACH_JOB], first: &[u32; EACH_JOB], l: u32, n: u32)
-    requires { ⌜ (isLine devices l ≡ true) × (n ≤ maxLines) ⌝ }
+    requires { ⌜ (isLine board l ≡ true) × (n ≤ maxLines) ⌝ }
     ensures { λ r. ⌜ now (next .exit) ≡ passed (now (next .entry)) (now (first .entry)) l n ⌝ }
 {
     next[line::job(l) as usize] = n + 1;
@@ -83,7 +83,7 @@ fn legal_steps(
 // Is the list a legal order of the plan? What is broken in the plan is refused first; then the list, where it first
 // goes wrong, or where an entry is lacking.
 pub fn judge(plan: &[u32], order: &[u16]) -> JudgeAnswer
-    ensures { λ r. ⌜ JudgesAs (now (plan .entry)) (now (order .entry)) r ⌝ }
+    ensures { λ r. ⌜ JudgesAs board (now (plan .entry)) (now (order .entry)) r ⌝ }
 {
     let mut first = [0u32; EACH_JOB];
     let mut starter = [0u32; EACH_JOB];

@@ -1,14 +1,16 @@
-// One line as its packed number (01, "Packed" and the table of "The plan as text"): job, kind and operand. No other
-// source takes a packed number apart or puts one together. Every function answers for every number.
+// One line as its packed number (01, "Packed" and the table of "The plan as text", and the held lines of 02, request
+// 5): job, kind and operand. No other source takes a packed number apart or puts one together. Every function answers
+// for every number.
 use board::DEVICES;
 use board::LAST_JOB;
 ghost use mathlib.Core.Path.{_≡_};
-ghost use mathlib.Core.Bool.{cond};
+ghost use mathlib.Core.Bool.{cond, _&&_};
 ghost use Prim.Native.Nat.{_+_, _*_, _%_, _^_};
-ghost use Rattle.model.specs.Line.{pack, job, kind, operand, isTake, isGive, isStart, isLine};
-ghost use Rattle.model.specs.Board.{devices};
+ghost use Rattle.model.specs.Line.{pack, job, kind, operand, opens, isHeld, isTake, isGive, isStart, deviceOf, isLine};
+ghost use Rattle.model.specs.Board.{boardAt};
 ghost use Rattle.theory.specs.Outer.{plain};
 ghost use Rattle.line.specs.Ranges.{lowestOperand, highestOperand};
+ghost use Rattle.line.specs.Device.{deviceBits};
 
 // So many numbers has an operand room for, from 0 on.
 pub const OPERANDS: u32 = 256;
@@ -52,11 +54,38 @@ pub fn operand(l: u32) -> u32
     l % OPERANDS
 }
 
+// Does it open a stretch, as takes and held lines do?
+pub fn opens(l: u32) -> bool
+    ensures { λ r. ⌜ r ≡ opens l ⌝ }
+{
+    kind(l) == 1
+}
+
+// The operand of a held line is its device and this number; that of a take is below it.
+const HELD_FROM: u32 = 128;
+
+// The device of a line that takes, holds or gives one.
+pub fn device(l: u32) -> u32
+    ensures { λ r. ⌜ r ≡ deviceBits l ⌝ }
+{
+    l % HELD_FROM
+}
+
+// A kind, and whether the operand is from that number on.
+const HALF_KINDS: u32 = 2 * KINDS;
+
 // Is it a take?
 pub fn is_take(l: u32) -> bool
     ensures { λ r. ⌜ r ≡ isTake l ⌝ }
 {
-    kind(l) == 1
+    l / HELD_FROM % HALF_KINDS == 2
+}
+
+// Is it a held line?
+pub fn is_held(l: u32) -> bool
+    ensures { λ r. ⌜ r ≡ isHeld l ⌝ }
+{
+    l / HELD_FROM % HALF_KINDS == 3
 }
 
 // Is it a give?
@@ -92,13 +121,21 @@ fn range(k: u32) -> u32
     ((RANGES >> (k % KINDS * 16) as u64) % 65536) as u32
 }
 
-// Is the number a line's?
-pub fn is_line(l: u32) -> bool
-    ensures { λ r. ⌜ r ≡ isLine devices l ⌝ }
+// What the operand is tested as: of a held line, where those are lines, the device.
+fn tested(l: u32, midday: bool) -> u32
+    ensures { λ r. ⌜ r ≡ cond (isHeld l && midday) (deviceOf l) (operand l) ⌝ }
+{
+    choose(is_held(l) & midday, l % HELD_FROM, operand(l))
+}
+
+// Is the number a line's, at midday or in the morning? A held line is tested as a take of its device; in the morning
+// its operand is past those of takes.
+pub fn is_line(l: u32, midday: bool) -> bool
+    ensures { λ r. ⌜ r ≡ isLine (boardAt midday) l ⌝ }
 {
     let j = job(l);
     let r = range(kind(l));
-    let o = operand(l);
+    let o = tested(l, midday);
     if j < 1 {
         return false;
     }

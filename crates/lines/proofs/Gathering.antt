@@ -12,8 +12,8 @@ use lib.Dec.{leb}
 use lib.ListN.{length, drop, set, length-append}
 use lib.Seq.{drop-drop, sets, sets-eq}
 use borrow.Author.Tests.{leb-false}
-use Rattle.model.specs.Board.{devices}
-use Rattle.model.specs.Line.{lineNumber, maxLines}
+use Rattle.model.specs.Board.{board}
+use Rattle.model.specs.Line.{Settings, lineNumber, maxLines}
 use Rattle.model.specs.Lists.{over}
 use Rattle.model.specs.Text.{linesOf, packedLine, handedLine}
 use Rattle.model.specs.declared.Refusal.{Refusal}
@@ -30,19 +30,19 @@ use Rattle.lines.specs.declared.Gathered.{Gathered}
 -- at the lines that stand at place i, after n others
 data Step (n i : ℕ) : List (List ℕ) → LineAnswer → Type 0 where
   ended : Step n i [] LineAnswer.End
-  refused : (l : List ℕ) (ls : List (List ℕ)) (r : Refusal) → handedOut devices n (l ∷ ls) ≡ []
-      → stopsWith devices n (l ∷ ls) ≡ some r → Step n i (l ∷ ls) (LineAnswer.Refused r)
+  refused : (l : List ℕ) (ls : List (List ℕ)) (r : Refusal) → handedOut board n (l ∷ ls) ≡ []
+      → stopsWith board n (l ∷ ls) ≡ some r → Step n i (l ∷ ls) (LineAnswer.Refused r)
   line : (l : List ℕ) (ls : List (List ℕ)) (m : ℕ) → n < maxLines
-      → handedOut devices n (l ∷ ls) ≡ m ∷ handedOut devices (suc n) ls
-      → stopsWith devices n (l ∷ ls) ≡ stopsWith devices (suc n) ls
+      → handedOut board n (l ∷ ls) ≡ m ∷ handedOut board (suc n) ls
+      → stopsWith board n (l ∷ ls) ≡ stopsWith board (suc n) ls
       → Step n i (l ∷ ls) (LineAnswer.Line m (record { offset = i + length l; lines = suc n }))
 
-step : (n i : ℕ) (ls : List (List ℕ)) → Step n i ls (handedLine devices (record { offset = i; lines = n }) ls)
+step : (n i : ℕ) (ls : List (List ℕ)) → Step n i ls (handedLine board (record { offset = i; lines = n }) ls)
 unfolding handedLine handedOut stopsWith
 step n i [] = ended
-step n i (l ∷ ls) = go (leb maxLines n) refl (packedLine devices l) refl
+step n i (l ∷ ls) = go (leb maxLines n) refl (packedLine board l) refl
   where
-    go : (t : Bool) → leb maxLines n ≡ t → (o : Option ℕ) → packedLine devices l ≡ o
+    go : (t : Bool) → leb maxLines n ≡ t → (o : Option ℕ) → packedLine board l ≡ o
         → Step n i (l ∷ ls)
         (cond t (LineAnswer.Refused TooManyLines)
         (elim o [
@@ -59,8 +59,8 @@ pub record Past (text lent : List ℕ) (offset n : ℕ) (lines : List ℕ) : Typ
   pub passed : List ℕ
   pub count : n ≡ length passed
   pub few : n ≤ maxLines
-  pub out : handedOut devices 0 (linesOf text) ≡ passed ++ handedOut devices n (linesOf (drop offset text))
-  pub stop : stopsWith devices 0 (linesOf text) ≡ stopsWith devices n (linesOf (drop offset text))
+  pub out : handedOut board 0 (linesOf text) ≡ passed ++ handedOut board n (linesOf (drop offset text))
+  pub stop : stopsWith board 0 (linesOf text) ≡ stopsWith board n (linesOf (drop offset text))
   pub written : lines ≡ sets lent 0 passed
 
 pub none-past : (text lent : List ℕ) → Past text lent 0 0 lent
@@ -73,7 +73,7 @@ sets-more l (x ∷ xs) k v =
 
 module _ (text lent : List ℕ) (i n : ℕ) (lines : List ℕ) (p : Past text lent i n lines) where
   -- one line more
-  pub line-more : (m : ℕ) (c : Cursor) → handedAt devices text i n ≡ LineAnswer.Line m c
+  pub line-more : (m : ℕ) (c : Cursor) → handedAt board text i n ≡ LineAnswer.Line m c
       → (n < maxLines) × Past text lent (c .offset) (n + 1) (set lines n m)
   line-more m c q = go (linesOf (drop i text)) refl m c (rw q at (step n i (linesOf (drop i text))))
     where
@@ -90,8 +90,8 @@ module _ (text lent : List ℕ) (i n : ℕ) (lines : List ℕ) (p : Past text le
               few = omega arith;
               out =
                   rw (add-one n, q, append-assoc)
-                  (p .out ∙ ap (λ (x : List ℕ). p .passed ++ x) (ap (handedOut devices n) e ∙ out));
-              stop = rw (add-one n, q) (p .stop ∙ (ap (stopsWith devices n) e ∙ stop));
+                  (p .out ∙ ap (λ (x : List ℕ). p .passed ++ x) (ap (handedOut board n) e ∙ out));
+              stop = rw (add-one n, q) (p .stop ∙ (ap (stopsWith board n) e ∙ stop));
               written =
                   ap (λ (x : List ℕ). set x n m) (p .written)
                   ∙ (ap (λ (j : ℕ). set (sets lent 0 (p .passed)) j m) k ∙ sets-more lent (p .passed) 0 m);
@@ -99,17 +99,17 @@ module _ (text lent : List ℕ) (i n : ℕ) (lines : List ℕ) (p : Past text le
           )
 
   -- none more
-  done : (ls : List (List ℕ)) → linesOf (drop i text) ≡ ls → handedOut devices n ls ≡ [] → (o : Option Refusal)
-      → stopsWith devices n ls ≡ o → GathersAs text lent (gathered n o) lines
+  done : (ls : List (List ℕ)) → linesOf (drop i text) ≡ ls → handedOut board n ls ≡ [] → (o : Option Refusal)
+      → stopsWith board n ls ≡ o → GathersAs text lent (gathered n o) lines
   done ls e out o stop =
-      let all : handedOut devices 0 (linesOf text) ≡ p .passed =
-      p .out ∙ (ap (λ (x : List ℕ). p .passed ++ x) (ap (handedOut devices n) e ∙ out) ∙ append-nil (p .passed)) in
+      let all : handedOut board 0 (linesOf text) ≡ p .passed =
+      p .out ∙ (ap (λ (x : List ℕ). p .passed ++ x) (ap (handedOut board n) e ∙ out) ∙ append-nil (p .passed)) in
       record {
-        answers = rw (all, p .stop ∙ (ap (stopsWith devices n) e ∙ stop)) (ap (λ (k : ℕ). gathered k o) (p .count));
+        answers = rw (all, p .stop ∙ (ap (stopsWith board n) e ∙ stop)) (ap (λ (k : ℕ). gathered k o) (p .count));
         leaves = p .written ∙ ap (sets lent 0) (sym all);
       }
 
-  pub stopped : (r : Refusal) → handedAt devices text i n ≡ LineAnswer.Refused r
+  pub stopped : (r : Refusal) → handedAt board text i n ≡ LineAnswer.Refused r
       → GathersAs text lent (Gathered.Stopped n r) lines
   unfolding gathered
   stopped r q = go (linesOf (drop i text)) refl r (rw q at (step n i (linesOf (drop i text))))
@@ -118,7 +118,7 @@ module _ (text lent : List ℕ) (i n : ℕ) (lines : List ℕ) (p : Past text le
           → GathersAs text lent (Gathered.Stopped n r) lines
       go _ e _ (refused l ls r out stop) = done (l ∷ ls) e out (some r) stop
 
-  pub all-past : handedAt devices text i n ≡ LineAnswer.End → GathersAs text lent (Gathered.All n) lines
+  pub all-past : handedAt board text i n ≡ LineAnswer.End → GathersAs text lent (Gathered.All n) lines
   unfolding gathered handedOut stopsWith
   all-past q = go (linesOf (drop i text)) refl (rw q at (step n i (linesOf (drop i text))))
     where
@@ -128,29 +128,29 @@ module _ (text lent : List ℕ) (i n : ℕ) (lines : List ℕ) (p : Past text le
 
 -- ---- in a list of 1,024 entries
 
-out-few : (D n : ℕ) (ls : List (List ℕ)) → n ≤ maxLines → n + length (handedOut D n ls) ≤ maxLines
+out-few : (S : Settings) (n : ℕ) (ls : List (List ℕ)) → n ≤ maxLines → n + length (handedOut S n ls) ≤ maxLines
 unfolding handedOut
-out-few D n [] h = omega arith
-out-few D n (l ∷ ls) h = go (leb maxLines n) refl (packedLine D l) (out-few D (suc n) ls)
+out-few S n [] h = omega arith
+out-few S n (l ∷ ls) h = go (leb maxLines n) refl (packedLine S l) (out-few S (suc n) ls)
   where
     go : (t : Bool) → leb maxLines n ≡ t → (o : Option ℕ)
-        → (suc n ≤ maxLines → suc n + length (handedOut D (suc n) ls) ≤ maxLines)
-        → n + length {A = ℕ} (cond t [] (elim o [ none ↦ [] | some m ↦ m ∷ handedOut D (suc n) ls ])) ≤ maxLines
+        → (suc n ≤ maxLines → suc n + length (handedOut S (suc n) ls) ≤ maxLines)
+        → n + length {A = ℕ} (cond t [] (elim o [ none ↦ [] | some m ↦ m ∷ handedOut S (suc n) ls ])) ≤ maxLines
     go true e o ih = omega arith
     go false e none ih = omega arith
     go false e (some m) ih = omega (arith, ih (leb-false maxLines n e))
 
 -- all have room, and the entries past them stay as they were
-pub all-room : (D : ℕ) (ls : List (List ℕ)) → length (handedOut D 0 ls) ≤ maxLines
-all-room D ls = omega (arith, out-few D 0 ls (omega arith))
+pub all-room : (S : Settings) (ls : List (List ℕ)) → length (handedOut S 0 ls) ≤ maxLines
+all-room S ls = omega (arith, out-few S 0 ls (omega arith))
 
 pub gathers-over : (text lent : List ℕ) (a : Gathered) (left : List ℕ) → length lent ≡ maxLines
-    → GathersAs text lent a left → left ≡ over (handedOut devices 0 (linesOf text)) lent
+    → GathersAs text lent a left → left ≡ over (handedOut board 0 (linesOf text)) lent
 unfolding over
 gathers-over text lent a left long g =
-    let out : List ℕ = handedOut devices 0 (linesOf text) in
+    let out : List ℕ = handedOut board 0 (linesOf text) in
     let z : 0 + length out ≡ length out = omega arith in
-    g .leaves ∙ (sets-eq out lent 0 (omega (arith, all-room devices (linesOf text))) ∙ rw z)
+    g .leaves ∙ (sets-eq out lent 0 (omega (arith, all-room board (linesOf text))) ∙ rw z)
 
 -- ---- one outcome
 

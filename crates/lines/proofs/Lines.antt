@@ -12,7 +12,8 @@ use native.Mathlib.Omega.{arith}
 use lib.ListN.{length, drop, length-append, length-drop, drop-of-length-le}
 use lib.Seq.{drop-drop, drop-append-seam}
 use borrow.Author.Tests.{lt-ltb}
-use Rattle.model.specs.Line.{pack, job, kind, operand, isLine, lineNumber, maxLines, maxBytes}
+use Rattle.model.specs.Line.{Settings, morning, pack, job, kind, operand, isHeld}
+use Rattle.model.specs.Line.{isLine, lineNumber, maxLines, maxBytes, heldFrom}
 use Rattle.model.specs.Text.{tab, newline, isDigit, verbs, tabbed, linesOf, packedLine, lineText}
 use Rattle.model.specs.Text.{handedLine, nextLine}
 use Rattle.model.specs.declared.Refusal.the-variants.{TextTooLong, Malformed, TooManyLines}
@@ -20,6 +21,7 @@ use Rattle.model.specs.declared.Cursor.{Cursor}
 use Rattle.model.specs.declared.LineAnswer.{LineAnswer}
 use Rattle.theory.proofs.Tests.{clash}
 use Rattle.theory.proofs.Line.{job-pack, kind-pack, operand-pack, pack-parts, kind-small, line-parts}
+use Rattle.theory.proofs.Line.{morning-line, verb-kind, own-device}
 use Rattle.theory.proofs.Fields.{line-first, flatten-lines, some-line}
 use Rattle.theory.proofs.Spelling.{line-ends, packed-text, text-packed}
 use Rattle.theory.proofs.Reader.{handed-many, handed-malformed, handed-line}
@@ -34,9 +36,10 @@ use Rattle.lines.proofs.Verbs.{verb-whole, SpellsVerb, verb-sound}
 
 -- ---- a line's text and its three fields
 
-line-fields : (n : ℕ) → lineText n ≡ spelling tab (job n) ++ (word (kind n) ++ spelling newline (operand n))
+line-fields : (n : ℕ) → isHeld n ≡ false
+    → lineText n ≡ spelling tab (job n) ++ (word (kind n) ++ spelling newline (operand n))
 unfolding lineText tabbed spelling word
-line-fields n = simp append-assoc
+line-fields n h = rw (verb-kind n h, own-device n h) (simp append-assoc)
 
 operand-byte : (n : ℕ) → operand n ≤ 255
 unfolding operand
@@ -54,7 +57,7 @@ module _ (text : List ℕ) (i : ℕ) where
     pub of-operand : fieldAt newline b (drop b text) ≡ Field.Number o e
 
   -- a line's text is read so
-  line-read : (D n : ℕ) → LineThere D text i n → (a b e : ℕ) × Read (job n) a (kind n) b (operand n) e
+  line-read : (D n : ℕ) → LineThere (morning D) text i n → (a b e : ℕ) × Read (job n) a (kind n) b (operand n) e
   unfolding isDigit verbs
   line-read D n l =
       let j : List ℕ = spelling tab (job n) in
@@ -63,14 +66,14 @@ module _ (text : List ℕ) (i : ℕ) where
       let a : ℕ = i + length j in
       let b : ℕ = a + length k in
       let x : drop i text ≡ j ++ (k ++ (o ++ l .rest)) =
-      l .whole ∙ (ap (λ (f : List ℕ). f ++ l .rest) (line-fields n) ∙ simp append-assoc) in
+      l .whole ∙ (ap (λ (f : List ℕ). f ++ l .rest) (line-fields n (morning-line D n (l .line))) ∙ simp append-assoc) in
       let y : drop a text ≡ k ++ (o ++ l .rest) = past text j (k ++ (o ++ l .rest)) i x in
       let z : drop b text ≡ o ++ l .rest = past text k (o ++ l .rest) a y in (
         a,
         b,
         b + length o,
         record {
-          of-job = rw x (field-whole tab i (job n) _ refl (omega (arith, line-parts D n (l .line) .1)));
+          of-job = rw x (field-whole tab i (job n) _ refl (omega (arith, line-parts (morning D) n (l .line) .1)));
           of-verb = rw y (verb-whole a (kind n) (o ++ l .rest) (kind-small n));
           of-operand = rw z (field-whole newline b (operand n) (l .rest) refl (operand-byte n));
         },
@@ -78,14 +81,14 @@ module _ (text : List ℕ) (i : ℕ) where
 
   module _ (D : ℕ) where
     -- so no line stands where a field is wrong
-    pub no-job : fieldAt tab i (drop i text) ≡ Field.Wrong → SpeltAt D text i Spelt.Malformed
+    pub no-job : fieldAt tab i (drop i text) ≡ Field.Wrong → SpeltAt (morning D) text i Spelt.Malformed
     no-job x n l =
         let r = line-read D n l .3 in
         let z : _≡_ {A = ℕ} 0 1 = cc in
         omega arith
 
     pub no-verb : (j a : ℕ) → fieldAt tab i (drop i text) ≡ Field.Number j a → verbAt a (drop a text) ≡ Verb.Wrong
-        → SpeltAt D text i Spelt.Malformed
+        → SpeltAt (morning D) text i Spelt.Malformed
     no-verb j a x y n l =
         let r = line-read D n l .3 in
         let z : _≡_ {A = ℕ} 0 1 = cc in
@@ -93,7 +96,7 @@ module _ (text : List ℕ) (i : ℕ) where
 
     pub no-operand : (j a k b : ℕ) → fieldAt tab i (drop i text) ≡ Field.Number j a
         → verbAt a (drop a text) ≡ Verb.Kind k b → fieldAt newline b (drop b text) ≡ Field.Wrong
-        → SpeltAt D text i Spelt.Malformed
+        → SpeltAt (morning D) text i Spelt.Malformed
     no-operand j a k b x y z n l =
         let r = line-read D n l .3 in
         let z : _≡_ {A = ℕ} 0 1 = cc in
@@ -119,14 +122,14 @@ module _ (text : List ℕ) (i : ℕ) where
           c ∙ rw (u, v, w)
 
       -- where it is no line's, none stands there
-      pub no-line : isLine D n ≡ false → SpeltAt D text i Spelt.Malformed
+      pub no-line : isLine (morning D) n ≡ false → SpeltAt (morning D) text i Spelt.Malformed
       no-line f m l =
           let q = line-read D m l .3 in
           let same : pack (job m) (kind m) (operand m) ≡ pack j k o = cc in
-          clash (isLine D m) (l .line) (rw (sym (pack-parts m) ∙ (same ∙ sym packed)) f)
+          clash (isLine (morning D) m) (l .line) (rw (sym (pack-parts m) ∙ (same ∙ sym packed)) f)
 
       -- where it is a line's, what was read is its text
-      pub line-there : isLine D n ≡ true → SpeltAt D text i (Spelt.Line n e)
+      pub line-there : isLine (morning D) n ≡ true → SpeltAt (morning D) text i (Spelt.Line n e)
       unfolding verbs
       line-there t =
           let u : drop a text ≡ x .rest =
@@ -134,7 +137,7 @@ module _ (text : List ℕ) (i : ℕ) where
           let v : drop b text ≡ y .rest =
           ap (λ (p : ℕ). drop p text) (y .ends) ∙ past text (word k) (y .rest) a (y .whole) in
           let w : lineText n ≡ spelling tab j ++ (word k ++ spelling newline o) =
-          line-fields n
+          line-fields n (morning-line D n t)
           ∙ rw (
             packed,
             job-pack j k o (y .small) (omega (arith, z .small)),
@@ -156,46 +159,46 @@ module _ (text : List ℕ) (i : ℕ) where
 
 -- ---- what the reader hands out
 
-module _ (D : ℕ) (text : List ℕ) (i n : ℕ) where
+module _ (S : Settings) (text : List ℕ) (i n : ℕ) where
   -- nothing stands past the end
-  pub handed-none : length text ≤ i → LineAnswer.End ≡ handedAt D text i n
+  pub handed-none : length text ≤ i → LineAnswer.End ≡ handedAt S text i n
   unfolding handedLine linesOf
   handed-none h = rw (drop-of-length-le text h)
 
   -- something stands after line 1,024
-  pub handed-over : i < length text → maxLines ≤ n → LineAnswer.Refused TooManyLines ≡ handedAt D text i n
+  pub handed-over : i < length text → maxLines ≤ n → LineAnswer.Refused TooManyLines ≡ handedAt S text i n
   handed-over h m =
       let r = some-line (drop i text) (simp length-drop (omega arith)) in
-      rw (r .2) (sym (handed-many D (record { offset = i; lines = n }) (r .0) (r .1) m))
+      rw (r .2) (sym (handed-many S (record { offset = i; lines = n }) (r .0) (r .1) m))
 
   module _ (few : n < maxLines) where
     abbrev here : Cursor
     here = record { offset = i; lines = n }
 
     -- the line that was read
-    pub handed-read : (l e : ℕ) → SpeltAt D text i (Spelt.Line l e)
-        → LineAnswer.Line l (record { offset = e; lines = n + 1 }) ≡ handedAt D text i n
+    pub handed-read : (l e : ℕ) → SpeltAt S text i (Spelt.Line l e)
+        → LineAnswer.Line l (record { offset = e; lines = n + 1 }) ≡ handedAt S text i n
     handed-read l e r =
         let w = line-ends l in
         let first : linesOf (lineText l ++ r .0 .rest) ≡ lineText l ∷ linesOf (r .0 .rest) =
         rw (w .whole, append-assoc) (line-first (w .body) (r .0 .rest) (w .clean)) in
         rw (r .1, add-one n, r .0 .whole, first)
-        (sym (handed-line D here (lineText l) (linesOf (r .0 .rest)) l few (packed-text D l (r .0 .line))))
+        (sym (handed-line S here (lineText l) (linesOf (r .0 .rest)) l few (packed-text S l (r .0 .line))))
 
     -- none was read
-    pub handed-wrong : D ≤ 256 → i < length text → SpeltAt D text i Spelt.Malformed
-        → LineAnswer.Refused (Malformed (n + 1)) ≡ handedAt D text i n
+    pub handed-wrong : S .devices ≤ heldFrom → i < length text → SpeltAt S text i Spelt.Malformed
+        → LineAnswer.Refused (Malformed (n + 1)) ≡ handedAt S text i n
     unfolding lineNumber flatten
     handed-wrong d h q =
         let r = some-line (drop i text) (simp length-drop (omega arith)) in
         rw (add-one n, r .2)
-        (sym (handed-malformed D here (r .0) (r .1) few (go (r .0) (r .1) (r .2) (packedLine D (r .0)) refl)))
+        (sym (handed-malformed S here (r .0) (r .1) few (go (r .0) (r .1) (r .2) (packedLine S (r .0)) refl)))
       where
-        go : (l : List ℕ) (ls : List (List ℕ)) → linesOf (drop i text) ≡ l ∷ ls → (o : Option ℕ) → packedLine D l ≡ o
+        go : (l : List ℕ) (ls : List (List ℕ)) → linesOf (drop i text) ≡ l ∷ ls → (o : Option ℕ) → packedLine S l ≡ o
             → o ≡ none
         go l ls e none p = refl
         go l ls e (some m) p =
-            let r = text-packed D d l m p in
+            let r = text-packed S d l m p in
             absurd
             (q m
             (record {
@@ -205,7 +208,7 @@ module _ (D : ℕ) (text : List ℕ) (i n : ℕ) where
             }))
 
 -- 1 comes first
-pub next-long : (D : ℕ) (text : List ℕ) (c : Cursor) → maxBytes < length text
-    → LineAnswer.Refused TextTooLong ≡ nextLine D text c
+pub next-long : (S : Settings) (text : List ℕ) (c : Cursor) → maxBytes < length text
+    → LineAnswer.Refused TextTooLong ≡ nextLine S text c
 unfolding nextLine
-next-long D text c h = rw (lt-ltb maxBytes (length text) h)
+next-long S text c h = rw (lt-ltb maxBytes (length text) h)

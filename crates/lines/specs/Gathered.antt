@@ -10,26 +10,26 @@ use mathlib.Core.Path.{_≡_}
 use lib.Dec.{leb}
 use lib.ListN.{length}
 use lib.Seq.{sets}
-use Rattle.model.specs.Board.{devices}
-use Rattle.model.specs.Line.{lineNumber, maxLines}
+use Rattle.model.specs.Board.{board}
+use Rattle.model.specs.Line.{Settings, lineNumber, maxLines}
 use Rattle.model.specs.Text.{packedLine, linesOf}
 use Rattle.model.specs.declared.Refusal.{Refusal}
 use Rattle.model.specs.declared.Refusal.the-variants.{Malformed, TooManyLines}
 use Rattle.lines.specs.declared.Gathered.{Gathered}
 
 -- of lines that stand after n others, the numbers handed out, and the refusal that comes then
-unfoldable pub handedOut : ℕ → ℕ → List (List ℕ) → List ℕ
+unfoldable pub handedOut : Settings → ℕ → List (List ℕ) → List ℕ
 unfolding packedLine
-handedOut D n [] = []
-handedOut D n (l ∷ ls) =
-    cond (leb maxLines n) [] (elim (packedLine D l) [ none ↦ [] | some m ↦ m ∷ handedOut D (suc n) ls ])
+handedOut S n [] = []
+handedOut S n (l ∷ ls) =
+    cond (leb maxLines n) [] (elim (packedLine S l) [ none ↦ [] | some m ↦ m ∷ handedOut S (suc n) ls ])
 
-unfoldable pub stopsWith : ℕ → ℕ → List (List ℕ) → Option Refusal
+unfoldable pub stopsWith : Settings → ℕ → List (List ℕ) → Option Refusal
 unfolding packedLine lineNumber
-stopsWith D n [] = none
-stopsWith D n (l ∷ ls) =
+stopsWith S n [] = none
+stopsWith S n (l ∷ ls) =
     cond (leb maxLines n) (some TooManyLines)
-    (elim (packedLine D l) [ none ↦ some (Malformed (lineNumber n)) | some m ↦ stopsWith D (suc n) ls ])
+    (elim (packedLine S l) [ none ↦ some (Malformed (lineNumber n)) | some m ↦ stopsWith S (suc n) ls ])
 
 unfoldable pub gathered : ℕ → Option Refusal → Gathered
 gathered n none = Gathered.All n
@@ -37,5 +37,5 @@ gathered n (some r) = Gathered.Stopped n r
 
 pub record GathersAs (text lent : List ℕ) (answer : Gathered) (left : List ℕ) : Type 0 where
   pub answers : answer
-      ≡ gathered (length (handedOut devices 0 (linesOf text))) (stopsWith devices 0 (linesOf text))
-  pub leaves : left ≡ sets lent 0 (handedOut devices 0 (linesOf text))
+      ≡ gathered (length (handedOut board 0 (linesOf text))) (stopsWith board 0 (linesOf text))
+  pub leaves : left ≡ sets lent 0 (handedOut board 0 (linesOf text))

@@ -5,21 +5,21 @@ use mathlib.Core.Bool.{true}
 use mathlib.Core.List.{List, _++_}
 use mathlib.Core.Path.{_≡_}
 use lib.ListN.{length, drop}
-use Rattle.model.specs.Line.{isLine}
+use Rattle.model.specs.Line.{Settings, isLine}
 use Rattle.model.specs.Text.{linesOf, lineText, handedLine}
 use Rattle.model.specs.declared.LineAnswer.{LineAnswer}
 use Rattle.lines.specs.declared.Spelt.{Spelt}
 
 -- line n stands at place i of a text
-pub record LineThere (D : ℕ) (text : List ℕ) (i n : ℕ) : Type 0 where
+pub record LineThere (S : Settings) (text : List ℕ) (i n : ℕ) : Type 0 where
   pub rest : List ℕ
-  pub line : isLine D n ≡ true
+  pub line : isLine S n ≡ true
   pub whole : drop i text ≡ lineText n ++ rest
 
-abbrev pub SpeltAt : ℕ → List ℕ → ℕ → Spelt → Type 0
-SpeltAt D text i (Spelt.Line n past) = LineThere D text i n × (past ≡ i + length (lineText n))
-SpeltAt D text i Spelt.Malformed = (n : ℕ) → LineThere D text i n → ⊥
+abbrev pub SpeltAt : Settings → List ℕ → ℕ → Spelt → Type 0
+SpeltAt S text i (Spelt.Line n past) = LineThere S text i n × (past ≡ i + length (lineText n))
+SpeltAt S text i Spelt.Malformed = (n : ℕ) → LineThere S text i n → ⊥
 
 -- what the reader hands out at place i, after n lines
-abbrev pub handedAt : ℕ → List ℕ → ℕ → ℕ → LineAnswer
-handedAt D text i n = handedLine D (record { offset = i; lines = n }) (linesOf (drop i text))
+abbrev pub handedAt : Settings → List ℕ → ℕ → ℕ → LineAnswer
+handedAt S text i n = handedLine S (record { offset = i; lines = n }) (linesOf (drop i text))

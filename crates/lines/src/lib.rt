@@ -11,7 +11,7 @@ use model::Refusal;
 ghost use Prim.Native.Nat.{_+_, _≤_, _<_};
 ghost use mathlib.Core.Path.{_≡_};
 ghost use lib.ListN.{length, take, drop};
-ghost use Rattle.model.specs.Board.{devices};
+ghost use Rattle.model.specs.Board.{board};
 ghost use Rattle.promises.specs.Text.{HandsOutAs};
 ghost use Rattle.lines.specs.Fields.{joinedBy, noughtAt, digitsAt, fieldAt};
 ghost use Rattle.lines.specs.Verbs.{asNumber, tables, noVerbs, listed, allVerbs, verbAt};
@@ -225,7 +225,7 @@ fn spelt_at(
     numbers: &[u64; EACH_KIND],
 ) -> Spelt
     requires { ⌜ tables (now lengths) (now kinds) (now numbers) ≡ allVerbs ⌝ }
-    ensures { λ r. ⌜ SpeltAt devices (now (text .entry)) from r ⌝ }
+    ensures { λ r. ⌜ SpeltAt board (now (text .entry)) from r ⌝ }
 {
     let Field::Number(j, a) = field_at(text, from, b'\t') else {
         return Spelt::Malformed;
@@ -237,7 +237,7 @@ fn spelt_at(
         return Spelt::Malformed;
     };
     let n = line::pack(j, k, o);
-    if line::is_line(n) {
+    if line::is_line(n, false) {
         return Spelt::Line(n, e);
     }
     Spelt::Malformed
@@ -253,7 +253,7 @@ fn handed(
     numbers: &[u64; EACH_KIND],
 ) -> LineAnswer
     requires { ⌜ tables (now lengths) (now kinds) (now numbers) ≡ allVerbs ⌝ }
-    ensures { λ r. ⌜ r ≡ handedAt devices (now (text .entry)) offset lines ⌝ }
+    ensures { λ r. ⌜ r ≡ handedAt board (now (text .entry)) offset lines ⌝ }
 {
     if text.len() <= offset {
         return LineAnswer::End;
@@ -279,7 +279,7 @@ fn handed(
 
 // The line at the cursor, with the cursor past it; a refusal with its place; or the end.
 pub fn next_line(text: &[u8], c: Cursor) -> LineAnswer
-    ensures { λ r. ⌜ HandsOutAs (now (text .entry)) c r ⌝ }
+    ensures { λ r. ⌜ HandsOutAs board (now (text .entry)) c r ⌝ }
 {
     if MOST_BYTES < text.len() {
         return LineAnswer::Refused(Refusal::TextTooLong);

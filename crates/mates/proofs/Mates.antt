@@ -10,7 +10,7 @@ use lib.Dec.{eqb}
 use lib.ListN.{length, drop, drop-of-length-le}
 use lib.Seq.{drop-cons}
 use borrow.Author.Tests.{eq-eqb, ne-eqb}
-use Rattle.model.specs.Line.{job, isTake, isGive, at}
+use Rattle.model.specs.Line.{job, opens, isGive, at}
 use Rattle.model.specs.Mate.{mateIn, mate}
 use Rattle.model.specs.Lists.{upFrom, firstOf}
 use Rattle.mates.specs.Found.{passedBy}
@@ -63,7 +63,7 @@ start p i j h e = record {
 
 -- the depth grows by one at most
 near : (l d n : ℕ) → Search.Goes n ≡ passedBy l d → n ≤ suc d
-near l d n = go (isTake l) (isGive l) (eqb d 0)
+near l d n = go (opens l) (isGive l) (eqb d 0)
   where
     deep : Search → ℕ
     deep Search.Ends = 0
@@ -107,12 +107,12 @@ module _ (p : List ℕ) (i j d k : ℕ) (s : Sought p i j d k) where
     module _ (same : x ≡ j) where
       passed : mate p i ≡ after (passedBy (at p k) d)
       unfolding mateIn after
-      passed = s .ahead ∙ rw (drop-cons p k 0 h) (go d (isTake (at p k)) (isGive (at p k)) refl refl)
+      passed = s .ahead ∙ rw (drop-cons p k 0 h) (go d (opens (at p k)) (isGive (at p k)) refl refl)
         where
           here : eqb (job (at p k)) j ≡ true
           here = eq-eqb (job (at p k)) j (sym e ∙ same)
 
-          go : (d : ℕ) (t g : Bool) → isTake (at p k) ≡ t → isGive (at p k) ≡ g
+          go : (d : ℕ) (t g : Bool) → opens (at p k) ≡ t → isGive (at p k) ≡ g
               → mateIn j d k (at p k ∷ drop (suc k) p)
               ≡ after
               (cond t (Search.Goes (suc d))

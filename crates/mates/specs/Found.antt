@@ -4,7 +4,7 @@ use Prim.Native.Nat.{ℕ, suc, _-_}
 use mathlib.Core.Bool.{cond}
 use mathlib.Core.Option.{Option, none, some}
 use lib.Dec.{eqb}
-use Rattle.model.specs.Line.{isTake, isGive}
+use Rattle.model.specs.Line.{opens, isGive}
 use Rattle.mates.specs.declared.Found.{Found}
 use Rattle.mates.specs.declared.Search.{Search}
 
@@ -12,8 +12,8 @@ abbrev pub found : Option ℕ → Found
 found none = Found.Nothing
 found (some i) = Found.At i
 
--- a take goes one deeper; a give comes one back, and at depth 0 it is the mate
+-- a take or a held line goes one deeper; a give comes one back, and at depth 0 it is the mate
 abbrev pub passedBy : ℕ → ℕ → Search
 passedBy l depth =
-    cond (isTake l) (Search.Goes (suc depth))
+    cond (opens l) (Search.Goes (suc depth))
     (cond (isGive l) (cond (eqb depth 0) Search.Ends (Search.Goes (depth - 1))) (Search.Goes depth))

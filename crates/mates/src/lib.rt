@@ -17,12 +17,13 @@ pub enum Search {
     Goes(usize),
 }
 
-// What a line of its job does to the search: a take goes one deeper, a give comes one back and ends it at depth 0.
+// What a line of its job does to the search: a take or a held line goes one deeper, a give comes one back and ends it
+// at depth 0.
 fn passed(n: u32, depth: usize) -> Search
     requires { ⌜ depth < 2 ^ 64 - 1 ⌝ }
     ensures { λ r. ⌜ r ≡ passedBy n depth ⌝ }
 {
-    if line::is_take(n) {
+    if line::opens(n) {
         return Search::Goes(depth + 1);
     }
     if line::is_give(n) {

@@ -15,7 +15,7 @@ use Rattle.model.specs.declared.VerdictAnswer.{VerdictAnswer}
 use Rattle.model.specs.declared.MoveAnswer.{MoveAnswer}
 use Rattle.model.specs.Entries.{Outcome, Lent, tabling, ordering, moving}
 use Rattle.model.specs.Kept.{Beside, besideOf, building, LentBeside, movingKept, quick}
-use Rattle.model.specs.Board.{devices}
+use Rattle.model.specs.Board.{devices, board}
 
 infix 90 _does_
 infix 90 _takes_
@@ -127,18 +127,18 @@ lent p = replicate (length p + 1) 99
 unfoldable pub tabled : List ℕ → List (List ℕ)
 unfolding tabling lent
 tabled p =
-    let o : Outcome TableAnswer (List ℕ) = tabling devices p (lent p) in tableValues (o .answer) ∷ o .left ∷ []
+    let o : Outcome TableAnswer (List ℕ) = tabling board p (lent p) in tableValues (o .answer) ∷ o .left ∷ []
 
 unfoldable pub verdictOn : List ℕ → List (List ℕ)
 unfolding ordering lent
 verdictOn p =
-    let o : Outcome VerdictAnswer (List ℕ) = ordering devices p (lent p) in verdictValues (o .answer) ∷ o .left ∷ []
+    let o : Outcome VerdictAnswer (List ℕ) = ordering board p (lent p) in verdictValues (o .answer) ∷ o .left ∷ []
 
 -- of a plan with its own table
 unfoldable pub moved : List ℕ → ℕ → ℕ → List (List ℕ)
 unfolding moving table
 moved p line device =
-    let o : Outcome MoveAnswer Lent = moving devices p (table p ++ (99 ∷ [])) line device in
+    let o : Outcome MoveAnswer Lent = moving board p (table p ++ (99 ∷ [])) line device in
     moveValues (o .answer) ∷ o .left .plan ∷ o .left .sets ∷ []
 
 -- what is said: an order and how many devices stay held; or a refusal

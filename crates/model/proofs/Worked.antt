@@ -13,7 +13,7 @@ use mathlib.Core.Path.{_≡_, refl}
 use lib.ListN.{replicate}
 use Rattle.model.specs.Answers.{refusalValues, lineValues, readValues, writeValues, tableValues}
 use Rattle.model.specs.Answers.{verdictValues, moveValues, judgeValues}
-use Rattle.model.specs.Line.{isStep, lineNumber}
+use Rattle.model.specs.Line.{lineFits, lineNumber}
 use Rattle.model.specs.Text.{spelt, textOf, nextLine, lineFrom}
 use Rattle.model.specs.WellFormed.{lineFault, fault}
 use Rattle.model.specs.Legal.{held}
@@ -21,7 +21,7 @@ use Rattle.model.specs.Handed.{handed}
 use Rattle.model.specs.Entries.{Outcome, reading, writing, tabling, ordering, moving}
 use Rattle.model.specs.Printed.{ScreenOutcome, printed, screening}
 use Rattle.model.specs.Judged.{judging, judgePrinted}
-use Rattle.model.specs.Board.{devices}
+use Rattle.model.specs.Board.{board}
 use Rattle.model.specs.declared.Refusal.{Refusal}
 use Rattle.model.specs.declared.ReadAnswer.{ReadAnswer}
 use Rattle.model.specs.declared.WriteAnswer.{WriteAnswer}
@@ -31,7 +31,7 @@ use Rattle.model.proofs.Starred.{_does_, _takes_, _gives_, _starts_, pl
 use Rattle.model.proofs.Starred.{moved}
 
 -- the bytes of a text, which has none but those of ASCII
-pub bytes : String → List ℕ
+unfoldable pub bytes : String → List ℕ
 bytes nothing = []
 bytes (c then s) = code c ∷ bytes s
 
@@ -44,36 +44,36 @@ valuesOf (some r) = refusalValues r
 -- number and place of a plan's fault; nothing where it has none
 pub faultOf : List ℕ → List ℕ
 unfolding valuesOf fault
-faultOf p = valuesOf (fault devices p)
+faultOf p = valuesOf (fault board p)
 
 -- and of a line after so many others
 pub faultAfter : ℕ → ℕ → List ℕ
 unfolding valuesOf lineFault _does_
-faultAfter lines l = valuesOf (lineFault devices (replicate lines (1 does 0)) l)
+faultAfter lines l = valuesOf (lineFault board (replicate lines (1 does 0)) l)
 
 -- answer and list, of a list of so many entries
 pub readInto : ℕ → List ℕ → List (List ℕ)
 unfolding reading
 readInto room text =
-    let o : Outcome ReadAnswer (List ℕ) = reading devices text (replicate room 99) in
+    let o : Outcome ReadAnswer (List ℕ) = reading board text (replicate room 99) in
     readValues (o .answer) ∷ o .left ∷ []
 
 pub writtenInto : ℕ → List ℕ → List (List ℕ)
 unfolding writing
 writtenInto room p =
-    let o : Outcome WriteAnswer (List ℕ) = writing devices p (replicate room 99) in
+    let o : Outcome WriteAnswer (List ℕ) = writing board p (replicate room 99) in
     writeValues (o .answer) ∷ o .left ∷ []
 
 pub tabledInto : ℕ → List ℕ → List (List ℕ)
 unfolding tabling
 tabledInto room p =
-    let o : Outcome TableAnswer (List ℕ) = tabling devices p (replicate room 99) in
+    let o : Outcome TableAnswer (List ℕ) = tabling board p (replicate room 99) in
     tableValues (o .answer) ∷ o .left ∷ []
 
 pub orderedInto : ℕ → List ℕ → List (List ℕ)
 unfolding ordering
 orderedInto room p =
-    let o : Outcome VerdictAnswer (List ℕ) = ordering devices p (replicate room 99) in
+    let o : Outcome VerdictAnswer (List ℕ) = ordering board p (replicate room 99) in
     verdictValues (o .answer) ∷ o .left ∷ []
 
 -- the line numbers of the order handed out
@@ -84,31 +84,31 @@ orderOf p = map lineNumber (handed p)
 pub shownIn : ℕ → List ℕ → List (List ℕ)
 unfolding screening
 shownIn room text =
-    let o : ScreenOutcome = screening devices text (replicate room 99) in (o .count ∷ []) ∷ o .out ∷ []
+    let o : ScreenOutcome = screening board text (replicate room 99) in (o .count ∷ []) ∷ o .out ∷ []
 
 -- what comes at an offset, after so many lines
 pub nextAt : List ℕ → ℕ → ℕ → List ℕ
 unfolding nextLine
-nextAt text offset lines = lineValues (nextLine devices text (record { offset = offset; lines = lines }))
+nextAt text offset lines = lineValues (nextLine board text (record { offset = offset; lines = lines }))
 
 -- a move's answer, with these sets
 pub movedWith : List ℕ → List ℕ → ℕ → ℕ → List ℕ
 unfolding moving
-movedWith p sets line device = moveValues (moving devices p sets line device .answer)
+movedWith p sets line device = moveValues (moving board p sets line device .answer)
 
 -- what the judge answers of entries, and prints of a text
 pub judgedOf : List ℕ → List ℕ → List ℕ
 unfolding judging
-judgedOf p entries = judgeValues (judging devices p entries)
+judgedOf p entries = judgeValues (judging board p entries)
 
 pub judgedText : String → List ℕ
 unfolding judgePrinted bytes
-judgedText text = judgePrinted devices (bytes text)
+judgedText text = judgePrinted board (bytes text)
 
 -- the same of the text of one line, the line that parts, and these entries
 pub judgedAfter : String → List ℕ
 unfolding judgePrinted bytes
-judgedAfter entries = judgePrinted devices (bytes "1\tdo\t0\n--\n" ++ bytes entries)
+judgedAfter entries = judgePrinted board (bytes "1\tdo\t0\n--\n" ++ bytes entries)
 
 -- ---- the cases
 
@@ -182,27 +182,28 @@ pub record Worked : Type 0 where
   pub A-written-long : writtenInto 54 planA ≡ (0 ∷ 53 ∷ []) ∷ (textA ++ (99 ∷ [])) ∷ []
   pub A-written-short : writtenInto 52 planA ≡ (11 ∷ 53 ∷ []) ∷ replicate 52 99 ∷ []
   pub wide-written : textOf wide ≡ wideText
-  pub wide-spelt : spelt devices wideText ≡ wide
-  pub not-spelt : spelt devices notLines ≡ replicate 22 0
-  pub not-ended : flatMap (λ s. spelt devices (bytes s)) ("1\tdo\t7\r" ∷ "1\tdo\t7\t" ∷ []) ≡ 0 ∷ 0 ∷ []
+  pub wide-spelt : spelt board wideText ≡ wide
+  pub not-spelt : spelt board notLines ≡ replicate 22 0
+  pub not-ended : flatMap (λ s. spelt board (bytes s)) ("1\tdo\t7\r" ∷ "1\tdo\t7\t" ∷ []) ≡ 0 ∷ 0 ∷ []
   -- what is printed, and shown on the screens
-  pub A-printed : printed devices textA ≡ printA
-  pub nothing-printed : printed devices [] ≡ bytes "order\t0\t0\n"
-  pub refusal-printed : printed devices (bytes "1\ttake\t3\n1\tgive\t2\n") ≡ bytes "refused\t7\t2\n"
-  pub no-order-printed : printed devices (bytes "1\ttake\t0\n1\tstart\t2\n2\ttake\t0\n2\tgive\t0\n")
+  pub A-printed : printed board textA ≡ printA
+  pub nothing-printed : printed board [] ≡ bytes "order\t0\t0\n"
+  pub refusal-printed : printed board (bytes "1\ttake\t3\n1\tgive\t2\n") ≡ bytes "refused\t7\t2\n"
+  pub no-order-printed : printed board (bytes "1\ttake\t0\n1\tstart\t2\n2\ttake\t0\n2\tgive\t0\n")
       ≡ bytes "refused\t10\t0\n"
-  pub full-printed : printed devices (replicate 12288 10) ≡ bytes "refused\t2\t1\n"
-  pub length-printed : printed devices (replicate 12289 10) ≡ bytes "refused\t1\t0\n"
+  pub full-printed : printed board (replicate 12288 10) ≡ bytes "refused\t2\t1\n"
+  pub length-printed : printed board (replicate 12289 10) ≡ bytes "refused\t1\t0\n"
   pub A-shown : shownIn 4027 textA ≡ (22 ∷ []) ∷ (printA ++ replicate 4005 99) ∷ []
   pub refusal-shown : shownIn 4027 (bytes "1\ttake\t3\n1\tgive\t2\n")
       ≡ (12 ∷ []) ∷ (bytes "refused\t7\t2\n" ++ replicate 4015 99) ∷ []
   pub A-not-shown : shownIn 4026 textA ≡ (0 ∷ []) ∷ replicate 4026 99 ∷ []
   -- the ranges at their ends
-  pub jobs : map (λ j. isStep devices j 0 0) (0 ∷ 1 ∷ 64 ∷ 65 ∷ []) ≡ false ∷ true ∷ true ∷ false ∷ []
-  pub codes : map (isStep devices 1 0) (0 ∷ 255 ∷ 256 ∷ []) ≡ true ∷ true ∷ false ∷ []
-  pub taken : map (isStep devices 1 1) (0 ∷ 31 ∷ 32 ∷ []) ≡ true ∷ true ∷ false ∷ []
-  pub given : map (isStep devices 1 2) (0 ∷ 31 ∷ 32 ∷ []) ≡ true ∷ true ∷ false ∷ []
-  pub started : map (isStep devices 1 3) (1 ∷ 2 ∷ 64 ∷ 65 ∷ []) ≡ false ∷ true ∷ true ∷ false ∷ []
+  pub jobs : map (λ j. lineFits board j 0 0) (0 ∷ 1 ∷ 64 ∷ 65 ∷ []) ≡ false ∷ true ∷ true ∷ false ∷ []
+  pub codes : map (lineFits board 1 0) (0 ∷ 255 ∷ 256 ∷ []) ≡ true ∷ true ∷ false ∷ []
+  pub taken : map (lineFits board 1 1) (0 ∷ 31 ∷ 32 ∷ []) ≡ true ∷ true ∷ false ∷ []
+  pub given : map (lineFits board 1 2) (0 ∷ 31 ∷ 32 ∷ []) ≡ true ∷ true ∷ false ∷ []
+  pub holding : map (lineFits board 1 4) (0 ∷ 31 ∷ 32 ∷ []) ≡ false ∷ false ∷ false ∷ []
+  pub started : map (lineFits board 1 3) (1 ∷ 2 ∷ 64 ∷ 65 ∷ []) ≡ false ∷ true ∷ true ∷ false ∷ []
   -- the line reader at its limits: 1, 3, 2, the last line, the end; and by an offset alone
   pub next-long : nextAt (replicate 12289 10) 0 0 ≡ 1 ∷ 0 ∷ []
   pub next-full : nextAt (replicate 12288 10) 0 0 ≡ 2 ∷ 1 ∷ []
@@ -211,7 +212,7 @@ pub record Worked : Type 0 where
   pub next-malformed : nextAt notLines 0 5 ≡ 2 ∷ 6 ∷ []
   pub next-last : nextAt textA 10 1023 ≡ 0 ∷ 1 takes 1 ∷ 19 ∷ 1024 ∷ []
   pub next-end : nextAt textA 53 1024 ≡ 0 ∷ []
-  pub next-by-offset : lineValues (lineFrom devices textA 19) ≡ 0 ∷ 1 does 7 ∷ 26 ∷ 3 ∷ []
+  pub next-by-offset : lineValues (lineFrom board textA 19) ≡ 0 ∷ 1 does 7 ∷ 26 ∷ 3 ∷ []
   -- 2 to 7, with their places, and which comes first
   pub two : map faultOf ((1 does 0 ∷ 0 ∷ []) ∷ (65 does 0 ∷ []) ∷ []) ≡ (2 ∷ 2 ∷ []) ∷ (2 ∷ 1 ∷ []) ∷ []
   pub three : map (λ lines. faultAfter lines (1 does 0)) (1023 ∷ 1024 ∷ []) ≡ [] ∷ (3 ∷ 1025 ∷ []) ∷ []
@@ -368,8 +369,8 @@ pub record Worked : Type 0 where
       ≡ replicate 2 (bytes "refused\t15\t2\n")
   -- 1 counts the plan's bytes alone, and comes first; then 2 to 7, before 15. This excludes a program that measures
   -- the whole text.
-  pub full-plan : judgePrinted devices (replicate 12288 10 ++ bytes "--\n") ≡ bytes "refused\t2\t1\n"
-  pub long-plan : judgePrinted devices (replicate 12289 10 ++ bytes "--\n") ≡ bytes "refused\t1\t0\n"
+  pub full-plan : judgePrinted board (replicate 12288 10 ++ bytes "--\n") ≡ bytes "refused\t2\t1\n"
+  pub long-plan : judgePrinted board (replicate 12289 10 ++ bytes "--\n") ≡ bytes "refused\t1\t0\n"
   pub broken-plan : judgedText "1\ttake\t3\n1\tgive\t2\n--\n0\n" ≡ bytes "refused\t7\t2\n"
 
 pub worked : Worked
@@ -401,6 +402,7 @@ worked =
       codes = refl;
       taken = refl;
       given = refl;
+      holding = refl;
       started = refl;
       next-long = refl;
       next-full = refl;

@@ -11,7 +11,7 @@ use Rattle.model.specs.declared.Refusal.{Refusal}
 use Rattle.model.specs.declared.Refusal.the-variants.{TextTooLong, Malformed, TooManyLines, JobOutOfSequence}
 use Rattle.model.specs.declared.Refusal.the-variants.{BadStart, NeverStarted, GiveWithoutTake}
 use Rattle.model.specs.declared.Refusal.the-variants.{TwoLasting, LeadsBack, ListTooShort, NotATake}
-use Rattle.model.specs.declared.Refusal.the-variants.{NoSuchDevice, StaleTable, IllegalStep}
+use Rattle.model.specs.declared.Refusal.the-variants.{NoSuchDevice, StaleTable, IllegalStep, HeldTwice, HeldLate}
 use Rattle.model.specs.declared.LineAnswer.{LineAnswer}
 use Rattle.model.specs.declared.ReadAnswer.{ReadAnswer}
 use Rattle.model.specs.declared.WriteAnswer.{WriteAnswer}
@@ -35,6 +35,8 @@ numberOf (NotATake asked) = 12
 numberOf (NoSuchDevice asked) = 13
 numberOf (StaleTable line) = 14
 numberOf (IllegalStep position) = 15
+numberOf (HeldTwice line) = 16
+numberOf (HeldLate line) = 17
 
 abbrev pub placeOf : Refusal → ℕ
 placeOf TextTooLong = 0
@@ -51,6 +53,8 @@ placeOf (NotATake asked) = asked
 placeOf (NoSuchDevice asked) = asked
 placeOf (StaleTable line) = line
 placeOf (IllegalStep position) = position
+placeOf (HeldTwice line) = line
+placeOf (HeldLate line) = line
 
 abbrev pub refusalValues : Refusal → List ℕ
 refusalValues r = numberOf r ∷ placeOf r ∷ []

@@ -9,10 +9,10 @@ use lib.Dec.{eqb, ltb}
 use lib.ListN.{length}
 use Rattle.model.specs.Lists.{positions, all, has, same}
 use Rattle.model.specs.Answers.{refuseAt, firstRefusal}
-use Rattle.model.specs.Line.{maxLines, maxBytes}
+use Rattle.model.specs.Line.{Settings, maxLines, maxBytes}
 use Rattle.model.specs.Text.{newline, number, linesOf, spelt}
 use Rattle.model.specs.WellFormed.{fault}
-use Rattle.model.specs.Mate.{takesAt, deviceAt}
+use Rattle.model.specs.Mate.{takesAt, deviceAt, heldLines}
 use Rattle.model.specs.Legal.{precedes, held}
 use Rattle.model.specs.Entries.{textFault}
 use Rattle.model.specs.Printed.{printedRefusal}
@@ -36,23 +36,23 @@ strayAfter p done gone (zero ∷ es) = some (suc gone)
 strayAfter p done gone (suc i ∷ es) =
     elim (mayFollow p done i) [ true ↦ strayAfter p (done ++ (i ∷ [])) (suc gone) es | false ↦ some (suc gone) ]
 
--- from the front, with nothing done
+-- from the front, with nothing done but what is held
 unfoldable pub stray : List ℕ → List ℕ → Option ℕ
-unfolding strayAfter
-stray p es = strayAfter p [] 0 es
+unfolding strayAfter heldLines
+stray p es = strayAfter p (heldLines p) 0 es
 
--- The judge's tests: those of the plan, 2 to 7; then 15. It is lent nothing to write to, so its outcome is its answer.
-unfoldable pub judgeRefusal : ℕ → List ℕ → List ℕ → Option Refusal
+-- The judge's tests: those of the plan; then 15. It is lent nothing to write to, so its outcome is its answer.
+unfoldable pub judgeRefusal : Settings → List ℕ → List ℕ → Option Refusal
 unfolding firstRefusal fault refuseAt stray
-judgeRefusal D p es = firstRefusal (fault D p ∷ refuseAt IllegalStep (stray p es) ∷ [])
+judgeRefusal S p es = firstRefusal (fault S p ∷ refuseAt IllegalStep (stray p es) ∷ [])
 
 unfoldable pub judgedBy : Option Refusal → JudgeAnswer
 judgedBy none = JudgeAnswer.Legal
 judgedBy (some r) = JudgeAnswer.Refused r
 
-unfoldable pub judging : ℕ → List ℕ → List ℕ → JudgeAnswer
+unfoldable pub judging : Settings → List ℕ → List ℕ → JudgeAnswer
 unfolding judgedBy judgeRefusal
-judging D p es = judgedBy (judgeRefusal D p es)
+judging S p es = judgedBy (judgeRefusal S p es)
 
 -- ---- the program: a plan's text, the line --, and the entries one a line
 
@@ -80,13 +80,13 @@ unfoldable pub entriesOf : List (List ℕ) → List ℕ
 unfolding entryOf entryPart
 entriesOf ls = map entryOf (entryPart ls)
 
--- 1 to 7 of the plan's text; then 15
-unfoldable pub judgeTextRefusal : ℕ → List ℕ → Option Refusal
+-- those of the plan's text; then 15
+unfoldable pub judgeTextRefusal : Settings → List ℕ → Option Refusal
 unfolding firstRefusal textFault refuseAt stray spelt planPart entriesOf linesOf
-judgeTextRefusal D text =
+judgeTextRefusal S text =
     let ls : List (List ℕ) = linesOf text in
     let plan : List ℕ = planPart ls in
-    firstRefusal (textFault D plan ∷ refuseAt IllegalStep (stray (spelt D plan) (entriesOf ls)) ∷ [])
+    firstRefusal (textFault S plan ∷ refuseAt IllegalStep (stray (spelt S plan) (entriesOf ls)) ∷ [])
 
 -- the line legal, or the line of the refusal
 unfoldable pub legalLine : List ℕ
@@ -98,9 +98,9 @@ judgeLine JudgeAnswer.Legal = legalLine
 judgeLine (JudgeAnswer.Refused r) = printedRefusal r
 
 -- what `judge` prints for a text
-unfoldable pub judgePrinted : ℕ → List ℕ → List ℕ
+unfoldable pub judgePrinted : Settings → List ℕ → List ℕ
 unfolding judgeLine judgedBy judgeTextRefusal
-judgePrinted D text = judgeLine (judgedBy (judgeTextRefusal D text))
+judgePrinted S text = judgeLine (judgedBy (judgeTextRefusal S text))
 
 -- The first 17,412 bytes of a text decide: as many as a plan's text can have, the line that parts, five for each entry
 -- of a legal order, and one more, which shows where a list goes on.

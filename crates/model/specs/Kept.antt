@@ -1,6 +1,6 @@
 -- 02, request 4: the rows and the set of the devices held to the end, kept beside the table; which of them a move
 -- writes; and the outcomes of the three entries that are lent them, for any table, rows and held set, the plan's own or
--- not.
+-- not. They serve plans of the morning: a held line is no line for them (02, request 5).
 use Prim.Native.Nat.{ℕ}
 use mathlib.Core.Bool.{Bool, cond, _||_}
 use mathlib.Core.List.{List, [], _∷_, map}
@@ -10,7 +10,7 @@ use lib.ListN.{length, getD, take}
 use Rattle.model.specs.Lists.{upFrom, positions, any, those, firstOf, over}
 use Rattle.model.specs.Sets.{put, devicesWhere}
 use Rattle.model.specs.Answers.{refuseIf, refuseAt, firstRefusal, tooShort}
-use Rattle.model.specs.Line.{lineNumber}
+use Rattle.model.specs.Line.{morning, lineNumber}
 use Rattle.model.specs.WellFormed.{fault}
 use Rattle.model.specs.Mate.{deviceAt, lasting}
 use Rattle.model.specs.Claims.{table}
@@ -73,7 +73,7 @@ roomFor D p b =
 unfoldable pub building : ℕ → List ℕ → Beside → Outcome TableAnswer Beside
 unfolding outcome firstRefusal fault roomFor overAll besideOf
 building D p lent =
-    outcome TableAnswer.Refused (firstRefusal (fault D p ∷ roomFor D p lent ∷ []))
+    outcome TableAnswer.Refused (firstRefusal (fault (morning D) p ∷ roomFor D p lent ∷ []))
     (TableAnswer.Lines (length p)) (overAll (besideOf D p) lent) lent
 
 -- ---- moving
@@ -98,7 +98,7 @@ keptHeld q old new lent = put (lastsIn q new) new (put (lastsIn q old) old lent)
 -- the tests of a move, with 11 for all three lists
 unfoldable pub keptRefusal : ℕ → List ℕ → Beside → ℕ → ℕ → Option Refusal
 unfolding firstRefusal fault roomFor refuseIf isTakeOf refuseAt firstOf stale mayChange askedAt lineNumber
-keptRefusal D p b line device = moveTests D p (b .sets) (roomFor D p b) line device
+keptRefusal D p b line device = moveTests (morning D) p (b .sets) (roomFor D p b) line device
 
 -- what an accepted move of the take at i leaves beside the plan: the table as without rows; the rows kept, by the
 -- edited plan and that table; and the held set kept, by the edited plan
@@ -130,7 +130,7 @@ movingKept D p lent line device =
 unfoldable pub quickRefusal : ℕ → List ℕ → List ℕ → Option Refusal
 unfolding firstRefusal fault tooShort twoLasting circleOf
 quickRefusal D p rs =
-    firstRefusal (fault D p ∷ tooShort (length rs) D ∷ twoLasting D p ∷ circleOf D (take D rs) ∷ [])
+    firstRefusal (fault (morning D) p ∷ tooShort (length rs) D ∷ twoLasting D p ∷ circleOf D (take D rs) ∷ [])
 
 unfoldable pub quickBy : Option Refusal → ℕ → VerdictAnswer
 quickBy none n = VerdictAnswer.Held n

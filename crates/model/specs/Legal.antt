@@ -1,5 +1,6 @@
--- 01, "Legal orders", by positions. An order is built step by step: `done` are the lines that went before a step. A
--- take of a device that its own job holds needs no free device, and frees none when it is given back (02, request 2).
+-- 01, "Legal orders", by positions. An order is built step by step: `done` are the lines that went before a step, of
+-- which a held line is one that was done before the first step (02, request 5). A take of a device that its own job
+-- holds needs no free device, and frees none when it is given back (02, request 2).
 use Prim.Native.Nat.{ℕ, _<_}
 use mathlib.Core.Bool.{Bool, true, false, not, _&&_, _||_}
 use mathlib.Core.List.{List, [], _∷_, _++_}
@@ -9,7 +10,7 @@ use lib.Dec.{eqb, ltb}
 use lib.ListN.{length}
 use Rattle.model.specs.Lists.{any, has}
 use Rattle.model.specs.Line.{job, starts, at}
-use Rattle.model.specs.Mate.{takes, mate}
+use Rattle.model.specs.Mate.{takes, mate, heldAt, heldLines, grips}
 
 -- line k has to come before line i: it is an earlier line of the same job, or starts that job
 unfoldable pub precedes : List ℕ → ℕ → ℕ → Bool
@@ -22,15 +23,15 @@ unfolding has
 doneAt done none = false
 doneAt done (some m) = has m done
 
--- the take at position k was given back: its mate is done
+-- what line k took or held was given back: its mate is done
 unfoldable pub givenBack : List ℕ → List ℕ → ℕ → Bool
 unfolding doneAt mate
 givenBack p done k = doneAt done (mate p k)
 
--- device d is held: an outermost take of it is done and was not given back
+-- device d is held: an outermost take of it, or a held line of it, is done and was not given back
 unfoldable pub held : List ℕ → List ℕ → ℕ → Bool
-unfolding any takes givenBack
-held p done d = any (λ k. takes p k d && not (givenBack p done k)) done
+unfolding any grips givenBack
+held p done d = any (λ k. grips p k d && not (givenBack p done k)) done
 
 -- line i may follow the lines done
 pub record MayFollow (p done : List ℕ) (i : ℕ) : Type 0 where
@@ -44,7 +45,9 @@ abbrev pub Follow : List ℕ → List ℕ → List ℕ → Type 0
 Follow p done [] = Unit {0}
 Follow p done (i ∷ o) = MayFollow p done i × Follow p (done ++ (i ∷ [])) o
 
--- a legal order: its steps follow each other, and every line is in it
+-- A legal order: its steps follow each other, from the state in which the held lines are done and nothing else is, and
+-- every other line is in it. (So no held line is in it, and no line twice. In a plan of 01 no line is held, and the
+-- state is that of nothing done.)
 pub record Legal (p o : List ℕ) : Type 0 where
-  pub steps : Follow p [] o
-  pub whole : (i : ℕ) → i < length p → has i o ≡ true
+  pub steps : Follow p (heldLines p) o
+  pub whole : (i : ℕ) → i < length p → heldAt p i ≡ false → has i o ≡ true

@@ -1,4 +1,5 @@
--- 01, "Moving a claim", with the lines that 02, request 2, adds to those that a move may change.
+-- 01, "Moving a claim", with the lines that 02, request 2, adds to those that a move may change. A held line (02,
+-- request 5) is no take, and so it is not moved: 12.
 use Prim.Native.Nat.{ℕ, zero, suc, _-_}
 use mathlib.Core.Bool.{Bool, true, false, not, _||_}
 use mathlib.Core.List.{List, [], _∷_, _++_}
@@ -8,7 +9,7 @@ use lib.ListN.{length, getD, set}
 use Rattle.model.specs.Lists.{upFrom, positions, firstOf, those, lastOr}
 use Rattle.model.specs.Sets.{union}
 use Rattle.model.specs.Answers.{refuseIf, refuseAt, firstRefusal, tooShort}
-use Rattle.model.specs.Line.{pack, job, kind, isTake, starts, at, lineNumber}
+use Rattle.model.specs.Line.{Settings, pack, job, kind, isTake, starts, at, lineNumber}
 use Rattle.model.specs.Mate.{mate}
 use Rattle.model.specs.WellFormed.{fault}
 use Rattle.model.specs.Claims.{own, beyond}
@@ -59,7 +60,7 @@ unfolding way under
 mayChange p i = way p i ++ under p i
 
 -- The same lines in the order in which they are joined. A set is joined from those of later lines, so this goes from
--- the last of them back to line 1: it is the way of the last line under the take.
+-- the last of them back to the way's end: it is the way of the last line under the take.
 unfoldable pub fromLast : List ℕ → ℕ → List ℕ
 unfolding way lastOr under
 fromLast p i = way p (lastOr i (under p i))
@@ -97,16 +98,16 @@ isTakeOf p (suc i) = isTake (at p i)
 
 -- The tests, in their order, with one for the room in what is lent beside the plan. Of a plan without a fault the
 -- edited one has none (shown in `theory`, Edited).
-abbrev pub moveTests : ℕ → List ℕ → List ℕ → Option Refusal → ℕ → ℕ → Option Refusal
-moveTests D p t room line device =
+abbrev pub moveTests : Settings → List ℕ → List ℕ → Option Refusal → ℕ → ℕ → Option Refusal
+moveTests S p t room line device =
     firstRefusal
-    (fault D p
+    (fault S p
     ∷ room
     ∷ refuseIf (not (isTakeOf p line)) (NotATake line)
-    ∷ refuseIf (leb D device) (NoSuchDevice device)
+    ∷ refuseIf (leb (S .devices) device) (NoSuchDevice device)
     ∷ refuseAt (λ k. StaleTable (lineNumber k)) (firstOf (stale p t) (mayChange p (askedAt line)))
     ∷ [])
 
-unfoldable pub moveRefusal : ℕ → List ℕ → List ℕ → ℕ → ℕ → Option Refusal
+unfoldable pub moveRefusal : Settings → List ℕ → List ℕ → ℕ → ℕ → Option Refusal
 unfolding firstRefusal fault tooShort refuseIf isTakeOf refuseAt firstOf stale mayChange askedAt lineNumber
-moveRefusal D p t line device = moveTests D p t (tooShort (length t) (length p)) line device
+moveRefusal S p t line device = moveTests S p t (tooShort (length t) (length p)) line device

@@ -7,7 +7,7 @@ use lib.Dec.{ltb}
 use lib.ListN.{length}
 use Rattle.model.specs.Lists.{over}
 use Rattle.model.specs.Answers.{refusalValues, firstRefusal}
-use Rattle.model.specs.Line.{lineNumber}
+use Rattle.model.specs.Line.{Settings, lineNumber}
 use Rattle.model.specs.Text.{decimal, tabbed, spelt}
 use Rattle.model.specs.Handed.{handed}
 use Rattle.model.specs.Verdict.{noOrder, heldAtEnd}
@@ -30,7 +30,7 @@ unfoldable pub printedRefusal : Refusal → List ℕ
 unfolding printedLine refusedWord
 printedRefusal r = printedLine refusedWord (refusalValues r)
 
--- first how many lines and how many devices stay held, then the order, a number to a line
+-- first how many steps and how many devices stay held, then the order, a number to a line
 unfoldable pub printedOrder : List ℕ → ℕ → List ℕ
 unfolding printedLine orderWord tabbed decimal flatMap
 printedOrder order stillHeld =
@@ -41,12 +41,13 @@ unfolding printedOrder printedRefusal
 printedBy none order stillHeld = printedOrder order stillHeld
 printedBy (some r) order stillHeld = printedRefusal r
 
--- what `order` prints for a text
-unfoldable pub printed : ℕ → List ℕ → List ℕ
+-- what `order` prints for a text, and at midday `resume`
+unfoldable pub printed : Settings → List ℕ → List ℕ
 unfolding printedBy firstRefusal textFault noOrder spelt handed heldAtEnd lineNumber
-printed D text =
-    let p : List ℕ = spelt D text in
-    printedBy (firstRefusal (textFault D text ∷ noOrder D p ∷ [])) (map lineNumber (handed p)) (heldAtEnd D p)
+printed S text =
+    let p : List ℕ = spelt S text in
+    printedBy (firstRefusal (textFault S text ∷ noOrder (S .devices) p ∷ []))
+    (map lineNumber (handed p)) (heldAtEnd (S .devices) p)
 
 -- The screens' entry: the number of bytes written, and the buffer. Under 4,027 bytes the number is 0 and the buffer
 -- stays as it was. No print is longer: its first line has 14 bytes at most, and the numbers 1 to 1,024 have 4,013.
@@ -62,6 +63,6 @@ unfolding over
 screenBy true bytes lent = record { count = 0; out = lent }
 screenBy false bytes lent = record { count = length bytes; out = over bytes lent }
 
-unfoldable pub screening : ℕ → List ℕ → List ℕ → ScreenOutcome
+unfoldable pub screening : Settings → List ℕ → List ℕ → ScreenOutcome
 unfolding screenBy printed
-screening D text lent = screenBy (ltb (length lent) screenRoom) (printed D text) lent
+screening S text lent = screenBy (ltb (length lent) screenRoom) (printed S text) lent

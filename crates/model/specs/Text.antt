@@ -1,4 +1,5 @@
--- 01, "The plan as text": numbers, verbs, lines and the line reader, and the text of a plan.
+-- 01, "The plan as text", with the verb that 02, request 5, adds: numbers, verbs, lines and the line reader, and the
+-- text of a plan.
 use Prim.Native.Nat.{ℕ, zero, suc, _+_, _-_, _*_, _/_, _%_}
 use mathlib.Core.Bool.{Bool, true, false, cond, not, _&&_}
 use mathlib.Core.List.{List, [], _∷_, _++_, map, flatMap, getLastD, dropLast}
@@ -6,7 +7,7 @@ use mathlib.Core.Option.{Option, none, some, Option·getD}
 use lib.Dec.{eqb, leb, ltb}
 use lib.ListN.{length, getD, take, drop}
 use Rattle.model.specs.Lists.{upFrom, all, those, firstOf, same}
-use Rattle.model.specs.Line.{pack, job, kind, operand, isStep, lineNumber, maxLines, maxBytes}
+use Rattle.model.specs.Line.{Settings, packVerb, job, verbOf, deviceOf, lineFits, lineNumber, maxLines, maxBytes}
 use Rattle.model.specs.declared.Refusal.the-variants.{TextTooLong, Malformed, TooManyLines}
 use Rattle.model.specs.declared.Cursor.{Cursor}
 use Rattle.model.specs.declared.LineAnswer.{LineAnswer}
@@ -47,21 +48,21 @@ unfoldable pub decimal : ℕ → List ℕ
 unfolding decimalIn
 decimal n = decimalIn n n
 
--- The verbs, in the order of their kinds: do, take, give, start.
+-- The verbs, in the order of their numbers: do, take, give, start, held.
 
 unfoldable pub verbs : List (List ℕ)
 verbs =
     (100 ∷ 111 ∷ []) ∷ (116 ∷ 97 ∷ 107 ∷ 101 ∷ []) ∷ (103 ∷ 105 ∷ 118 ∷ 101 ∷ []) ∷ (115 ∷ 116 ∷ 97 ∷ 114 ∷ 116 ∷ [])
-    ∷ []
+    ∷ (104 ∷ 101 ∷ 108 ∷ 100 ∷ []) ∷ []
 
 unfoldable pub verb : ℕ → List ℕ
 unfolding verbs
-verb k = getD verbs k []
+verb v = getD verbs v []
 
--- the kind of a verb, matched byte for byte
-unfoldable pub kindOf : List ℕ → Option ℕ
+-- the number of a verb, matched byte for byte
+unfoldable pub verbNumber : List ℕ → Option ℕ
 unfolding firstOf same verb upFrom
-kindOf s = firstOf (λ k. same s (verb k)) (upFrom 0 4)
+verbNumber s = firstOf (λ v. same s (verb v)) (upFrom 0 5)
 
 -- Lines and fields.
 
@@ -89,57 +90,57 @@ tabbed (f ∷ g ∷ fs) = f ++ (tab ∷ tabbed (g ∷ fs))
 
 -- One line: job, verb, operand. Its packed number, or none where it is malformed.
 
-unfoldable pub packedFrom : ℕ → Option ℕ → Option ℕ → Option ℕ → Option ℕ
-unfolding isStep pack
-packedFrom D (some j) (some k) (some o) = cond (isStep D j k o) (some (pack j k o)) none
-packedFrom D (some j) (some k) none = none
-packedFrom D (some j) none o = none
-packedFrom D none k o = none
+unfoldable pub packedFrom : Settings → Option ℕ → Option ℕ → Option ℕ → Option ℕ
+unfolding lineFits packVerb
+packedFrom S (some j) (some v) (some o) = cond (lineFits S j v o) (some (packVerb j v o)) none
+packedFrom S (some j) (some v) none = none
+packedFrom S (some j) none o = none
+packedFrom S none v o = none
 
-unfoldable pub fromFields : ℕ → List (List ℕ) → Option ℕ
-unfolding packedFrom number kindOf
-fromFields D [] = none
-fromFields D (j ∷ []) = none
-fromFields D (j ∷ v ∷ []) = none
-fromFields D (j ∷ v ∷ o ∷ []) = packedFrom D (number j) (kindOf v) (number o)
-fromFields D (j ∷ v ∷ o ∷ x ∷ xs) = none
+unfoldable pub fromFields : Settings → List (List ℕ) → Option ℕ
+unfolding packedFrom number verbNumber
+fromFields S [] = none
+fromFields S (j ∷ []) = none
+fromFields S (j ∷ v ∷ []) = none
+fromFields S (j ∷ v ∷ o ∷ []) = packedFrom S (number j) (verbNumber v) (number o)
+fromFields S (j ∷ v ∷ o ∷ x ∷ xs) = none
 
-unfoldable pub packedLine : ℕ → List ℕ → Option ℕ
+unfoldable pub packedLine : Settings → List ℕ → Option ℕ
 unfolding fromFields fieldsOf getLastD
-packedLine D l = cond (eqb (getLastD l 0) newline) (fromFields D (fieldsOf (dropLast l))) none
+packedLine S l = cond (eqb (getLastD l 0) newline) (fromFields S (fieldsOf (dropLast l))) none
 
 -- the text of a line, and of a plan
 unfoldable pub lineText : ℕ → List ℕ
-unfolding tabbed decimal verb job kind operand
-lineText l = tabbed (decimal (job l) ∷ verb (kind l) ∷ decimal (operand l) ∷ [])
+unfolding tabbed decimal verb job verbOf deviceOf
+lineText l = tabbed (decimal (job l) ∷ verb (verbOf l) ∷ decimal (deviceOf l) ∷ [])
 
 unfoldable pub textOf : List ℕ → List ℕ
 unfolding lineText flatMap
 textOf p = flatMap lineText p
 
 -- the packed numbers that a text spells; a malformed line has 0 for its number, which is no line's
-unfoldable pub spelt : ℕ → List ℕ → List ℕ
+unfoldable pub spelt : Settings → List ℕ → List ℕ
 unfolding linesOf packedLine
-spelt D text = map (λ l. Option·getD (packedLine D l) 0) (linesOf text)
+spelt S text = map (λ l. Option·getD (packedLine S l) 0) (linesOf text)
 
 -- The line reader, at any cursor, also one that no answer gave: 1; the end where nothing is left; 3; 2; or the line
 -- and the cursor past it.
 
-unfoldable pub handedLine : ℕ → Cursor → List (List ℕ) → LineAnswer
+unfoldable pub handedLine : Settings → Cursor → List (List ℕ) → LineAnswer
 unfolding packedLine lineNumber
-handedLine D c [] = LineAnswer.End
-handedLine D c (l ∷ ls) =
+handedLine S c [] = LineAnswer.End
+handedLine S c (l ∷ ls) =
     cond (leb maxLines (c .lines)) (LineAnswer.Refused TooManyLines)
-    (elim (packedLine D l) [
+    (elim (packedLine S l) [
       | none ↦ LineAnswer.Refused (Malformed (lineNumber (c .lines)))
       | some n ↦ LineAnswer.Line n (record { offset = c .offset + length l; lines = suc (c .lines) })
     ])
 
-unfoldable pub nextLine : ℕ → List ℕ → Cursor → LineAnswer
+unfoldable pub nextLine : Settings → List ℕ → Cursor → LineAnswer
 unfolding handedLine linesOf
-nextLine D text c =
+nextLine S text c =
     cond (ltb maxBytes (length text)) (LineAnswer.Refused TextTooLong)
-    (handedLine D c (linesOf (drop (c .offset) text)))
+    (handedLine S c (linesOf (drop (c .offset) text)))
 
 -- past the line; otherwise the reader stays, so that its next answer is the same
 unfoldable pub cursorAfter : Cursor → LineAnswer → Cursor
@@ -151,10 +152,10 @@ cursorAfter c LineAnswer.End = c
 unfoldable pub begin : Cursor
 begin = record { offset = 0; lines = 0 }
 
-unfoldable pub cursorAt : ℕ → List ℕ → ℕ → Cursor
+unfoldable pub cursorAt : Settings → List ℕ → ℕ → Cursor
 unfolding begin cursorAfter nextLine
-cursorAt D text zero = begin
-cursorAt D text (suc n) = let c : Cursor = cursorAt D text n in cursorAfter c (nextLine D text c)
+cursorAt S text zero = begin
+cursorAt S text (suc n) = let c : Cursor = cursorAt S text n in cursorAfter c (nextLine S text c)
 
 -- The line reader by an offset alone: as many lines were handed out as newlines stand before the offset, so that the
 -- number of the line there is one more than these.
@@ -167,6 +168,6 @@ unfoldable pub cursorFrom : List ℕ → ℕ → Cursor
 unfolding newlinesBefore
 cursorFrom text offset = record { offset = offset; lines = newlinesBefore text offset }
 
-unfoldable pub lineFrom : ℕ → List ℕ → ℕ → LineAnswer
+unfoldable pub lineFrom : Settings → List ℕ → ℕ → LineAnswer
 unfolding cursorFrom nextLine
-lineFrom D text offset = nextLine D text (cursorFrom text offset)
+lineFrom S text offset = nextLine S text (cursorFrom text offset)

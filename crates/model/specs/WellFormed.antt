@@ -1,8 +1,8 @@
 -- 01, "Rules of a well-formed plan", as the first four of its five rules (02, request 2, takes the last, that of takes,
--- away), and "Refusal numbers", 2 to 7: each fault of a plan with its place, in the order of the tests. (That a plan
--- has no fault exactly if it is WellFormed is shown in `theory`.)
+-- away), with those of held lines (02, request 5), and "Refusal numbers", 2 to 7, 16 and 17: each fault of a plan with
+-- its place, in the order of the tests. (That a plan has no fault exactly if it is WellFormed is shown in `theory`.)
 use Prim.Native.Nat.{ℕ, zero, suc, _<_, _≤_}
-use mathlib.Core.Bool.{Bool, true, false, not, _&&_, _||_}
+use mathlib.Core.Bool.{Bool, true, false, cond, not, _&&_, _||_}
 use mathlib.Core.List.{List, [], _∷_, tail, headD}
 use mathlib.Core.Logic.{_⊎_, _≢_}
 use mathlib.Core.Option.{Option, none, some}
@@ -11,12 +11,11 @@ use lib.Dec.{eqb, leb}
 use lib.ListN.{length}
 use Rattle.model.specs.Lists.{upFrom, positions, any, firstOf}
 use Rattle.model.specs.Answers.{refuseIf, refuseAt, firstRefusal}
-use Rattle.model.specs.Line.{job, operand, isTake, isGive, isStart, starts, isLine, at, lineNumber, hasLines}
-use Rattle.model.specs.Line.{firstLine}
-use Rattle.model.specs.Line.{maxLines, maxJob}
+use Rattle.model.specs.Line.{Settings, job, operand, opens, isHeld, isGive, isStart, deviceOf, holds, starts}
+use Rattle.model.specs.Line.{isLine, at, lineNumber, hasLines, firstLine, maxLines, maxJob}
 use Rattle.model.specs.declared.Refusal.{Refusal}
 use Rattle.model.specs.declared.Refusal.the-variants.{Malformed, TooManyLines, JobOutOfSequence, BadStart}
-use Rattle.model.specs.declared.Refusal.the-variants.{NeverStarted, GiveWithoutTake}
+use Rattle.model.specs.declared.Refusal.the-variants.{NeverStarted, GiveWithoutTake, HeldTwice, HeldLate}
 
 -- the lines before position i, the nearest first
 unfoldable pub before : List ℕ → ℕ → List ℕ
@@ -24,15 +23,15 @@ before p zero = []
 before p (suc i) = at p i ∷ before p i
 
 -- the devices that job j holds after some lines, of which the nearest stands first: the device taken last first, and a
--- device as often as it is held
+-- device as often as it is held. What a held line holds was taken before the first step.
 unfoldable pub heldBy : ℕ → List ℕ → List ℕ
-unfolding job isTake isGive operand
+unfolding job opens isGive deviceOf
 heldBy j [] = []
 heldBy j (l ∷ b) =
     elim (eqb (job l) j) [
       | false ↦ heldBy j b
-      | true ↦ elim (isTake l) [
-        | true ↦ operand l ∷ heldBy j b
+      | true ↦ elim (opens l) [
+        | true ↦ deviceOf l ∷ heldBy j b
         | false ↦ elim (isGive l) [ true ↦ tail (heldBy j b) | false ↦ heldBy j b ]
       ]
     ]
@@ -46,8 +45,9 @@ unfoldable pub isLast : ℕ → List ℕ → Bool
 isLast d [] = false
 isLast d (x ∷ xs) = eqb d x
 
--- The rules: first and next; the three about starts; started; give. Past the end stands 0, a do of no job, so that
--- starts and gives need no bound on i.
+-- The rules: first and next; the three about starts; give; and those of held lines: no device is held twice, only held
+-- lines stand before one in its job, and no line starts its job. Past the end stands 0, a do of no job, so that starts,
+-- gives and held lines need no bound on i.
 pub record Rules (p : List ℕ) : Type 0 where
   pub first : 0 < length p → job (at p 0) ≡ 1
   pub next : (i : ℕ) → suc i < length p
@@ -55,14 +55,19 @@ pub record Rules (p : List ℕ) : Type 0 where
   pub startHigher : (i j : ℕ) → starts (at p i) j ≡ true → job (at p i) < j
   pub startOnce : (i k j : ℕ) → k < i → starts (at p i) j ≡ true → starts (at p k) j ≡ false
   pub startHasLines : (i j : ℕ) → starts (at p i) j ≡ true → hasLines p j ≡ true
-  pub started : (i : ℕ) → i < length p → job (at p i) ≢ 1 → any (λ l. starts l (job (at p i))) p ≡ true
   pub give : (i : ℕ) → isGive (at p i) ≡ true → isLast (operand (at p i)) (heldThere p i) ≡ true
+  pub heldOnce : (i k d : ℕ) → k < i → holds (at p i) d ≡ true → holds (at p k) d ≡ false
+  pub heldFirst : (i k : ℕ) → k < i → isHeld (at p i) ≡ true → job (at p k) ≡ job (at p i) → isHeld (at p k) ≡ true
+  pub heldRuns : (i k : ℕ) → isHeld (at p i) ≡ true → starts (at p k) (job (at p i)) ≡ false
 
--- A well-formed plan with D devices: at most 1,024 numbers, each a line's, that obey the rules.
-pub record WellFormed (D : ℕ) (p : List ℕ) : Type 0 where
+-- A well-formed plan: at most 1,024 numbers, each a line's, that obey the rules; and in a plan of the morning each job
+-- but 1 is started by some line. At midday a job that no line starts is already running.
+pub record WellFormed (S : Settings) (p : List ℕ) : Type 0 where
   pub few : length p ≤ maxLines
-  pub lines : (i : ℕ) → i < length p → isLine D (at p i) ≡ true
+  pub lines : (i : ℕ) → i < length p → isLine S (at p i) ≡ true
   pub rules : Rules p
+  pub started : S .midday ≡ false → (i : ℕ) → i < length p → job (at p i) ≢ 1
+      → any (λ l. starts l (job (at p i))) p ≡ true
 
 -- The faults. A line is tested against the lines before it, the nearest first.
 
@@ -71,33 +76,41 @@ unfolding job
 inSequence [] l = eqb (job l) 1
 inSequence (q ∷ b) l = eqb (job l) (job q) || eqb (job l) (suc (job q))
 
--- the verb's own rule: 5, as far as the lines before tell; 7
+-- line l comes too late to be held: after a line of its job with another verb, or after a line that starts its job
+unfoldable pub late : List ℕ → ℕ → Bool
+unfolding any job isHeld starts
+late b l = any (λ q. (eqb (job q) (job l) && not (isHeld q)) || starts q (job l)) b
+
+-- the verb's own rule: 5, as far as the lines before tell; 7; 16, then 17
 unfoldable pub verbFault : List ℕ → ℕ → Option Refusal
-unfolding firstRefusal refuseIf lineNumber isStart isGive operand job any starts heldBy isLast
+unfolding firstRefusal refuseIf lineNumber isStart isGive isHeld operand deviceOf job any starts heldBy isLast holds
+    late
 verbFault b l =
     let n : ℕ = lineNumber (length b) in
     firstRefusal
     (refuseIf (isStart l && (leb (operand l) (job l) || any (λ q. starts q (operand l)) b)) (BadStart n)
     ∷ refuseIf (isGive l && not (isLast (operand l) (heldBy (job l) b))) (GiveWithoutTake n)
+    ∷ refuseIf (isHeld l && any (λ q. holds q (deviceOf l)) b) (HeldTwice n)
+    ∷ refuseIf (isHeld l && late b l) (HeldLate n)
     ∷ [])
 
 -- 3, 2, 4, then the verb's own
-unfoldable pub lineFault : ℕ → List ℕ → ℕ → Option Refusal
+unfoldable pub lineFault : Settings → List ℕ → ℕ → Option Refusal
 unfolding firstRefusal refuseIf lineNumber isLine inSequence verbFault
-lineFault D b l =
+lineFault S b l =
     let n : ℕ = lineNumber (length b) in
     firstRefusal
     (refuseIf (leb maxLines (length b)) TooManyLines
-    ∷ refuseIf (not (isLine D l)) (Malformed n)
+    ∷ refuseIf (not (isLine S l)) (Malformed n)
     ∷ refuseIf (not (inSequence b l)) (JobOutOfSequence n)
     ∷ verbFault b l
     ∷ [])
 
 -- the fault of the first line that has one, of lines that stand after some others
-unfoldable pub firstFault : ℕ → List ℕ → List ℕ → Option Refusal
+unfoldable pub firstFault : Settings → List ℕ → List ℕ → Option Refusal
 unfolding lineFault
-firstFault D b [] = none
-firstFault D b (l ∷ ls) = elim (lineFault D b l) [ some r ↦ some r | none ↦ firstFault D (l ∷ b) ls ]
+firstFault S b [] = none
+firstFault S b (l ∷ ls) = elim (lineFault S b l) [ some r ↦ some r | none ↦ firstFault S (l ∷ b) ls ]
 
 -- After the last line. 5: the lowest line that starts a job without lines.
 unfoldable pub emptyStart : List ℕ → Option Refusal
@@ -113,7 +126,8 @@ neverStarted p =
     refuseAt (λ j. NeverStarted (lineNumber (headD (firstLine j p) 0)))
     (firstOf (λ j. hasLines p j && not (eqb j 1) && not (any (λ l. starts l j) p)) (upFrom 1 maxJob))
 
--- the fault of a plan, if it has one
-unfoldable pub fault : ℕ → List ℕ → Option Refusal
+-- the fault of a plan, if it has one; 6 is not given at midday
+unfoldable pub fault : Settings → List ℕ → Option Refusal
 unfolding firstRefusal firstFault emptyStart neverStarted
-fault D p = firstRefusal (firstFault D [] p ∷ emptyStart p ∷ neverStarted p ∷ [])
+fault S p =
+    firstRefusal (firstFault S [] p ∷ emptyStart p ∷ cond (S .midday) none (neverStarted p) ∷ [])

@@ -32,6 +32,10 @@ pub enum Refusal {
     StaleTable(u32),
     // 15: in an order from elsewhere the entry at this position cannot come there, or is missing
     IllegalStep(u32),
+    // 16: the line holds a device that an earlier line holds
+    HeldTwice(u32),
+    // 17: the line is held after another verb, or in a job that is started
+    HeldLate(u32),
 }
 
 // Where the line reader stands: the offset of the next line, and how many lines were handed out before it.

@@ -15,7 +15,7 @@ use mir.Val.{boolByte}
 use borrow.Author.Tests.{eqb-true, eqb-false}
 use Rattle.model.specs.Board.{devices}
 use Rattle.model.specs.Lists.{upFrom, has}
-use Rattle.model.specs.Line.{job, operand, isTake, at, maxLines}
+use Rattle.model.specs.Line.{job, operand, isTake, at, maxLines, heldFrom}
 use Rattle.model.specs.WellFormed.{heldThere, Rules}
 use Rattle.model.specs.Mate.{deviceAt, mate}
 use Rattle.model.specs.Move.{edited, under}
@@ -47,7 +47,7 @@ module _ (p : List ℕ) (i device : ℕ) (take : Take p i device) where
   abbrev q : List ℕ
   q = edited p i device
 
-  small : device < 256
+  small : device < heldFrom
   small = omega (arith, take .onBoard)
 
   pub span-is : Spans p i (stopOf (spanOf p i))

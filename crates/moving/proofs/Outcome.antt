@@ -11,7 +11,7 @@ use Rattle.model.specs.Lists.{positions, lastOr}
 use Rattle.model.specs.WellFormed.{fault}
 use Rattle.model.specs.Move.{edited, way, under, fromLast, rewritten, changed, askedAt, moveRefusal}
 use Rattle.model.specs.Entries.{Lent, outcome, moving}
-use Rattle.model.specs.Board.{devices}
+use Rattle.model.specs.Board.{devices, boardAt}
 use Rattle.model.specs.declared.Refusal.{Refusal}
 use Rattle.model.specs.declared.MoveAnswer.{MoveAnswer}
 use Rattle.promises.specs.Move.{MovesAs}
@@ -35,7 +35,7 @@ use Rattle.moving.specs.Through.{throughBy, MovesThrough}
 use Rattle.moving.specs.declared.Through.{Through}
 use Rattle.moving.proofs.Answers.{told-not, told-moved}
 use Rattle.moving.proofs.Refusing.{Passes, passes}
-use Rattle.moving.proofs.SameScan.{same-firsts, same-starters, same-way, same-changed}
+use Rattle.moving.proofs.SameScan.{at-midday, same-firsts, same-starters, same-way, same-changed}
 
 -- no more sets change than there are lines
 pub few-changed : (p old new : List ℕ) (count : ℕ) → count ≡ changed p old new → count ≤ length p
@@ -44,16 +44,16 @@ few-changed p old new count e =
     let differs : (ℕ → Bool) = λ i. not (eqb (getD new i 0) (getD old i 0)) in
     omega (arith, those-length differs (positions p), length-upFrom 0 (length p))
 
-module _ (p t : List ℕ) (line device : ℕ) where
-  pub refused : (r : Refusal) → moveRefusal devices p t line device ≡ some r
-      → (MoveAnswer.Refused r ≡ moving devices p t line device .answer)
-      × (record { plan = p; sets = t } ≡ moving devices p t line device .left)
+module _ (midday : Bool) (p t : List ℕ) (line device : ℕ) where
+  pub refused : (r : Refusal) → moveRefusal (boardAt midday) p t line device ≡ some r
+      → (MoveAnswer.Refused r ≡ moving (boardAt midday) p t line device .answer)
+      × (record { plan = p; sets = t } ≡ moving (boardAt midday) p t line device .left)
   unfolding moving outcome
   refused r e = rw e (refl, refl)
 
-  module _ (none-refuses : moveRefusal devices p t line device ≡ none) where
-    k : Passes p t line device
-    k = passes p t line device none-refuses
+  module _ (none-refuses : moveRefusal (boardAt midday) p t line device ≡ none) where
+    k : Passes midday p t line device
+    k = passes midday p t line device none-refuses
 
     q : List ℕ
     q = edited p (line - 1) device
@@ -77,7 +77,7 @@ module _ (p t : List ℕ) (line device : ℕ) where
     unfolding q
     known first starter again s = record {
       scan = record {
-        wellFormed = k .fine;
+        wellFormed = at-midday midday q (k .fine);
         firsts = s .firsts ∙ sym (same-firsts p q alike);
         starts = s .starts ∙ sym (same-starters p q alike);
         agains = refl;
@@ -107,8 +107,8 @@ module _ (p t : List ℕ) (line device : ℕ) where
 
     pub moved : (first starter again : List ℕ) (count : ℕ) (p′ t′ again′ : List ℕ) → Scanned p first starter again
         → RewritesAs p t first starter (line - 1) device count p′ t′ again′
-        → (MoveAnswer.Changed count ≡ moving devices p t line device .answer)
-        × (record { plan = p′; sets = t′ } ≡ moving devices p t line device .left)
+        → (MoveAnswer.Changed count ≡ moving (boardAt midday) p t line device .answer)
+        × (record { plan = p′; sets = t′ } ≡ moving (boardAt midday) p t line device .left)
     unfolding moving outcome q i stop
     moved first starter again count p′ t′ again′ s r =
         rw (none-refuses, k .position) (
@@ -127,15 +127,17 @@ module _ (p t : List ℕ) (line device : ℕ) where
             ∙ ap (rewritten q t) (same-way p q alike (stop - 1) ∙ from-last)
 
 -- the move for a caller that keeps more, refused and done
-module _ (p t : List ℕ) (line device : ℕ) (first starter again ofJobs first′ starter′ ofJobs′ : List ℕ)
-    (firsts : first′ ≡ leftBy (fault devices p) (firstLines p) first)
-    (starts : starter′ ≡ leftBy (fault devices p) (starters p) starter)
-    (holds : ofJobs′ ≡ leftBy (fault devices p) (holdings p) ofJobs) where
-  pub through-refused : (again′ : List ℕ) → again′ ≡ leftBy (fault devices p) (againFlags p) again → (r : Refusal)
-      → moveRefusal devices p t line device ≡ some r
-      → MovesThrough p t line device first starter again ofJobs (Through.Refused r) p t first′ starter′ again′ ofJobs′
+module _ (midday : Bool) (p t : List ℕ) (line device : ℕ)
+    (first starter again ofJobs first′ starter′ ofJobs′ : List ℕ)
+    (firsts : first′ ≡ leftBy (fault (boardAt midday) p) (firstLines p) first)
+    (starts : starter′ ≡ leftBy (fault (boardAt midday) p) (starters p) starter)
+    (holds : ofJobs′ ≡ leftBy (fault (boardAt midday) p) (holdings p) ofJobs) where
+  pub through-refused : (again′ : List ℕ) → again′ ≡ leftBy (fault (boardAt midday) p) (againFlags p) again
+      → (r : Refusal) → moveRefusal (boardAt midday) p t line device ≡ some r
+      → MovesThrough (boardAt midday) p t line device first starter again ofJobs (Through.Refused r) p t
+      first′ starter′ again′ ofJobs′
   through-refused again′ agains r e =
-      let x = refused p t line device r e in record {
+      let x = refused midday p t line device r e in record {
         answers = ap (λ (a : MoveAnswer). throughBy a (stopOf (spanOf p (askedAt line)))) (x .0);
         plan = ap (λ (l : Lent). l .plan) (x .1);
         sets = ap (λ (l : Lent). l .sets) (x .1);
@@ -145,30 +147,30 @@ module _ (p t : List ℕ) (line device : ℕ) (first starter again ofJobs first�
         holds = holds;
       }
 
-  module _ (none-refuses : moveRefusal devices p t line device ≡ none) where
-    no-fault : fault devices p ≡ none
-    no-fault = no-fault-exactly devices p .1 (passes p t line device none-refuses .asked .line .wellFormed)
+  module _ (none-refuses : moveRefusal (boardAt midday) p t line device ≡ none) where
+    no-fault : fault (boardAt midday) p ≡ none
+    no-fault = no-fault-exactly (boardAt midday) p .1 (passes midday p t line device none-refuses .sound)
 
-    left : (made lent : List ℕ) → leftBy (fault devices p) made lent ≡ made
+    left : (made lent : List ℕ) → leftBy (fault (boardAt midday) p) made lent ≡ made
     left made lent = ap (λ (o : Option Refusal). leftBy o made lent) no-fault
 
-    pub by-scan : (again′ : List ℕ) → again′ ≡ leftBy (fault devices p) (againFlags p) again
+    pub by-scan : (again′ : List ℕ) → again′ ≡ leftBy (fault (boardAt midday) p) (againFlags p) again
         → Scanned p first′ starter′ again′
     by-scan again′ agains = record {
-      wellFormed = no-fault-exactly devices p .0 no-fault;
+      wellFormed = passes midday p t line device none-refuses .asked .line .wellFormed;
       firsts = firsts ∙ left (firstLines p) first;
       starts = starts ∙ left (starters p) starter;
       agains = agains ∙ left (againFlags p) again;
     }
 
-    pub through-moved : (scanned : List ℕ) → scanned ≡ leftBy (fault devices p) (againFlags p) again
+    pub through-moved : (scanned : List ℕ) → scanned ≡ leftBy (fault (boardAt midday) p) (againFlags p) again
         → (count stop : ℕ) (p′ t′ again′ : List ℕ) → stop ≡ stopOf (spanOf p (askedAt line))
         → RewritesAs p t first′ starter′ (line - 1) device count p′ t′ again′
-        → MovesThrough p t line device first starter again ofJobs (Through.Moved count stop)
+        → MovesThrough (boardAt midday) p t line device first starter again ofJobs (Through.Moved count stop)
         p′ t′ first′ starter′ again′ ofJobs′
     through-moved scanned agains count stop p′ t′ again′ e r =
         let s = by-scan scanned agains in
-        let x = moved p t line device none-refuses first′ starter′ scanned count p′ t′ again′ s r in
+        let x = moved midday p t line device none-refuses first′ starter′ scanned count p′ t′ again′ s r in
         record {
           answers =
               ap (Through.Moved count) e
@@ -182,18 +184,20 @@ module _ (p t : List ℕ) (line device : ℕ) (first starter again ofJobs first�
         }
 
 -- the plain move, by that
-module _ (p t : List ℕ) (line device : ℕ) (first starter again ofJobs : List ℕ) (answer : Through)
+module _ (midday : Bool) (p t : List ℕ) (line device : ℕ) (first starter again ofJobs : List ℕ) (answer : Through)
     (p′ t′ first′ starter′ again′ ofJobs′ : List ℕ)
-    (m : MovesThrough p t line device first starter again ofJobs answer p′ t′ first′ starter′ again′ ofJobs′) where
-  plainly : (a : MoveAnswer) → a ≡ moving devices p t line device .answer → MovesAs p t line device a p′ t′
+    (m : MovesThrough (boardAt midday) p t line device first starter again ofJobs answer p′ t′ first′ starter′ again′
+    ofJobs′) where
+  plainly : (a : MoveAnswer) → a ≡ moving (boardAt midday) p t line device .answer
+      → MovesAs (boardAt midday) p t line device a p′ t′
   plainly a e = meets e (rw (m .plan, m .sets))
 
   pub plainly-refused : (r : Refusal) → answer ≡ Through.Refused r
-      → MovesAs p t line device (MoveAnswer.Refused r) p′ t′
+      → MovesAs (boardAt midday) p t line device (MoveAnswer.Refused r) p′ t′
   plainly-refused r e = plainly (MoveAnswer.Refused r) (told-not _ _ r (sym e ∙ m .answers))
 
   pub plainly-moved : (count stop : ℕ) → answer ≡ Through.Moved count stop
-      → MovesAs p t line device (MoveAnswer.Changed count) p′ t′
+      → MovesAs (boardAt midday) p t line device (MoveAnswer.Changed count) p′ t′
   plainly-moved count stop e = plainly (MoveAnswer.Changed count) (told-moved _ _ count stop (sym e ∙ m .answers) .0)
 
 -- what the rewriting leaves, from what its parts do

@@ -11,22 +11,24 @@ use lib.ListN.{length, getD}
 use borrow.Author.Tests.{lt-ltb, le-ltb, le-leb, lt-leb, ltb-false, leb-false}
 use Rattle.model.specs.Lists.{firstOf, orElse}
 use Rattle.model.specs.Answers.{refuseIf, refuseAt, firstRefusal, tooShort}
-use Rattle.model.specs.Line.{isTake, at, lineNumber}
+use Rattle.model.specs.Line.{Settings, isTake, at, lineNumber}
 use Rattle.model.specs.WellFormed.{WellFormed, fault}
 use Rattle.model.specs.Move.{edited, way, under, mayChange, stale, askedAt, isTakeOf, moveRefusal}
-use Rattle.model.specs.Board.{devices}
+use Rattle.model.specs.Board.{devices, boardAt}
 use Rattle.model.specs.declared.Refusal.{Refusal}
 use Rattle.model.specs.declared.Refusal.the-variants.{ListTooShort, NotATake, NoSuchDevice, StaleTable}
 use Rattle.mates.specs.declared.Span.{Span}
 use Rattle.theory.proofs.Tests.{clash}
 use Rattle.theory.proofs.Lists.{first-append}
 use Rattle.theory.proofs.Answers.{none-refuses, not-refused}
-use Rattle.theory.proofs.WellFormed.{take-line, no-fault-exactly}
+use Rattle.theory.proofs.Line.{take-line}
+use Rattle.theory.proofs.WellFormed.{no-fault-exactly}
 use Rattle.theory.proofs.Edited.{edited-well-formed}
 use Rattle.theory.proofs.Move.{asked-take, stale-exactly, nearest-may-change}
 use Rattle.theory.proofs.Way.{may-change-line}
 use Rattle.moving.specs.Tested.{Take, testedBy, lastTests, askedTests}
 use Rattle.moving.specs.declared.TestAnswer.{TestAnswer}
+use Rattle.moving.proofs.SameScan.{at-midday}
 
 -- ---- 14
 
@@ -67,8 +69,8 @@ unfolding isTakeOf askedAt
 asked-position p zero h = clash false h refl
 asked-position p (suc i) h = (omega arith, omega arith)
 
-pub take-asked : (p : List ℕ) (line device : ℕ) → WellFormed devices p → isTakeOf p line ≡ true → device < devices
-    → Take p (line - 1) device
+pub take-asked : (p : List ℕ) (line device : ℕ) → WellFormed (boardAt true) p → isTakeOf p line ≡ true
+    → device < devices → Take p (line - 1) device
 take-asked p line device w k b =
     let taken = rw (asked-position p line k .1) at (asked-take p line k) in
     record { line = record { wellFormed = w; inPlan = take-line p (line - 1) taken }; takes = taken; onBoard = b }
@@ -105,14 +107,14 @@ module _ (D : ℕ) (p t : List ℕ) (line device : ℕ) (span : Span) where
 
 -- ---- all tests of a move
 
-module _ (D : ℕ) (p t : List ℕ) (line device : ℕ) where
-  pub by-fault : (r : Refusal) → fault D p ≡ some r → moveRefusal D p t line device ≡ some r
+module _ (S : Settings) (p t : List ℕ) (line device : ℕ) where
+  pub by-fault : (r : Refusal) → fault S p ≡ some r → moveRefusal S p t line device ≡ some r
   unfolding moveRefusal firstRefusal
   by-fault r e = rw e
 
-  pub by-asked : (span : Span) → fault D p ≡ none → (answer : TestAnswer)
-      → answer ≡ testedBy (firstRefusal (askedTests D p t line device)) span
-      → answer ≡ testedBy (moveRefusal D p t line device) span
+  pub by-asked : (span : Span) → fault S p ≡ none → (answer : TestAnswer)
+      → answer ≡ testedBy (firstRefusal (askedTests (S .devices) p t line device)) span
+      → answer ≡ testedBy (moveRefusal S p t line device) span
   unfolding moveRefusal firstRefusal
   by-asked span e answer a = rw e a
 
@@ -122,31 +124,37 @@ passed true r e = absurd (Option·none-ne-some r (sym e))
 passed false r e = refl
 
 -- where none refuses: the line's position, what was asked, room for the table, and an edited plan without a fault
-pub record Passes (p t : List ℕ) (line device : ℕ) : Type 0 where
+pub record Passes (midday : Bool) (p t : List ℕ) (line device : ℕ) : Type 0 where
   pub positive : 1 ≤ line
   pub position : askedAt line ≡ line - 1
   pub asked : Take p (line - 1) device
   pub room : length p ≤ length t
-  pub fine : WellFormed devices (edited p (line - 1) device)
+  pub sound : WellFormed (boardAt midday) p
+  pub fine : WellFormed (boardAt midday) (edited p (line - 1) device)
 
-pub passes : (p t : List ℕ) (line device : ℕ) → moveRefusal devices p t line device ≡ none → Passes p t line device
+pub passes : (midday : Bool) (p t : List ℕ) (line device : ℕ) → moveRefusal (boardAt midday) p t line device ≡ none
+    → Passes midday p t line device
 unfolding moveRefusal tooShort
-passes p t line device e = record {
+passes midday p t line device e = record {
   positive = z .0;
   position = z .1;
   asked = k;
   room = ltb-false (length t) (length p) (passed (ltb (length t) (length p)) (ListTooShort (length p)) (test 1));
-  fine = edited-well-formed devices p (line - 1) device (k .line .wellFormed) (k .takes) (k .onBoard) (omega arith);
+  sound = w;
+  fine = edited-well-formed (boardAt midday) p (line - 1) device w (k .takes) (k .onBoard) (omega arith);
 }
   where
-    test : (k : ℕ) → getD (fault devices p ∷ askedTests devices p t line device) k none ≡ none
-    test = none-refuses (fault devices p ∷ askedTests devices p t line device) e
+    test : (k : ℕ) → getD (fault (boardAt midday) p ∷ askedTests devices p t line device) k none ≡ none
+    test = none-refuses (fault (boardAt midday) p ∷ askedTests devices p t line device) e
+
+    w : WellFormed (boardAt midday) p
+    w = no-fault-exactly (boardAt midday) p .0 (test 0)
 
     z : (1 ≤ line) × (askedAt line ≡ line - 1)
     z = asked-position p line (not-refused (isTakeOf p line) (NotATake line) (test 2))
 
     k : Take p (line - 1) device
     k =
-        take-asked p line device (no-fault-exactly devices p .0 (test 0))
+        take-asked p line device (at-midday midday p w)
         (not-refused (isTakeOf p line) (NotATake line) (test 2))
         (leb-false devices device (passed (leb devices device) (NoSuchDevice device) (test 3)))

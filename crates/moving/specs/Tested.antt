@@ -9,10 +9,10 @@ use lib.Dec.{leb}
 use lib.ListN.{length}
 use Rattle.model.specs.Lists.{firstOf}
 use Rattle.model.specs.Answers.{refuseIf, refuseAt, tooShort}
-use Rattle.model.specs.Line.{isTake, at, lineNumber}
+use Rattle.model.specs.Line.{Settings, isTake, at, lineNumber}
 use Rattle.model.specs.WellFormed.{WellFormed, fault}
 use Rattle.model.specs.Move.{edited, mayChange, stale, changed, askedAt, isTakeOf, moveRefusal}
-use Rattle.model.specs.Board.{devices}
+use Rattle.model.specs.Board.{devices, boardAt}
 use Rattle.model.specs.declared.Refusal.{Refusal}
 use Rattle.model.specs.declared.Refusal.the-variants.{NotATake, NoSuchDevice, StaleTable}
 use Rattle.mates.specs.Span.{spanOf, stopOf}
@@ -25,9 +25,9 @@ use Rattle.way.specs.Back.{wayBy}
 use Rattle.way.specs.Join.{mendedBy}
 use Rattle.moving.specs.declared.TestAnswer.{TestAnswer}
 
--- a line of a well-formed plan
+-- a line of a well-formed plan, of the morning or of midday (see `Known` in room `way`)
 pub record At (p : List ℕ) (i : ℕ) : Type 0 where
-  pub wellFormed : WellFormed devices p
+  pub wellFormed : WellFormed (boardAt true) p
   pub inPlan : i < length p
 
 -- a take of one, and a device of the board
@@ -54,13 +54,13 @@ askedTests D p t line device =
     ∷ lastTests p t (askedAt line)
 
 -- what all tests answer, and leave in the arrays
-pub record TestsAs (p t : List ℕ) (line device : ℕ) (first starter again ofJobs : List ℕ) (answer : TestAnswer)
-    (first′ starter′ again′ ofJobs′ : List ℕ) : Type 0 where
-  pub answers : answer ≡ testedBy (moveRefusal devices p t line device) (spanOf p (askedAt line))
-  pub firsts : first′ ≡ leftBy (fault devices p) (firstLines p) first
-  pub starts : starter′ ≡ leftBy (fault devices p) (starters p) starter
-  pub agains : again′ ≡ leftBy (fault devices p) (againFlags p) again
-  pub holds : ofJobs′ ≡ leftBy (fault devices p) (holdings p) ofJobs
+pub record TestsAs (S : Settings) (p t : List ℕ) (line device : ℕ) (first starter again ofJobs : List ℕ)
+    (answer : TestAnswer) (first′ starter′ again′ ofJobs′ : List ℕ) : Type 0 where
+  pub answers : answer ≡ testedBy (moveRefusal S p t line device) (spanOf p (askedAt line))
+  pub firsts : first′ ≡ leftBy (fault S p) (firstLines p) first
+  pub starts : starter′ ≡ leftBy (fault S p) (starters p) starter
+  pub agains : again′ ≡ leftBy (fault S p) (againFlags p) again
+  pub holds : ofJobs′ ≡ leftBy (fault S p) (holdings p) ofJobs
 
 -- what the rewriting answers and leaves: the plan as p′, the table as t′, the flags as again′
 pub record RewritesAs (p t first starter : List ℕ) (i device count : ℕ) (p′ t′ again′ : List ℕ) : Type 0 where

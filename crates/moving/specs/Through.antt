@@ -4,7 +4,7 @@
 use Prim.Native.Nat.{ℕ}
 use mathlib.Core.List.{List}
 use mathlib.Core.Path.{_≡_}
-use Rattle.model.specs.Board.{devices}
+use Rattle.model.specs.Line.{Settings}
 use Rattle.model.specs.WellFormed.{fault}
 use Rattle.model.specs.Move.{askedAt}
 use Rattle.model.specs.Entries.{moving}
@@ -21,12 +21,12 @@ throughBy (MoveAnswer.Changed n) stop = Through.Moved n stop
 throughBy (MoveAnswer.Refused r) stop = Through.Refused r
 
 -- a plan with a fault leaves the arrays as they were
-pub record MovesThrough (p t : List ℕ) (line device : ℕ) (first starter again ofJobs : List ℕ) (answer : Through)
-    (p′ t′ first′ starter′ again′ ofJobs′ : List ℕ) : Type 0 where
-  pub answers : answer ≡ throughBy (moving devices p t line device .answer) (stopOf (spanOf p (askedAt line)))
-  pub plan : p′ ≡ moving devices p t line device .left .plan
-  pub sets : t′ ≡ moving devices p t line device .left .sets
-  pub firsts : first′ ≡ leftBy (fault devices p) (firstLines p) first
-  pub starts : starter′ ≡ leftBy (fault devices p) (starters p) starter
-  pub agains : again′ ≡ leftBy (fault devices p) (againFlags p′) again
-  pub holds : ofJobs′ ≡ leftBy (fault devices p) (holdings p) ofJobs
+pub record MovesThrough (S : Settings) (p t : List ℕ) (line device : ℕ) (first starter again ofJobs : List ℕ)
+    (answer : Through) (p′ t′ first′ starter′ again′ ofJobs′ : List ℕ) : Type 0 where
+  pub answers : answer ≡ throughBy (moving S p t line device .answer) (stopOf (spanOf p (askedAt line)))
+  pub plan : p′ ≡ moving S p t line device .left .plan
+  pub sets : t′ ≡ moving S p t line device .left .sets
+  pub firsts : first′ ≡ leftBy (fault S p) (firstLines p) first
+  pub starts : starter′ ≡ leftBy (fault S p) (starters p) starter
+  pub agains : again′ ≡ leftBy (fault S p) (againFlags p′) again
+  pub holds : ofJobs′ ≡ leftBy (fault S p) (holdings p) ofJobs

@@ -16,10 +16,11 @@ ghost use Prim.Native.Nat.{_%_, _^_, _-_, _≤_, _<_};
 ghost use lib.Dec.{eqb};
 ghost use Rattle.model.specs.Lists.{has};
 ghost use Rattle.model.specs.Answers.{firstRefusal};
-ghost use Rattle.model.specs.Line.{operand, isTake, isGive};
+ghost use Rattle.model.specs.Line.{operand, opens, isTake, isGive};
 ghost use Rattle.model.specs.WellFormed.{heldThere};
 ghost use Rattle.model.specs.Move.{withDevice, edited, askedAt, isTakeOf};
-ghost use Rattle.model.specs.Board.{devices};
+ghost use Rattle.model.specs.Board.{devices, board};
+ghost use Rattle.line.specs.Device.{deviceBits};
 ghost use Rattle.theory.specs.Remarked.{names, againAfter, openAfter};
 ghost use Rattle.mates.specs.Span.{spanOf, stopOf};
 ghost use Rattle.plan.specs.Again.{againFlags};
@@ -31,11 +32,11 @@ ghost use Rattle.moving.specs.Through.{MovesThrough};
 
 // ---- the lines that take again, once the take has another device
 
-// Does a line take the device?
+// Does a line take the device, or hold it from the beginning (02, request 5)?
 fn takes(l: u32, device: u32) -> bool
-    ensures { λ r. ⌜ r ≡ (isTake l && eqb (operand l) device) ⌝ }
+    ensures { λ r. ⌜ r ≡ (opens l && eqb (deviceBits l) device) ⌝ }
 {
-    line::is_take(l) & (line::operand(l) == device)
+    line::opens(l) & (line::device(l) == device)
 }
 
 // Does it give it back?
@@ -45,8 +46,8 @@ fn gives(l: u32, device: u32) -> bool
     line::is_give(l) & (line::operand(l) == device)
 }
 
-// Does the job of the line at i hold the device there? Going back in the job, the nearest line that takes or gives the
-// device decides, of those that count.
+// Does the job of the line at i hold the device there? Going back in the job, the nearest line that takes, holds or
+// gives the device decides, of those that count.
 fn job_holds(plan: &[u32], again: &[u8; MOST_LINES], i: usize, device: u32) -> bool
     requires { ⌜ At (now plan) i × (now again ≡ againFlags (now plan)) ⌝ }
     ensures { λ r. ⌜ r ≡ has device (heldThere (now (plan .entry)) i) ⌝ }
@@ -238,7 +239,7 @@ fn tested(
     again: &mut [u8; MOST_LINES],
     holdings: &mut [Set; EACH_JOB],
 ) -> TestAnswer
-    ensures { λ r. ⌜ TestsAs (now (plan .entry)) (now (sets .entry)) line device (now (first .entry))
+    ensures { λ r. ⌜ TestsAs board (now (plan .entry)) (now (sets .entry)) line device (now (first .entry))
         (now (starter .entry)) (now (again .entry)) (now (holdings .entry)) r (now (first .exit)) (now (starter .exit))
         (now (again .exit)) (now (holdings .exit)) ⌝ }
 {
@@ -312,7 +313,7 @@ pub fn move_through(
     again: &mut [u8; MOST_LINES],
     holdings: &mut [Set; EACH_JOB],
 ) -> Through
-    ensures { λ r. ⌜ MovesThrough (now (plan .entry)) (now (sets .entry)) line device (now (first .entry))
+    ensures { λ r. ⌜ MovesThrough board (now (plan .entry)) (now (sets .entry)) line device (now (first .entry))
         (now (starter .entry)) (now (again .entry)) (now (holdings .entry)) r (now (plan .exit)) (now (sets .exit))
         (now (first .exit)) (now (starter .exit)) (now (again .exit)) (now (holdings .exit)) ⌝ }
 {
@@ -329,7 +330,7 @@ pub fn move_through(
 // Moves the claim of a line, by its number from 1, to a device: the take and its give get the device, and the sets on
 // the way and under the take are joined anew. A refusal (2 to 7, 11 to 14) leaves plan and table as they were.
 pub fn move_claim(plan: &mut [u32], sets: &mut [Set], line: u32, device: u32) -> MoveAnswer
-    ensures { λ r. ⌜ MovesAs (now (plan .entry)) (now (sets .entry)) line device r (now (plan .exit))
+    ensures { λ r. ⌜ MovesAs board (now (plan .entry)) (now (sets .entry)) line device r (now (plan .exit))
         (now (sets .exit)) ⌝ }
 {
     let mut first = [0u32; EACH_JOB];

@@ -5,12 +5,12 @@ use board::MOST_BYTES;
 use board::MOST_LINES;
 use shell::Input;
 ghost use mathlib.Core.Path.{_≡_};
-ghost use Rattle.model.specs.Board.{devices};
+ghost use Rattle.model.specs.Board.{board};
 ghost use Rattle.model.specs.Printed.{printed};
 
 // Writes what is printed for a text, which these bytes are, to standard output.
 fn write_printed(text: &[u8], bytes: &[u8]) -> bool
-    requires { ⌜ now bytes ≡ printed devices (now text) ⌝ }
+    requires { ⌜ now bytes ≡ printed board (now text) ⌝ }
 {
     shell::write_output(bytes)
 }

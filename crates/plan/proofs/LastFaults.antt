@@ -2,7 +2,7 @@
 use mathlib.Core.Path.{_≡_, refl, ap, sym, _∙_}
 use mathlib.Core.Bool.{Bool, true, false, not, _&&_}
 use mathlib.Core.List.{List, [], _∷_, headD, map}
-use mathlib.Core.Logic.{_⊎_, inl, inr}
+use mathlib.Core.Logic.{_⊎_}
 use mathlib.Core.Option.{Option, none, some}
 use Prim.Native.Nat.{ℕ, zero, suc, _+_, _≤_, _<_}
 use native.Mathlib.Omega.{arith}
@@ -11,13 +11,13 @@ use lib.ListN.{length, getD}
 use borrow.Author.Tests.{eqb-true, eqb-false, eq-eqb, ne-eqb, not-true, not-false}
 use Rattle.model.specs.Answers.{refuseAt, firstRefusal}
 use Rattle.model.specs.Lists.{upFrom, positions, any, firstOf}
-use Rattle.model.specs.Line.{job, kind, operand, isStart, starts, isLine, at, lineNumber, hasLines, firstLine, maxJob}
+use Rattle.model.specs.Line.{Settings, job, kind, operand, isStart, starts, isLine, at, lineNumber, hasLines, firstLine}
+use Rattle.model.specs.Line.{maxJob}
 use Rattle.model.specs.WellFormed.{emptyStart, neverStarted, firstFault, fault}
 use Rattle.model.specs.declared.Refusal.{Refusal}
 use Rattle.model.specs.declared.Refusal.the-variants.{BadStart, NeverStarted}
 use Rattle.theory.proofs.Tests.{clash, falsely, and-split, and-both}
-use Rattle.theory.specs.Line.{Fits, ofDo, ofDevice, ofStart}
-use Rattle.theory.proofs.Line.{line-parts, start-parts, start-of}
+use Rattle.theory.proofs.Line.{start-range, start-parts, start-of}
 use Rattle.theory.proofs.Lists.{Answer, first-answer, has-upFrom, first-is-lowest}
 use Rattle.theory.specs.WellFormed.{startsEmpty, unstarted}
 use Rattle.theory.proofs.WellFormed.{any-line, line-any}
@@ -28,17 +28,11 @@ use Rattle.plan.specs.declared.Checked.{Checked}
 use Rattle.plan.proofs.Tables as Tab
 
 -- the job that a start names
-start-range : (D n : ℕ) → isLine D n ≡ true → isStart n ≡ true → (2 ≤ operand n) × (operand n ≤ maxJob)
+named-job : (S : Settings) (n : ℕ) → isLine S n ≡ true → isStart n ≡ true → (2 ≤ operand n) × (operand n ≤ maxJob)
 unfolding isStart
-start-range D n h s = go (line-parts D n h .2)
-  where
-    go : Fits D (kind n) (operand n) → (2 ≤ operand n) × (operand n ≤ maxJob)
-    go (ofStart k a b) = (a, b)
-    go (ofDo k b) = absurd (omega (arith, eqb-true (kind n) 3 s))
-    go (ofDevice (inl k) b) = absurd (omega (arith, eqb-true (kind n) 3 s))
-    go (ofDevice (inr k) b) = absurd (omega (arith, eqb-true (kind n) 3 s))
+named-job S n h s = start-range S n h (eqb-true (kind n) 3 s)
 
-module _ (D : ℕ) (p first starter : List ℕ) (t : Tables D p (length p) first starter) where
+module _ (S : Settings) (p first starter : List ℕ) (t : Tables S p (length p) first starter) where
   has-lines : (j : ℕ) → j ≤ maxJob → hasLines p j ≡ not (eqb (getD first j 0) 0)
   unfolding hasLines
   has-lines j h = Tab.any-in (λ l. eqb (job l) j) p (getD first j 0) (t .firsts j h)
@@ -55,7 +49,7 @@ module _ (D : ℕ) (p first starter : List ℕ) (t : Tables D p (length p) first
   empty-job i h e =
       let o = operand (at p i) in
       let s = and-split (isStart (at p i)) (not (hasLines p o)) e in
-      let r = start-range D (at p i) (t .lines i h) (s .0) in
+      let r = named-job S (at p i) (t .lines i h) (s .0) in
       let m = Tab.at-most (λ l. starts l o) p (length p) (getD starter o 0) i (t .starters o (r .1)) h
       (start-of (at p i) (s .0)) in (
         record {
@@ -151,8 +145,9 @@ module _ (D : ℕ) (p first starter : List ℕ) (t : Tables D p (length p) first
       (λ j a b. falsely (unstarted p j) (λ z. f j (same-job j (omega arith) z a))))
 
   -- The theorem: where no line has a fault, the tests after the last line find the plan's.
-  pub ends-find : (r : Checked) → EndsAs first starter r → firstFault D [] p ≡ none → r ≡ checked (fault D p)
+  pub ends-find : S .midday ≡ false → (r : Checked) → EndsAs first starter r → firstFault S [] p ≡ none
+      → r ≡ checked (fault S p)
   unfolding fault firstRefusal
-  ends-find r (empty k e least) f = rw (f, found-5 k e least)
-  ends-find r (never g k u lowest) f = rw (f, none-5 g, found-6 k u lowest)
-  ends-find r (neither g h) f = rw (f, none-5 g, none-6 h)
+  ends-find m r (empty k e least) f = rw (f, found-5 k e least)
+  ends-find m r (never g k u lowest) f = rw (f, none-5 g, m, found-6 k u lowest)
+  ends-find m r (neither g h) f = rw (f, none-5 g, m, none-6 h)

@@ -1,23 +1,24 @@
 -- The walk that notes, from line to line: beside the state of the walk there are its notes of the devices held, the
 -- flags of the lines so far (02, request 2), and what each job holds after them.
 use mathlib.Core.Path.{_≡_, refl, ap, sym, _∙_}
-use mathlib.Core.Bool.{Bool, true, false, cond, not}
-use mathlib.Core.List.{List, []}
+use mathlib.Core.Bool.{Bool, true, false, cond, not, _&&_, _||_}
+use mathlib.Core.List.{List, [], tail}
 use Prim.Native.Nat.{ℕ, suc, _+_, _^_, _<_}
 use native.Mathlib.Numerals.{add-one}
 use native.Mathlib.Omega.{arith}
 use lib.Dec.{eqb}
 use lib.ListN.{length, getD, set}
 use mir.Val.{boolByte}
-use Rattle.model.specs.Board.{devices}
+use Rattle.model.specs.Board.{devices, board}
 use Rattle.model.specs.Lists.{has}
-use Rattle.model.specs.Line.{job, at, maxLines}
+use Rattle.model.specs.Line.{job, opens, isTake, isGive, deviceOf, isLine, at, maxLines}
 use Rattle.model.specs.Sets.{empty}
 use Rattle.model.specs.WellFormed.{heldThere}
 use Rattle.model.specs.Mate.{deviceAt, holdsAlready}
 use Rattle.sets.specs.Both.{differ}
 use Rattle.sets.proofs.Members.{differ-below}
-use Rattle.theory.proofs.Line.{line-parts}
+use Rattle.line.specs.Device.{deviceBits}
+use Rattle.theory.proofs.Line.{line-parts, take-is, morning-line, device-rest}
 use Rattle.theory.proofs.Sets.{empty-below}
 use Rattle.theory.specs.Outer.{againAt, holdsBeneath}
 use Rattle.plan.specs.Walk.{stepOf, heldIn, nextBy}
@@ -57,14 +58,39 @@ notes-end p i depth held stack added again left e w = record {
   held = all-held p left (rw e at (w .kept));
 }
 
-again-is : (p : List ℕ) (i : ℕ) → againIn (at p i) (heldThere p i) ≡ againAt p i
+and-yes : (b : Bool) → (b && true) ≡ b
+and-yes true = refl
+and-yes false = refl
+
+-- two tests with the same answer, of devices that are one where it counts
+both-alike : (a a′ b : Bool) (d e : ℕ) (ds : List ℕ) → a ≡ a′ → ((a || b) ≡ true → d ≡ e)
+    → ((a && has d ds) || (b && has d (tail ds))) ≡ ((a′ && has e ds) || (b && has e (tail ds)))
+both-alike a a′ b d e ds q f = rw (← q) (go a b f)
+  where
+    go : (a b : Bool) → ((a || b) ≡ true → d ≡ e)
+        → ((a && has d ds) || (b && has d (tail ds))) ≡ ((a && has e ds) || (b && has e (tail ds)))
+    go true b f = rw (f refl)
+    go false true f = rw (f refl)
+    go false false f = refl
+
+again-is : (p : List ℕ) (i : ℕ) → isLine board (at p i) ≡ true → againIn (at p i) (heldThere p i) ≡ againAt p i
 unfolding againIn againAt holdsAlready holdsBeneath deviceAt
-again-is p i = refl
+again-is p i line = both-alike (opens l) (isTake l) (isGive l) (deviceBits l) (deviceOf l) (heldThere p i) same-kind
+    same-device
+  where
+    l : ℕ
+    l = at p i
+
+    same-kind : opens l ≡ isTake l
+    same-kind = sym (take-is l ∙ rw (morning-line devices l line) (and-yes (opens l)))
+
+    same-device : (opens l || isGive l) ≡ true → deviceBits l ≡ deviceOf l
+    same-device h = device-rest board (omega arith) l line h
 
 module _ (p : List ℕ) (i prev depth held : ℕ) (stack first starter added again left : List ℕ)
     (s : At p i prev depth stack first starter) (w : Notes p i depth held stack added again left)
     (x : After) (stack′ first′ starter′ : List ℕ)
-    (led : nextBy x stack′ first′ starter′ ≡ stepOf devices (at p i) i prev (heldIn depth stack) first starter)
+    (led : nextBy x stack′ first′ starter′ ≡ stepOf board (at p i) i prev (heldIn depth stack) first starter)
     (d : ℕ) (e : x ≡ After.On d) (then : At p (i + 1) (job (at p i)) d stack′ first′ starter′) where
   abbrev n : ℕ
   n = at p i
@@ -78,8 +104,8 @@ module _ (p : List ℕ) (i prev depth held : ℕ) (stack first starter added aga
   abbrev c : ℕ
   c = changeAfter n prev depth held added
 
-  goes : Went devices n i prev (heldIn depth stack) (heldIn d stack′)
-  goes = went devices n i prev (heldIn depth stack) first starter (heldIn d stack′) first′ starter′ (rw e at led)
+  goes : Went board n i prev (heldIn depth stack) (heldIn d stack′)
+  goes = went board n i prev (heldIn depth stack) first starter (heldIn d stack′) first′ starter′ (rw e at led)
 
   long : (b : Bool) → length (cond b (heldIn depth stack) []) ≡ cond b depth 0
   long true = length-held depth stack
@@ -104,18 +130,19 @@ module _ (p : List ℕ) (i prev depth held : ℕ) (stack first starter added aga
   pub notes-next : Notes p (i + 1) d held′ stack′ (set added (suc (cond same depth 0)) c)
       (set again i (boolByte (not (eqb (handledBy n) c)))) (set left (job n) held′)
   notes-next =
-      let q = in-place devices n i prev (goes .placed) in
+      let q = in-place board n i prev (goes .placed) in
       let k = long same in
       let y = rw k at (says n there (cond same held empty) added (q .1)
       (noted-or-none (heldIn depth stack) held added (w .noted) same) (rw k (no-deeper same (q .0))) (goes .last)) in
-      let is = y .0 ∙ ap (againIn n) (sym (there-is devices p i prev (heldIn depth stack) first starter (s .stands)
-      (goes .placed))) ∙ again-is p i in
+      let is = y .0 ∙ ap (againIn n) (sym (there-is board (omega arith) (morning-line devices) p i prev
+      (heldIn depth stack) first starter (s .stands)
+      (goes .placed))) ∙ again-is p i (q .1) in
       let z : Noted (heldIn d stack′) held′ (set added (suc (cond same depth 0)) c) = rw (goes .next) (y .1) in
       rw add-one (record {
         noted = z;
         below = small;
         flagged = one-flagged p i again (not (eqb (handledBy n) c)) (q .0) is (w .flagged);
-        kept = one-held p i left held′ (line-parts devices n (q .1) .1)
+        kept = one-held p i left held′ (line-parts board n (q .1) .1)
             (record {
               below = small;
               same = λ k h. z .same k h ∙ ap (has k) (sym (rw add-one at (then .stands .held-is)));

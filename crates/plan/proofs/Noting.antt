@@ -11,19 +11,20 @@ use lib.Dec.{eqb, ltb}
 use lib.ListN.{length, getD, set, length-set}
 use lib.Seq.{getD-set-same, getD-set-other}
 use borrow.Author.Tests.{eqb-true, eqb-false, eq-eqb, ne-eqb}
-use Rattle.model.specs.Board.{devices}
+use Rattle.model.specs.Board.{devices, board}
 use Rattle.model.specs.Lists.{has}
-use Rattle.model.specs.Line.{job, operand, isTake, isGive, isStart, isLine, lineNumber, maxLines}
+use Rattle.model.specs.Line.{Settings, job, operand, opens, isGive, isStart, isLine, lineNumber, maxLines}
 use Rattle.model.specs.Sets.{empty, union, member}
 use Rattle.model.specs.WellFormed.{isLast}
 use Rattle.model.specs.declared.Refusal.{Refusal}
 use Rattle.model.specs.declared.Refusal.the-variants.{BadStart, GiveWithoutTake}
+use Rattle.line.specs.Device.{deviceBits}
 use Rattle.sets.specs.Both.{both, differ, without}
 use Rattle.sets.specs.Only.{onlyOf}
 use Rattle.sets.proofs.Members.{member-only-of, only-of-below, member-both, both-below, member-differ, member-without}
 use Rattle.sets.proofs.Members.{without-below}
 use Rattle.line.proofs.Ranges.{or-none}
-use Rattle.theory.proofs.Line.{device-line, take-no-give}
+use Rattle.theory.proofs.Line.{device-line, device-rest, opens-no-give}
 use Rattle.theory.proofs.Sets.{member-empty, member-union, empty-below, union-below, same-members}
 use Rattle.theory.proofs.Tests.{clash, test, or-left, or-right}
 use Rattle.plan.specs.Walk.{placeFault, Next, on, bad, ruleOf, unless, stepOf, givenBy}
@@ -55,10 +56,10 @@ change-below t held g latest h k =
 pub change-of-below : (n held latest : ℕ) → changeOf n held latest < 2 ^ devices
 unfolding changeOf
 change-of-below n held latest =
-    change-below (takenBy n) held (givenBy n) latest (go (isTake n)) (go (isGive n))
+    change-below (takenBy n) held (givenBy n) latest (go (opens n)) (go (isGive n))
   where
-    go : (b : Bool) → cond b (onlyOf devices (operand n)) empty < 2 ^ devices
-    go true = only-of-below devices (operand n)
+    go : (b : Bool) → cond b (onlyOf devices (deviceBits n)) empty < 2 ^ devices
+    go true = only-of-below devices (deviceBits n)
     go false = empty-below devices
 
 added-below : (b : Bool) (o : ℕ) → addedBy b o < 2 ^ devices
@@ -175,11 +176,11 @@ module _ (held o d : ℕ) (ds : List ℕ) (h : d < devices) where
 
 -- the devices held after a line
 unfoldable pub heldNext : ℕ → List ℕ → List ℕ
-heldNext n ds = cond (isTake n) (operand n ∷ ds) (cond (isGive n) (tail ds) ds)
+heldNext n ds = cond (opens n) (deviceBits n ∷ ds) (cond (isGive n) (tail ds) ds)
 
 -- it takes again, or gives such a take back
 unfoldable pub againIn : ℕ → List ℕ → Bool
-againIn n ds = (isTake n && has (operand n) ds) || (isGive n && has (operand n) (tail ds))
+againIn n ds = (opens n && has (deviceBits n) ds) || (isGive n && has (deviceBits n) (tail ds))
 
 pub none-noted : (added : List ℕ) → length added ≡ suc maxLines → Noted [] empty added
 unfolding has
@@ -191,9 +192,9 @@ pub noted-or-none : (ds : List ℕ) (held : ℕ) (added : List ℕ) → Noted ds
 noted-or-none ds held added w true = w
 noted-or-none ds held added w false = none-noted added (w .long)
 
-module _ (n : ℕ) (ds : List ℕ) (held : ℕ) (added : List ℕ) (line : isLine devices n ≡ true) (w : Noted ds held added)
+module _ (n : ℕ) (ds : List ℕ) (held : ℕ) (added : List ℕ) (line : isLine board n ≡ true) (w : Noted ds held added)
     (room : length ds < maxLines)
-    (last : isGive n ≡ true → isTake n ≡ false → isLast (operand n) ds ≡ true) where
+    (last : isGive n ≡ true → opens n ≡ false → isLast (deviceBits n) ds ≡ true) where
   abbrev c : ℕ
   c = changeOf n held (getD added (length ds) 0)
 
@@ -202,30 +203,34 @@ module _ (n : ℕ) (ds : List ℕ) (held : ℕ) (added : List ℕ) (line : isLin
   Says = (not (eqb (handledBy n) c) ≡ againIn n ds)
       × Noted (heldNext n ds) (differ held c) (set added (suc (length ds)) c)
 
+  -- the device is on the board
+  small : (opens n || isGive n) ≡ true → deviceBits n < devices
+  small h = omega (arith, device-rest board (omega arith) n line h, device-line board n line h)
+
   kept-long : length (set added (suc (length ds)) c) ≡ suc maxLines
   kept-long = length-set added (suc (length ds)) c ∙ w .long
 
-  takes : isTake n ≡ true → Says
+  takes : opens n ≡ true → Says
   unfolding changeOf heldNext againIn has
   takes t =
-      let b = device-line devices n line (or-left (isTake n) (isGive n) t) in
-      let g = take-no-give n t in
-      let m = w .same (operand n) b in
-      let e : c ≡ addedBy (has (operand n) ds) (operand n) =
-      rw (t, g) (of-take (operand n) held (getD added (length ds) 0) (has (operand n) ds) m) in (
-        rw (e, t, g, or-nothing (onlyOf devices (operand n)) (only-of-below devices (operand n)) .0)
-            (told (has (operand n) ds) (operand n) b ∙ sym (or-none (has (operand n) ds))),
+      let b = small (or-left (opens n) (isGive n) t) in
+      let g = opens-no-give n t in
+      let m = w .same (deviceBits n) b in
+      let e : c ≡ addedBy (has (deviceBits n) ds) (deviceBits n) =
+      rw (t, g) (of-take (deviceBits n) held (getD added (length ds) 0) (has (deviceBits n) ds) m) in (
+        rw (e, t, g, or-nothing (onlyOf devices (deviceBits n)) (only-of-below devices (deviceBits n)) .0)
+            (told (has (deviceBits n) ds) (deviceBits n) b ∙ sym (or-none (has (deviceBits n) ds))),
         rw (e, t) (record {
           long = rw e at kept-long;
-          same = λ d h. taken held (operand n) d ds h (w .same d h);
-          adds = more (operand n) ds
-              (getD-set-same added (suc (length ds)) (addedBy (has (operand n) ds) (operand n)) 0
+          same = λ d h. taken held (deviceBits n) d ds h (w .same d h);
+          adds = more (deviceBits n) ds
+              (getD-set-same added (suc (length ds)) (addedBy (has (deviceBits n) ds) (deviceBits n)) 0
               (omega (arith, w .long)))
-              (above added (addedBy (has (operand n) ds) (operand n)) (length ds) ds (omega arith) (w .adds));
+              (above added (addedBy (has (deviceBits n) ds) (deviceBits n)) (length ds) ds (omega arith) (w .adds));
         }),
       )
 
-  others : isTake n ≡ false → isGive n ≡ false → Says
+  others : opens n ≡ false → isGive n ≡ false → Says
   unfolding changeOf heldNext againIn
   others t g =
       let e : c ≡ empty = rw (t, g) (of-other held (getD added (length ds) 0)) in (
@@ -237,33 +242,35 @@ module _ (n : ℕ) (ds : List ℕ) (held : ℕ) (added : List ℕ) (line : isLin
         }),
       )
 
-  gives : isTake n ≡ false → isGive n ≡ true → Says
+  gives : opens n ≡ false → isGive n ≡ true → Says
   unfolding changeOf heldNext againIn isLast
   gives t g = go ds (w .adds) (w .same) room (last g t) refl
     where
       go : (xs : List ℕ) → Added added xs → ((d : ℕ) → d < devices → member held d ≡ has d xs) → length xs < maxLines
-          → isLast (operand n) xs ≡ true → ds ≡ xs → Says
+          → isLast (deviceBits n) xs ≡ true → ds ≡ xs → Says
       go [] a same few e q = clash false e refl
       go (x ∷ xs) (more y ys z a) same few e q =
-          let u : x ≡ operand n = sym (eqb-true (operand n) x e) in
-          let b = device-line devices n line (or-right (isTake n) (isGive n) g) in
-          let f : c ≡ addedBy (has (operand n) xs) (operand n) =
-          rw (t, g, q) (of-give (operand n) held (getD added (suc (length xs)) 0) (has (operand n) xs) (z ∙ rw u)) in (
-            rw (f, t, g, q, or-nothing (onlyOf devices (operand n)) (only-of-below devices (operand n)) .1)
-                (told (has (operand n) xs) (operand n) b),
+          let u : x ≡ deviceBits n = sym (eqb-true (deviceBits n) x e) in
+          let b = small (or-right (opens n) (isGive n) g) in
+          let f : c ≡ addedBy (has (deviceBits n) xs) (deviceBits n) =
+          rw (t, g, q) (of-give (deviceBits n) held (getD added (suc (length xs)) 0) (has (deviceBits n) xs)
+          (z ∙ rw u)) in (
+            rw (f, t, g, q, or-nothing (onlyOf devices (deviceBits n)) (only-of-below devices (deviceBits n)) .1)
+                (told (has (deviceBits n) xs) (deviceBits n) b),
             rw (f, t, g, q) (record {
-              long = length-set added (suc (length (x ∷ xs))) (addedBy (has (operand n) xs) (operand n)) ∙ w .long;
-              same = λ d h. given held (operand n) d xs h (rw u at (same d h));
-              adds = above added (addedBy (has (operand n) xs) (operand n)) (suc (length xs)) xs (omega arith) a;
+              long = length-set added (suc (length (x ∷ xs))) (addedBy (has (deviceBits n) xs) (deviceBits n)) ∙ w
+                  .long;
+              same = λ d h. given held (deviceBits n) d xs h (rw u at (same d h));
+              adds = above added (addedBy (has (deviceBits n) xs) (deviceBits n)) (suc (length xs)) xs (omega arith) a;
             }),
           )
 
   -- The theorem: the notes tell of a line that breaks nothing whether it takes again, or gives such a take back, and
   -- after it they are those of the devices held then.
   pub says : Says
-  says = go (test (isTake n)) (test (isGive n))
+  says = go (test (opens n)) (test (isGive n))
     where
-      go : (isTake n ≡ true) ⊎ (isTake n ≡ false) → (isGive n ≡ true) ⊎ (isGive n ≡ false) → Says
+      go : (opens n ≡ true) ⊎ (opens n ≡ false) → (isGive n ≡ true) ⊎ (isGive n ≡ false) → Says
       go (inl t) g = takes t
       go (inr t) (inl g) = gives t g
       go (inr t) (inr g) = others t g
@@ -279,48 +286,48 @@ goesOn (on held first starter) = true
 goesOn (bad r) = false
 
 -- the line is in its place, a give is of the device taken last, and the devices held are those after it
-pub record Went (D n i prev : ℕ) (held held′ : List ℕ) : Type 0 where
-  pub placed : placeFault D n i prev ≡ none
-  pub last : isGive n ≡ true → isTake n ≡ false → isLast (operand n) (cond (eqb (job n) prev) held []) ≡ true
+pub record Went (S : Settings) (n i prev : ℕ) (held held′ : List ℕ) : Type 0 where
+  pub placed : placeFault S n i prev ≡ none
+  pub last : isGive n ≡ true → opens n ≡ false → isLast (deviceBits n) (cond (eqb (job n) prev) held []) ≡ true
   pub next : held′ ≡ heldNext n (cond (eqb (job n) prev) held [])
 
 rule-went : (i n : ℕ) (ds first starter ds′ first′ starter′ : List ℕ)
     → on ds′ first′ starter′ ≡ ruleOf i n ds first starter
-    → (isGive n ≡ true → isTake n ≡ false → isLast (operand n) ds ≡ true) × (ds′ ≡ heldNext n ds)
+    → (isGive n ≡ true → opens n ≡ false → isLast (deviceBits n) ds ≡ true) × (ds′ ≡ heldNext n ds)
 unfolding ruleOf heldNext heldOf goesOn
 rule-went i n ds first starter ds′ first′ starter′ e =
-    go (isTake n) (isGive n) (isLast (operand n) ds) (isStart n)
+    go (opens n) (isGive n) (isLast (deviceBits n) ds) (isStart n)
     (ltb (job n) (operand n) && eqb (getD starter (operand n) 0) 0) refl refl refl (ap goesOn e) (ap heldOf e)
   where
     By : Bool → Bool → Bool → Bool → Bool → Next
     By t g l s b =
-        cond t (on (operand n ∷ ds) first starter)
+        cond t (on (deviceBits n ∷ ds) first starter)
         (cond g (cond l (on (tail ds) first starter) (bad (GiveWithoutTake (lineNumber i))))
         (cond s (cond b (on ds first (set starter (operand n) (lineNumber i))) (bad (BadStart (lineNumber i))))
         (on ds first starter)))
 
-    go : (t g l s b : Bool) → isTake n ≡ t → isGive n ≡ g → isLast (operand n) ds ≡ l
+    go : (t g l s b : Bool) → opens n ≡ t → isGive n ≡ g → isLast (deviceBits n) ds ≡ l
         → true ≡ goesOn (By t g l s b) → ds′ ≡ heldOf (By t g l s b)
-        → (isGive n ≡ true → isTake n ≡ false → isLast (operand n) ds ≡ true)
-        × (ds′ ≡ cond t (operand n ∷ ds) (cond g (tail ds) ds))
-    go true g l s b p q r on-it is = (λ x y. clash (isTake n) p y, is)
+        → (isGive n ≡ true → opens n ≡ false → isLast (deviceBits n) ds ≡ true)
+        × (ds′ ≡ cond t (deviceBits n ∷ ds) (cond g (tail ds) ds))
+    go true g l s b p q r on-it is = (λ x y. clash (opens n) p y, is)
     go false true true s b p q r on-it is = (λ x y. r, is)
     go false true false s b p q r on-it is = clash true refl (on-it)
     go false false l true true p q r on-it is = (λ x y. clash (isGive n) x q, is)
     go false false l true false p q r on-it is = clash true refl (on-it)
     go false false l false b p q r on-it is = (λ x y. clash (isGive n) x q, is)
 
-pub went : (D n i prev : ℕ) (held first starter held′ first′ starter′ : List ℕ)
-    → on held′ first′ starter′ ≡ stepOf D n i prev held first starter → Went D n i prev held held′
+pub went : (S : Settings) (n i prev : ℕ) (held first starter held′ first′ starter′ : List ℕ)
+    → on held′ first′ starter′ ≡ stepOf S n i prev held first starter → Went S n i prev held held′
 unfolding stepOf goesOn
-went D n i prev held first starter held′ first′ starter′ e = go (placeFault D n i prev) refl e
+went S n i prev held first starter held′ first′ starter′ e = go (placeFault S n i prev) refl e
   where
-    go : (x : Option Refusal) → placeFault D n i prev ≡ x
+    go : (x : Option Refusal) → placeFault S n i prev ≡ x
         → on held′ first′ starter′
         ≡ unless x
         (ruleOf i n (cond (eqb (job n) prev) held [])
         (set first (job n) (cond (eqb (job n) prev) (getD first (job n) 0) (lineNumber i))) starter)
-        → Went D n i prev held held′
+        → Went S n i prev held held′
     go (some r) q f = clash true refl (ap goesOn f)
     go none q f =
         let r = rule-went i n (cond (eqb (job n) prev) held [])

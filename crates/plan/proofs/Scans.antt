@@ -4,7 +4,7 @@ use mathlib.Core.List.{List, []}
 use mathlib.Core.Option.{Option}
 use Prim.Native.Nat.{ℕ}
 use native.Mathlib.Omega.{arith}
-use Rattle.model.specs.Board.{devices}
+use Rattle.model.specs.Board.{board}
 use Rattle.model.specs.Answers.{firstRefusal}
 use Rattle.model.specs.WellFormed.{firstFault, fault}
 use Rattle.model.specs.declared.Refusal.{Refusal}
@@ -25,7 +25,7 @@ module _ (p first starter again left : List ℕ) where
       → WholeAs p (Checked.Refused r) first starter again left
   unfolding fault firstRefusal
   at-a-line f s r w =
-      let e = told (firstFault devices [] p) r (w .answers) in record {
+      let e = told (firstFault board [] p) r (w .answers) in record {
         answers = rw e;
         tables = λ z. let v : _≡_ {A = ℕ} 0 1 = cc in absurd (omega arith);
       }
@@ -35,15 +35,15 @@ module _ (p first starter again left : List ℕ) where
       → EndsAs first starter r → WholeAs p r first starter again left
   past-the-lines r w notes e =
       let t = w .tables refl in record {
-        answers = ends-find devices p first starter t r e (untold (firstFault devices [] p) (w .answers));
-        tables = λ z. (firsts-are devices p first starter t, starters-are devices p first starter t, notes);
+        answers = ends-find board p first starter t refl r e (untold (firstFault board [] p) (w .answers));
+        tables = λ z. (firsts-are board p first starter t, starters-are board p first starter t, notes);
       }
 
   -- what is left in the lent lists
   pub scan-refused : (f s a h : List ℕ) (r : Refusal) → WholeAs p (Checked.Refused r) f s a h
       → ScansHoldingAs p first starter again left (Checked.Refused r) first starter again left
   scan-refused f s a h r w =
-      let e = told (fault devices p) r (w .answers) in record {
+      let e = told (fault board p) r (w .answers) in record {
         scanned = record {
           answers = w .answers;
           firsts = ap (λ (x : Option Refusal). leftBy x (firstLines p) first) (sym e);
@@ -56,7 +56,7 @@ module _ (p first starter again left : List ℕ) where
   pub scan-fine : (f s a h : List ℕ) → WholeAs p Checked.Fine f s a h
       → ScansHoldingAs p first starter again left Checked.Fine f s a h
   scan-fine f s a h w =
-      let e = untold (fault devices p) (w .answers) in
+      let e = untold (fault board p) (w .answers) in
       let t = w .tables refl in record {
         scanned = record {
           answers = w .answers;

@@ -11,15 +11,16 @@ use lib.Dec.{eqb}
 use lib.ListN.{length, getD, set, length-set}
 use lib.Seq.{getD-set-same, getD-set-other}
 use borrow.Author.Tests.{eqb-true, eq-eqb, ne-eqb, not-true, not-false}
-use Rattle.model.specs.Board.{devices}
-use Rattle.model.specs.Line.{operand, isTake, isGive, isStart, isLine, lineNumber, maxLines}
+use Rattle.model.specs.Board.{devices, board}
+use Rattle.model.specs.Line.{opens, isGive, isStart, isLine, lineNumber, maxLines}
 use Rattle.model.specs.Sets.{empty, member}
 use Rattle.model.specs.WellFormed.{isLast}
 use Rattle.model.specs.declared.Refusal.the-variants.{GiveWithoutTake}
+use Rattle.line.specs.Device.{deviceBits}
 use Rattle.sets.specs.Both.{without}
 use Rattle.sets.specs.Only.{onlyOf}
 use Rattle.sets.proofs.Members.{member-only-of, only-of-below, member-without, without-below}
-use Rattle.theory.proofs.Line.{device-line, take-no-give}
+use Rattle.theory.proofs.Line.{device-line, device-rest, opens-no-give}
 use Rattle.theory.proofs.Sets.{member-empty, empty-below, same-members}
 use Rattle.theory.proofs.Tests.{clash, test, falsely, tests-agree, or-right, and-split, and-second}
 use Rattle.plan.specs.Walk.{misgiven, on, bad, ruleOf, heldIn, Stack, depthAfter}
@@ -109,51 +110,53 @@ given-known true o latest h = go (test (eqb latest o))
               (ap (λ (x : ℕ). member x o) q ∙ member-empty o)),
         )
 
-module _ (n depth : ℕ) (stack : List ℕ) (h : Stack stack) (line : isLine devices n ≡ true) where
-  device : isGive n ≡ true → operand n < devices
-  device e = device-line devices n line (or-right (isTake n) (isGive n) e)
+module _ (n depth : ℕ) (stack : List ℕ) (h : Stack stack) (line : isLine board n ≡ true) where
+  device : isGive n ≡ true → deviceBits n < devices
+  device e =
+      let g = or-right (opens n) (isGive n) e in
+      omega (arith, device-rest board (omega arith) n line g, device-line board n line g)
 
   abbrev wrong : Bool
   wrong = misgiven n (getD stack depth 0)
 
-  wrong-is : wrong ≡ (isGive n && not (eqb (getD stack depth 0) (operand n)))
-  wrong-is = given-known (isGive n) (operand n) (getD stack depth 0) device
+  wrong-is : wrong ≡ (isGive n && not (eqb (getD stack depth 0) (deviceBits n)))
+  wrong-is = given-known (isGive n) (deviceBits n) (getD stack depth 0) device
 
   pub wrongly-given : (i : ℕ) → wrong ≡ true → (first starter : List ℕ)
       → bad (GiveWithoutTake (i + 1)) ≡ ruleOf i n (heldIn depth stack) first starter
   unfolding ruleOf lineNumber
   wrongly-given i t first starter =
-      let s = and-split (isGive n) (not (eqb (getD stack depth 0) (operand n))) (sym wrong-is ∙ t) in
-      let e = falsely (isTake n) (λ e. clash (isGive n) (s .0) (take-no-give n e)) in
-      let m = sym (is-latest depth (operand n) stack h (device (s .0)))
-      ∙ not-true (eqb (getD stack depth 0) (operand n)) (s .1) in
+      let s = and-split (isGive n) (not (eqb (getD stack depth 0) (deviceBits n))) (sym wrong-is ∙ t) in
+      let e = falsely (opens n) (λ e. clash (isGive n) (s .0) (opens-no-give n e)) in
+      let m = sym (is-latest depth (deviceBits n) stack h (device (s .0)))
+      ∙ not-true (eqb (getD stack depth 0) (deviceBits n)) (s .1) in
       rw (e, s .0, m, add-one)
 
   module _ (room : depth < maxLines) (t : wrong ≡ false) where
-    given : isGive n ≡ true → isLast (operand n) (heldIn depth stack) ≡ true
+    given : isGive n ≡ true → isLast (deviceBits n) (heldIn depth stack) ≡ true
     given g =
-        sym (is-latest depth (operand n) stack h (device g))
-        ∙ not-false (eqb (getD stack depth 0) (operand n))
-        (and-second (isGive n) (not (eqb (getD stack depth 0) (operand n))) g (sym wrong-is ∙ t))
+        sym (is-latest depth (deviceBits n) stack h (device g))
+        ∙ not-false (eqb (getD stack depth 0) (deviceBits n))
+        (and-second (isGive n) (not (eqb (getD stack depth 0) (deviceBits n))) g (sym wrong-is ∙ t))
 
     pub given-deep : isGive n ≡ true → 1 ≤ depth
     unfolding isLast heldIn
     given-deep g = go depth (given g)
       where
-        go : (depth : ℕ) → isLast (operand n) (heldIn depth stack) ≡ true → 1 ≤ depth
+        go : (depth : ℕ) → isLast (deviceBits n) (heldIn depth stack) ≡ true → 1 ≤ depth
         go zero e = clash false e refl
         go (suc depth) e = omega arith
 
     -- what a line that breaks nothing leaves
     pub left-held : (i : ℕ) → isStart n ≡ false → (first starter : List ℕ)
-        → on (heldIn (depthAfter n depth) (set stack (depth + 1) (operand n))) first starter
+        → on (heldIn (depthAfter n depth) (set stack (depth + 1) (deviceBits n))) first starter
         ≡ ruleOf i n (heldIn depth stack) first starter
     unfolding ruleOf
-    left-held i s first starter = go (test (isTake n)) (test (isGive n))
+    left-held i s first starter = go (test (opens n)) (test (isGive n))
       where
-        go : (isTake n ≡ true) ⊎ (isTake n ≡ false) → (isGive n ≡ true) ⊎ (isGive n ≡ false)
-            → on (heldIn (depthAfter n depth) (set stack (depth + 1) (operand n))) first starter
+        go : (opens n ≡ true) ⊎ (opens n ≡ false) → (isGive n ≡ true) ⊎ (isGive n ≡ false)
+            → on (heldIn (depthAfter n depth) (set stack (depth + 1) (deviceBits n))) first starter
             ≡ ruleOf i n (heldIn depth stack) first starter
-        go (inl e) g = rw (e, add-one, pushed stack (operand n) depth (omega (arith, h .long)))
-        go (inr e) (inl g) = rw (e, g, given g, add-one, popped stack (operand n) depth (operand n) (given g))
-        go (inr e) (inr g) = rw (e, g, s, add-one, below stack (operand n) depth depth (omega arith))
+        go (inl e) g = rw (e, add-one, pushed stack (deviceBits n) depth (omega (arith, h .long)))
+        go (inr e) (inl g) = rw (e, g, given g, add-one, popped stack (deviceBits n) depth (deviceBits n) (given g))
+        go (inr e) (inr g) = rw (e, g, s, add-one, below stack (deviceBits n) depth depth (omega arith))

@@ -12,17 +12,19 @@ use lib.ListN.{length, getD, set, length-set, getD-replicate}
 use borrow.Author.Tests.{eqb-true, eqb-false, eq-eqb, ne-eqb, le-leb, lt-leb, ltb-true, ltb-false}
 use Rattle.model.specs.Answers.{refuseIf, firstRefusal}
 use Rattle.model.specs.Lists.{any}
-use Rattle.model.specs.Line.{job, kind, operand, isTake, isGive, isStart, starts, isLine, at, lineNumber, maxLines}
-use Rattle.model.specs.Line.{maxJob}
-use Rattle.model.specs.WellFormed.{before, heldBy, isLast, inSequence, verbFault, lineFault}
+use Rattle.model.specs.Line.{Settings, job, kind, operand, opens, isGive, isStart, starts, isLine, at, lineNumber}
+use Rattle.model.specs.Line.{maxLines}
+use Rattle.model.specs.Line.{isHeld, deviceOf, holds, heldFrom, maxJob}
+use Rattle.model.specs.WellFormed.{before, heldBy, isLast, inSequence, late, verbFault, lineFault}
 use Rattle.model.specs.declared.Refusal.{Refusal}
 use Rattle.model.specs.declared.Refusal.the-variants.{Malformed, TooManyLines, JobOutOfSequence, BadStart}
 use Rattle.model.specs.declared.Refusal.the-variants.{GiveWithoutTake}
-use Rattle.theory.proofs.Held.{held-take, held-give, held-other, none-held}
-use Rattle.theory.proofs.Line.{line-parts, start-operand, start-parts, start-of, take-no-give, take-no-start}
-use Rattle.theory.proofs.Line.{give-no-start}
-use Rattle.theory.proofs.Tests.{clash, test, and-left, and-right, or-split}
+use Rattle.theory.proofs.Held.{held-opened, held-give, held-other, none-held}
+use Rattle.theory.proofs.Line.{line-parts, start-operand, start-parts, start-of, opens-no-give, opens-no-start}
+use Rattle.theory.proofs.Line.{give-no-start, own-device, device-rest}
+use Rattle.theory.proofs.Tests.{clash, test, and-left, and-right, or-split, or-left, or-right}
 use Rattle.theory.proofs.WellFormed.{length-before}
+use Rattle.line.specs.Device.{deviceBits}
 use Rattle.plan.specs.Tables.{First, nothing, none-yet, Tables}
 use Rattle.plan.specs.Walk.{placedBy, placeFault, Next, on, bad, ruleOf, unless, stepOf}
 use Rattle.plan.proofs.Steps.{in-place}
@@ -34,15 +36,15 @@ jobBefore p zero = 0
 jobBefore p (suc i) = job (at p i)
 
 -- the walk's state before line i
-pub record Stands (D : ℕ) (p : List ℕ) (i prev : ℕ) (held first starter : List ℕ) : Type 0 where
-  pub tables : Tables D p i first starter
+pub record Stands (S : Settings) (p : List ℕ) (i prev : ℕ) (held first starter : List ℕ) : Type 0 where
+  pub tables : Tables S p i first starter
   pub jobs : (k : ℕ) → k < i → job (at p k) ≤ prev
   pub prev-is : prev ≡ jobBefore p i
   pub held-is : heldBy prev (before p i) ≡ held
 
-pub begins : (D : ℕ) (p : List ℕ) → Stands D p 0 0 [] none-yet none-yet
+pub begins : (S : Settings) (p : List ℕ) → Stands S p 0 0 [] none-yet none-yet
 unfolding jobBefore before heldBy
-begins D p = record {
+begins S p = record {
   tables = record {
     lines = λ k h. absurd (omega arith);
     first-long = refl;
@@ -58,10 +60,10 @@ begins D p = record {
 }
 
 -- what a step says of line i
-pub data Stepped (D : ℕ) (p : List ℕ) (i : ℕ) : Next → Type 0 where
-  goes : (held first starter : List ℕ) → lineFault D (before p i) (at p i) ≡ none → i < maxLines
-      → Stands D p (suc i) (job (at p i)) held first starter → Stepped D p i (on held first starter)
-  stops : (r : Refusal) → lineFault D (before p i) (at p i) ≡ some r → Stepped D p i (bad r)
+pub data Stepped (S : Settings) (p : List ℕ) (i : ℕ) : Next → Type 0 where
+  goes : (held first starter : List ℕ) → lineFault S (before p i) (at p i) ≡ none → i < maxLines
+      → Stands S p (suc i) (job (at p i)) held first starter → Stepped S p i (on held first starter)
+  stops : (r : Refusal) → lineFault S (before p i) (at p i) ≡ some r → Stepped S p i (bad r)
 
 -- 3, 2, 4 as one test, before what comes after them
 grouped : (i : ℕ) (a b c d : Bool) → (b ≡ true → c ≡ d) → (after : Option Refusal)
@@ -91,8 +93,15 @@ abbrev verbBy : ℕ → Bool → Bool → Option Refusal
 verbBy i start give =
     firstRefusal (refuseIf start (BadStart (lineNumber i)) ∷ refuseIf give (GiveWithoutTake (lineNumber i)) ∷ [])
 
-module _ (D : ℕ) (p : List ℕ) (i prev : ℕ) (held first starter : List ℕ)
-    (s : Stands D p i prev held first starter) where
+-- where no line is held, the tests of held lines refuse nothing
+two-alone : (a b : Option Refusal) → firstRefusal (a ∷ b ∷ none ∷ none ∷ []) ≡ firstRefusal (a ∷ b ∷ [])
+unfolding firstRefusal
+two-alone (some r) b = refl
+two-alone none (some r) = refl
+two-alone none none = refl
+
+module _ (S : Settings) (small : S .devices ≤ heldFrom) (morning : (l : ℕ) → isLine S l ≡ true → isHeld l ≡ false)
+    (p : List ℕ) (i prev : ℕ) (held first starter : List ℕ) (s : Stands S p i prev held first starter) where
   abbrev l : ℕ
   l = at p i
 
@@ -101,26 +110,26 @@ module _ (D : ℕ) (p : List ℕ) (i prev : ℕ) (held first starter : List ℕ)
   abbrev follows : Bool
   follows = eqb (job l) prev || eqb (job l) (suc prev)
 
-  same-sequence : isLine D l ≡ true → inSequence (before p i) l ≡ follows
+  same-sequence : isLine S l ≡ true → inSequence (before p i) l ≡ follows
   unfolding inSequence before jobBefore
   same-sequence line = go i (s .prev-is)
     where
       go : (k : ℕ) → prev ≡ jobBefore p k → inSequence (before p k) l ≡ follows
-      go zero e = rw (e, ne-eqb (job l) 0 (λ q. omega (arith, line-parts D l line .0)))
+      go zero e = rw (e, ne-eqb (job l) 0 (λ q. omega (arith, line-parts S l line .0)))
       go (suc k) e = rw e
 
-  same-place : lineFault D (before p i) l ≡ firstRefusal (placeFault D l i prev ∷ verbFault (before p i) l ∷ [])
+  same-place : lineFault S (before p i) l ≡ firstRefusal (placeFault S l i prev ∷ verbFault (before p i) l ∷ [])
   unfolding lineFault placeFault
   same-place =
-      grouped (length (before p i)) (leb maxLines (length (before p i))) (isLine D l) (inSequence (before p i) l)
+      grouped (length (before p i)) (leb maxLines (length (before p i))) (isLine S l) (inSequence (before p i) l)
       follows same-sequence (verbFault (before p i) l)
       ∙ ap (λ (m : ℕ). firstRefusal
-      (placedBy m (leb maxLines m) (isLine D l) follows ∷ verbFault (before p i) l ∷ []))
+      (placedBy m (leb maxLines m) (isLine S l) follows ∷ verbFault (before p i) l ∷ []))
       (length-before p i)
 
   -- ---- in sequence
 
-  module _ (line : isLine D l ≡ true) (in-turn : follows ≡ true) where
+  module _ (line : isLine S l ≡ true) (in-turn : follows ≡ true) where
     -- of the job before, or of the next
     which : (job l ≡ prev) ⊎ (job l ≡ suc prev)
     which = go (or-split (eqb (job l) prev) (eqb (job l) (suc prev)) in-turn)
@@ -151,7 +160,7 @@ module _ (D : ℕ) (p : List ℕ) (i prev : ℕ) (held first starter : List ℕ)
         (go which) (λ j n. ne-eqb (job l) j n)
       where
         parts : (1 ≤ job l) × (job l ≤ maxJob)
-        parts = let q = line-parts D l line in (q .0, q .1)
+        parts = let q = line-parts S l line in (q .0, q .1)
 
         so-far : First (λ x. eqb (job x) (job l)) p i (getD first (job l) 0)
         so-far = s .tables .firsts (job l) (parts .1)
@@ -182,11 +191,11 @@ module _ (D : ℕ) (p : List ℕ) (i prev : ℕ) (held first starter : List ℕ)
     -- the state after it
     onward : (held′ starter′ : List ℕ) → heldBy (job l) (l ∷ before p i) ≡ held′ → length starter′ ≡ suc maxJob
         → ((j : ℕ) → j ≤ maxJob → First (λ x. starts x j) p (suc i) (getD starter′ j 0))
-        → Stands D p (suc i) (job l) held′ (set first (job l) entry) starter′
+        → Stands S p (suc i) (job l) held′ (set first (job l) entry) starter′
     unfolding jobBefore before
     onward held′ starter′ h n f = record {
       tables = record {
-        lines = Tab.up-to (λ k. isLine D (at p k) ≡ true) i line (s .tables .lines);
+        lines = Tab.up-to (λ k. isLine S (at p k) ≡ true) i line (s .tables .lines);
         first-long = length-set first (job l) entry ∙ s .tables .first-long;
         starter-long = n;
         firsts = firsts;
@@ -218,35 +227,58 @@ module _ (D : ℕ) (p : List ℕ) (i prev : ℕ) (held first starter : List ℕ)
         verbBy i (isStart l && (leb (operand l) (job l) || any (λ q. starts q (operand l)) (before p i)))
         (isGive l && not (isLast (operand l) there))
 
+    unheld : isHeld l ≡ false
+    unheld = morning l line
+
     verb-tests : verbFault (before p i) l ≡ tested
-    unfolding verbFault
-    verb-tests = rw (length-before p i)
+    unfolding verbFault refuseIf
+    verb-tests =
+        rw (
+          length-before p i,
+          and-left (isHeld l) (any (λ q. holds q (deviceOf l)) (before p i)) unheld,
+          and-left (isHeld l) (late (before p i) l) unheld,
+        )
+        (two-alone
+        (refuseIf (isStart l && (leb (operand l) (job l) || any (λ q. starts q (operand l)) (before p i)))
+        (BadStart (lineNumber i)))
+        (refuseIf (isGive l && not (isLast (operand l) there)) (GiveWithoutTake (lineNumber i))))
 
-    by-verb : placeFault D l i prev ≡ none → lineFault D (before p i) l ≡ tested
-    by-verb e = same-place ∙ second (placeFault D l i prev) (verbFault (before p i) l) e ∙ verb-tests
+    -- the device that the line takes or gives, by its number
+    taken-device : opens l ≡ true → deviceOf l ≡ deviceBits l
+    taken-device t = sym (device-rest S small l line (or-left (opens l) (isGive l) t))
 
-    module _ (f : lineFault D (before p i) l ≡ tested) (few : i < maxLines) where
+    given-device : isGive l ≡ true → operand l ≡ deviceBits l
+    given-device g =
+        sym (device-rest S small l line (or-right (opens l) (isGive l) g) ∙ own-device l unheld)
+
+    by-verb : placeFault S l i prev ≡ none → lineFault S (before p i) l ≡ tested
+    by-verb e = same-place ∙ second (placeFault S l i prev) (verbFault (before p i) l) e ∙ verb-tests
+
+    module _ (f : lineFault S (before p i) l ≡ tested) (few : i < maxLines) where
       abbrev Led : Type 0
-      Led = Stepped D p i (ruleOf i l there (set first (job l) entry) starter)
+      Led = Stepped S p i (ruleOf i l there (set first (job l) entry) starter)
 
-      takes : isTake l ≡ true → Led
+      takes : opens l ≡ true → Led
       unfolding ruleOf firstRefusal refuseIf
       takes t =
           rw t
-          (goes (operand l ∷ there) (set first (job l) entry) starter (f ∙ rw (take-no-start l t, take-no-give l t)) few
-          (onward (operand l ∷ there) starter (held-take (job l) l (before p i) refl t) (s .tables .starter-long)
-          (same-starters (take-no-start l t))))
+          (goes (deviceBits l ∷ there) (set first (job l) entry) starter
+          (f ∙ rw (opens-no-start l t, opens-no-give l t)) few
+          (onward (deviceBits l ∷ there) starter
+          (held-opened (job l) l (before p i) refl t ∙ ap {B = List ℕ} (λ d. d ∷ there) (taken-device t))
+          (s .tables .starter-long) (same-starters (opens-no-start l t))))
 
-      module _ (t : isTake l ≡ false) where
-        gives : isGive l ≡ true → (b : Bool) → isLast (operand l) there ≡ b → Led
+      module _ (t : opens l ≡ false) where
+        gives : isGive l ≡ true → (b : Bool) → isLast (deviceBits l) there ≡ b → Led
         unfolding ruleOf firstRefusal refuseIf
         gives g true m =
             rw (t, g, m)
-            (goes (tail there) (set first (job l) entry) starter (f ∙ rw (give-no-start l g, g, m)) few
+            (goes (tail there) (set first (job l) entry) starter (f ∙ rw (give-no-start l g, g, given-device g, m)) few
             (onward (tail there) starter (held-give (job l) l (before p i) refl t g) (s .tables .starter-long)
             (same-starters (give-no-start l g))))
         gives g false m =
-            rw (t, g, m) (stops (GiveWithoutTake (lineNumber i)) (f ∙ rw (give-no-start l g, g, m)))
+            rw (t, g, m)
+            (stops (GiveWithoutTake (lineNumber i)) (f ∙ rw (give-no-start l g, g, given-device g, m)))
 
         module _ (g : isGive l ≡ false) where
           does : isStart l ≡ false → Led
@@ -260,7 +292,7 @@ module _ (D : ℕ) (p : List ℕ) (i prev : ℕ) (held first starter : List ℕ)
           module _ (n : isStart l ≡ true) where
             high : operand l ≤ maxJob
             unfolding isStart
-            high = start-operand D l line (eqb-true (kind l) 3 n)
+            high = start-operand S l line (eqb-true (kind l) 3 n)
 
             so-far : First (λ x. starts x (operand l)) p i (getD starter (operand l) 0)
             so-far = s .tables .starters (operand l) high
@@ -296,31 +328,31 @@ module _ (D : ℕ) (p : List ℕ) (i prev : ℕ) (held first starter : List ℕ)
                 (f ∙ rw (n, le-leb (operand l) (job l) (ltb-false (job l) (operand l) x))))
 
       ruled : Led
-      ruled = go (test (isTake l)) (test (isGive l)) (test (isStart l))
+      ruled = go (test (opens l)) (test (isGive l)) (test (isStart l))
         where
-          go : (isTake l ≡ true) ⊎ (isTake l ≡ false) → (isGive l ≡ true) ⊎ (isGive l ≡ false)
+          go : (opens l ≡ true) ⊎ (opens l ≡ false) → (isGive l ≡ true) ⊎ (isGive l ≡ false)
               → (isStart l ≡ true) ⊎ (isStart l ≡ false) → Led
           go (inl t) g n = takes t
-          go (inr t) (inl g) n = gives t g (isLast (operand l) there) refl
+          go (inr t) (inl g) n = gives t g (isLast (deviceBits l) there) refl
           go (inr t) (inr g) (inr n) = does t g n
           go (inr t) (inr g) (inl n) =
               started t g n (ltb (job l) (operand l)) (eqb (getD starter (operand l) 0) 0) refl refl
 
   -- what the line's job holds there
-  pub there-is : placeFault D l i prev ≡ none → heldBy (job l) (before p i) ≡ cond (eqb (job l) prev) held []
-  there-is e = let q = in-place D l i prev e in held-there (q .1) (q .2)
+  pub there-is : placeFault S l i prev ≡ none → heldBy (job l) (before p i) ≡ cond (eqb (job l) prev) held []
+  there-is e = let q = in-place S l i prev e in held-there (q .1) (q .2)
 
   -- The theorem: a step is at a line without a fault, and leads to the state after it, or it tells the line's fault.
-  pub stepped : Stepped D p i (stepOf D l i prev held first starter)
+  pub stepped : Stepped S p i (stepOf S l i prev held first starter)
   unfolding stepOf
-  stepped = go (placeFault D l i prev) refl
+  stepped = go (placeFault S l i prev) refl
     where
-      go : (x : Option Refusal) → placeFault D l i prev ≡ x
-          → Stepped D p i
+      go : (x : Option Refusal) → placeFault S l i prev ≡ x
+          → Stepped S p i
           (unless x
           (ruleOf i l (cond (eqb (job l) prev) held [])
           (set first (job l) (cond (eqb (job l) prev) (getD first (job l) 0) (lineNumber i))) starter))
-      go (some r) e = stops r (same-place ∙ decided (placeFault D l i prev) (verbFault (before p i) l) r e)
+      go (some r) e = stops r (same-place ∙ decided (placeFault S l i prev) (verbFault (before p i) l) r e)
       go none e =
-          let q = in-place D l i prev e in
+          let q = in-place S l i prev e in
           rw (← held-there (q .1) (q .2)) (ruled (q .1) (q .2) (by-verb (q .1) (q .2) e) (q .0))

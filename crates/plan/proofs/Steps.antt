@@ -10,7 +10,7 @@ use lib.Dec.{eqb, leb}
 use lib.ListN.{length, getD, set, length-set}
 use borrow.Author.Tests.{leb-false}
 use Rattle.model.specs.Answers.{refuseIf, firstRefusal}
-use Rattle.model.specs.Line.{job, isLine, lineNumber, maxLines, maxJob}
+use Rattle.model.specs.Line.{Settings, job, isLine, lineNumber, maxLines, maxJob}
 use Rattle.model.specs.declared.Refusal.{Refusal}
 use Rattle.model.specs.declared.Refusal.the-variants.{Malformed, TooManyLines, JobOutOfSequence}
 use Rattle.plan.specs.Walk.{placedBy, placeFault, Next, bad, ruleOf, stepOf, heldIn, Walking, StackBy}
@@ -25,23 +25,23 @@ passed i true b c e = absurd (Option·none-ne-some TooManyLines (sym e))
 passed i false false c e = absurd (Option·none-ne-some (Malformed (lineNumber i)) (sym e))
 passed i false true false e = absurd (Option·none-ne-some (JobOutOfSequence (lineNumber i)) (sym e))
 
-pub in-place : (D n i prev : ℕ) → placeFault D n i prev ≡ none
-    → (i < maxLines) × (isLine D n ≡ true) × ((eqb (job n) prev || eqb (job n) (suc prev)) ≡ true)
+pub in-place : (S : Settings) (n i prev : ℕ) → placeFault S n i prev ≡ none
+    → (i < maxLines) × (isLine S n ≡ true) × ((eqb (job n) prev || eqb (job n) (suc prev)) ≡ true)
 unfolding placeFault
-in-place D n i prev e =
-    let t = passed i (leb maxLines i) (isLine D n) (eqb (job n) prev || eqb (job n) (suc prev)) e in
+in-place S n i prev e =
+    let t = passed i (leb maxLines i) (isLine S n) (eqb (job n) prev || eqb (job n) (suc prev)) e in
     (leb-false maxLines i (t .0), t .1, t .2)
 
-module _ (D n i prev : ℕ) (first starter : List ℕ) where
-  pub stops : (held : List ℕ) (r : Refusal) → placeFault D n i prev ≡ some r → bad r ≡ stepOf D n i prev held first
+module _ (S : Settings) (n i prev : ℕ) (first starter : List ℕ) where
+  pub stops : (held : List ℕ) (r : Refusal) → placeFault S n i prev ≡ some r → bad r ≡ stepOf S n i prev held first
       starter
   unfolding stepOf
   stops held r e = rw e
 
   -- the line is of job j, v is its entry in the first lines, and d devices are held
-  pub goes-on : (x : Next) (depth d j v : ℕ) (stack : List ℕ) → placeFault D n i prev ≡ none → j ≡ job n
+  pub goes-on : (x : Next) (depth d j v : ℕ) (stack : List ℕ) → placeFault S n i prev ≡ none → j ≡ job n
       → v ≡ cond (eqb j prev) (getD first j 0) (i + 1) → d ≡ cond (eqb j prev) depth 0
-      → x ≡ ruleOf i n (heldIn d stack) (set first j v) starter → x ≡ stepOf D n i prev (heldIn depth stack) first
+      → x ≡ ruleOf i n (heldIn d stack) (set first j v) starter → x ≡ stepOf S n i prev (heldIn depth stack) first
       starter
   unfolding stepOf lineNumber heldIn
   goes-on x depth d j v stack e q f g led = led ∙ rw (f, g, e, q, add-one) (go (eqb (job n) prev))

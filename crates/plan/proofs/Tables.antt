@@ -9,7 +9,7 @@ use lib.Dec.{eqb}
 use lib.ListN.{length, getD, set, length-map}
 use lib.Seq.{getD-set-same, getD-set-other, ext-getD}
 use borrow.Author.Tests.{eqb-true, eqb-false, ne-eqb}
-use Rattle.model.specs.Line.{job, starts, at, lineNumber, firstLine, maxJob}
+use Rattle.model.specs.Line.{Settings, job, starts, at, lineNumber, firstLine, maxJob}
 use mathlib.Core.Option.{Option, none, some}
 use Rattle.model.specs.Lists.{upFrom, positions, any, firstOf}
 use Rattle.model.specs.WellFormed.{before}
@@ -144,7 +144,7 @@ table-is g t n f =
     (n ∙ sym (length-map (upFrom 0 (suc maxJob)) g ∙ length-upFrom 0 (suc maxJob)))
     (λ j h. sym (getD-upFrom g 0 (suc maxJob) j (omega arith) ∙ ap g (omega arith) ∙ f j (omega arith)))
 
-module _ (D : ℕ) (p first starter : List ℕ) (t : Tables D p (length p) first starter) where
+module _ (S : Settings) (p first starter : List ℕ) (t : Tables S p (length p) first starter) where
   pub firsts-are : first ≡ firstLines p
   unfolding firstLines
   firsts-are =

@@ -9,12 +9,12 @@ use lib.ListN.{length, drop, drop-of-length-le}
 use lib.Seq.{drop-cons}
 use borrow.Author.Tests.{le-leb}
 use Rattle.model.specs.Answers.{firstRefusal, refuseIf}
-use Rattle.model.specs.Board.{devices}
+use Rattle.model.specs.Board.{devices, board}
 use Rattle.model.specs.Line.{job, at, maxLines, maxJob}
 use Rattle.model.specs.WellFormed.{before, lineFault, firstFault}
 use Rattle.model.specs.declared.Refusal.{Refusal}
 use Rattle.model.specs.declared.Refusal.the-variants.{TooManyLines}
-use Rattle.theory.proofs.Line.{line-parts}
+use Rattle.theory.proofs.Line.{line-parts, morning-line}
 use Rattle.plan.specs.Checked.{checked}
 use Rattle.plan.specs.Tables.{none-yet}
 use Rattle.plan.specs.Walk.{on, bad, placeFault, stepOf, heldIn, Stack, nextBy, WalkingBy, Walked}
@@ -26,8 +26,8 @@ pub record At (p : List ℕ) (i prev depth : ℕ) (stack first starter : List �
   pub at-most : i ≤ length p
   pub deep : depth ≤ i
   pub stacked : Stack stack
-  pub stands : Stands devices p i prev (heldIn depth stack) first starter
-  pub ahead : firstFault devices [] p ≡ firstFault devices (before p i) (drop i p)
+  pub stands : Stands board p i prev (heldIn depth stack) first starter
+  pub ahead : firstFault board [] p ≡ firstFault board (before p i) (drop i p)
 
 pub at-start : (p stack first starter : List ℕ) → Stack stack → first ≡ none-yet → starter ≡ none-yet
     → At p 0 0 0 stack first starter
@@ -36,7 +36,7 @@ at-start p stack first starter h a b = record {
   at-most = omega arith;
   deep = omega arith;
   stacked = h;
-  stands = rw (a, b) (begins devices p);
+  stands = rw (a, b) (begins board p);
   ahead = refl;
 }
 
@@ -46,28 +46,29 @@ module _ (p : List ℕ) (i prev depth : ℕ) (stack first starter : List ℕ) (s
     unfolding firstFault
     at-end h =
         let e : i ≡ length p = omega (arith, s .at-most) in
-        let z : firstFault devices (before p i) (drop i p) ≡ none = rw (drop-of-length-le p {i = i} h) in record {
+        let z : firstFault board (before p i) (drop i p) ≡ none = rw (drop-of-length-le p {i = i} h) in record {
           answers = sym (ap checked (s .ahead ∙ z));
           tables = λ z. rw e at (s .stands .tables);
         }
 
     module _ (h : i < length p) where
-      ahead-on : (x : Option Refusal) → lineFault devices (before p i) (at p i) ≡ x
-          → firstFault devices (before p i) (drop i p)
-          ≡ elim x [ some r ↦ some r | none ↦ firstFault devices (before p (suc i)) (drop (suc i) p) ]
+      ahead-on : (x : Option Refusal) → lineFault board (before p i) (at p i) ≡ x
+          → firstFault board (before p i) (drop i p)
+          ≡ elim x [ some r ↦ some r | none ↦ firstFault board (before p (suc i)) (drop (suc i) p) ]
       unfolding firstFault before
       ahead-on x e = rw (drop-cons p i 0 h) (rw (e, firstFault))
 
       module _ (x : After) (stack′ first′ starter′ : List ℕ)
-          (led : nextBy x stack′ first′ starter′ ≡ stepOf devices (at p i) i prev (heldIn depth stack) first starter)
+          (led : nextBy x stack′ first′ starter′ ≡ stepOf board (at p i) i prev (heldIn depth stack) first starter)
         where
-          step : Stepped devices p i (nextBy x stack′ first′ starter′)
-          step = rw led (stepped devices p i prev (heldIn depth stack) first starter (s .stands))
+          step : Stepped board p i (nextBy x stack′ first′ starter′)
+          step = rw led (stepped board (omega arith) (morning-line devices) p i prev (heldIn depth stack) first
+              starter (s .stands))
 
           pub at-refusal : (r : Refusal) → x ≡ After.Bad r → (f t : List ℕ) → Walked p (Checked.Refused r) f t
           at-refusal r e f t = go (rw e at step)
             where
-              go : Stepped devices p i (bad r) → Walked p (Checked.Refused r) f t
+              go : Stepped board p i (bad r) → Walked p (Checked.Refused r) f t
               go (stops q z) = record {
                 answers = sym (ap checked (s .ahead ∙ ahead-on (some q) z));
                 tables = λ z. let w : _≡_ {A = ℕ} 0 1 = cc in absurd (omega arith);
@@ -77,16 +78,16 @@ module _ (p : List ℕ) (i prev depth : ℕ) (stack first starter : List ℕ) (s
           pub at-line : (d : ℕ) → x ≡ After.On d → (i < maxLines) × (job (at p i) ≤ maxJob)
           at-line d e = go (rw e at step)
             where
-              go : Stepped devices p i (on (heldIn d stack′) first′ starter′)
+              go : Stepped board p i (on (heldIn d stack′) first′ starter′)
                   → (i < maxLines) × (job (at p i) ≤ maxJob)
               go (goes held f t z few stands) =
-                  (few, line-parts devices (at p i) (stands .tables .lines i (omega arith)) .1)
+                  (few, line-parts board (at p i) (stands .tables .lines i (omega arith)) .1)
 
           pub at-next : (d : ℕ) → x ≡ After.On d → WalkingBy i x stack′ first′ starter′
               → At p (i + 1) (job (at p i)) d stack′ first′ starter′
           at-next d e k = rw add-one (go (rw e at step))
             where
-              go : Stepped devices p i (on (heldIn d stack′) first′ starter′)
+              go : Stepped board p i (on (heldIn d stack′) first′ starter′)
                   → At p (suc i) (job (at p i)) d stack′ first′ starter′
               go (goes held f t z few stands) = record {
                 at-most = omega arith;
@@ -97,7 +98,7 @@ module _ (p : List ℕ) (i prev depth : ℕ) (stack first starter : List ℕ) (s
               }
 
     -- a line over the limit has that fault, whatever it says
-    over-limit : maxLines ≤ i → bad TooManyLines ≡ stepOf devices (at p i) i prev (heldIn depth stack) first starter
+    over-limit : maxLines ≤ i → bad TooManyLines ≡ stepOf board (at p i) i prev (heldIn depth stack) first starter
     unfolding stepOf placeFault firstRefusal refuseIf
     over-limit many = rw (le-leb maxLines i many)
 

@@ -7,7 +7,7 @@ use mathlib.Core.Option.{Option, none, some}
 use mathlib.Core.Path.{_≡_}
 use lib.Dec.{eqb, ltb}
 use lib.ListN.{getD}
-use Rattle.model.specs.Board.{devices}
+use Rattle.model.specs.Board.{board}
 use Rattle.model.specs.Line.{maxJob}
 use Rattle.model.specs.WellFormed.{fault}
 use Rattle.model.specs.declared.Refusal.{Refusal}
@@ -53,7 +53,7 @@ pub data EndsAs (first starter : List ℕ) : Checked → Type 0 where
 
 -- what the walk and these tests find together: the fault, and the tables and notes where there is none
 pub record WholeAs (p : List ℕ) (answer : Checked) (first starter again left : List ℕ) : Type 0 where
-  pub answers : answer ≡ checked (fault devices p)
+  pub answers : answer ≡ checked (fault board p)
   pub tables : answer ≡ Checked.Fine → (first ≡ firstLines p) × (starter ≡ starters p) × NotesOf p again left
 
 -- what a scan leaves in a lent list: the plan's, or, where it is refused, what stood there
@@ -64,13 +64,13 @@ leftBy (some r) table lent = lent
 -- the outcome of a scan: the fault, and the two tables and the flags where there is none
 pub record ScansAs (plan first starter again : List ℕ) (answer : Checked) (first′ starter′ again′ : List ℕ) : Type 0
   where
-    pub answers : answer ≡ checked (fault devices plan)
-    pub firsts : first′ ≡ leftBy (fault devices plan) (firstLines plan) first
-    pub starts : starter′ ≡ leftBy (fault devices plan) (starters plan) starter
-    pub agains : again′ ≡ leftBy (fault devices plan) (againFlags plan) again
+    pub answers : answer ≡ checked (fault board plan)
+    pub firsts : first′ ≡ leftBy (fault board plan) (firstLines plan) first
+    pub starts : starter′ ≡ leftBy (fault board plan) (starters plan) starter
+    pub agains : again′ ≡ leftBy (fault board plan) (againFlags plan) again
 
 -- the outcome of a scan that also tells what each job holds after the last line
 pub record ScansHoldingAs (plan first starter again lent : List ℕ) (answer : Checked)
     (first′ starter′ again′ holdings′ : List ℕ) : Type 0 where
   pub scanned : ScansAs plan first starter again answer first′ starter′ again′
-  pub held : holdings′ ≡ leftBy (fault devices plan) (holdings plan) lent
+  pub held : holdings′ ≡ leftBy (fault board plan) (holdings plan) lent

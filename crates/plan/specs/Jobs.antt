@@ -7,7 +7,7 @@ use mathlib.Core.Path.{_≡_}
 use Rattle.model.specs.Lists.{upFrom, positions, firstOf}
 use Rattle.model.specs.Line.{starts, at, lineNumber, firstLine, maxJob}
 use Rattle.model.specs.WellFormed.{fault}
-use Rattle.model.specs.Board.{devices}
+use Rattle.model.specs.Board.{board}
 
 unfoldable pub numberOfFirst : List ℕ → ℕ
 unfolding lineNumber
@@ -29,5 +29,5 @@ starters p = map (λ j. numberOfFound (firstOf (λ i. starts (at p i) j) (positi
 
 -- a plan has no fault, and for each job the number of its first line is listed
 pub record FirstsListed (p first : List ℕ) : Type 0 where
-  pub sound : fault devices p ≡ none
+  pub sound : fault board p ≡ none
   pub firsts : first ≡ firstLines p

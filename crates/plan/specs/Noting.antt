@@ -11,17 +11,18 @@ use lib.ListN.{length, getD, set}
 use mir.Val.{boolByte}
 use Rattle.model.specs.Board.{devices}
 use Rattle.model.specs.Lists.{has}
-use Rattle.model.specs.Line.{job, operand, isTake, maxLines}
+use Rattle.model.specs.Line.{job, opens, maxLines}
 use Rattle.model.specs.Sets.{empty, union, member}
+use Rattle.line.specs.Device.{deviceBits}
 use Rattle.sets.specs.Both.{both, differ, without}
 use Rattle.sets.specs.Only.{onlyOf}
 use Rattle.plan.specs.Again.{againFlags}
 use Rattle.plan.specs.Holdings.{holdings}
 use Rattle.plan.specs.Walk.{givenBy}
 
--- the set of the device that a line takes; that it takes or gives
+-- the set of the device that a line takes or holds; that it gives too
 abbrev pub takenBy : ℕ → ℕ
-takenBy n = cond (isTake n) (onlyOf devices (operand n)) empty
+takenBy n = cond (opens n) (onlyOf devices (deviceBits n)) empty
 
 abbrev pub handledBy : ℕ → ℕ
 handledBy n = union (takenBy n) (givenBy n)

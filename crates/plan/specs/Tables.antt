@@ -6,7 +6,7 @@ use mathlib.Core.List.{List}
 use mathlib.Core.Path.{_≡_}
 use lib.Dec.{eqb}
 use lib.ListN.{length, getD, replicate}
-use Rattle.model.specs.Line.{job, starts, isLine, at, maxJob}
+use Rattle.model.specs.Line.{Settings, job, starts, isLine, at, maxJob}
 
 -- of the first i lines
 pub data First (f : ℕ → Bool) (p : List ℕ) (i : ℕ) : ℕ → Type 0 where
@@ -18,8 +18,8 @@ abbrev pub none-yet : List ℕ
 none-yet = replicate (suc maxJob) 0
 
 -- the first i numbers are lines, and these are their tables
-pub record Tables (D : ℕ) (p : List ℕ) (i : ℕ) (first starter : List ℕ) : Type 0 where
-  pub lines : (k : ℕ) → k < i → isLine D (at p k) ≡ true
+pub record Tables (S : Settings) (p : List ℕ) (i : ℕ) (first starter : List ℕ) : Type 0 where
+  pub lines : (k : ℕ) → k < i → isLine S (at p k) ≡ true
   pub first-long : length first ≡ suc maxJob
   pub starter-long : length starter ≡ suc maxJob
   pub firsts : (j : ℕ) → j ≤ maxJob → First (λ l. eqb (job l) j) p i (getD first j 0)

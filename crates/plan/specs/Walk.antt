@@ -9,13 +9,14 @@ use mathlib.Core.Path.{_≡_}
 use lib.Dec.{eqb, leb, ltb}
 use lib.ListN.{length, getD, set}
 use Rattle.model.specs.Answers.{refuseIf, firstRefusal}
-use Rattle.model.specs.Board.{devices}
-use Rattle.model.specs.Line.{job, operand, isTake, isGive, isStart, isLine, lineNumber, maxLines, maxJob}
+use Rattle.model.specs.Board.{devices, board}
+use Rattle.model.specs.Line.{Settings, job, operand, opens, isGive, isStart, isLine, lineNumber, maxLines, maxJob}
 use Rattle.model.specs.Sets.{empty}
 use Rattle.model.specs.WellFormed.{isLast, firstFault}
 use Rattle.model.specs.declared.Refusal.{Refusal}
 use Rattle.model.specs.declared.Refusal.the-variants.{Malformed, TooManyLines, JobOutOfSequence, BadStart}
 use Rattle.model.specs.declared.Refusal.the-variants.{GiveWithoutTake}
+use Rattle.line.specs.Device.{deviceBits}
 use Rattle.sets.specs.Both.{without}
 use Rattle.sets.specs.Only.{onlyOf}
 use Rattle.plan.specs.Checked.{checked}
@@ -32,8 +33,8 @@ placedBy i many line follows =
     (refuseIf many TooManyLines ∷ refuseIf (not line) (Malformed (lineNumber i))
     ∷ refuseIf (not follows) (JobOutOfSequence (lineNumber i)) ∷ [])
 
-unfoldable pub placeFault : ℕ → ℕ → ℕ → ℕ → Option Refusal
-placeFault D n i prev = placedBy i (leb maxLines i) (isLine D n) (eqb (job n) prev || eqb (job n) (suc prev))
+unfoldable pub placeFault : Settings → ℕ → ℕ → ℕ → Option Refusal
+placeFault S n i prev = placedBy i (leb maxLines i) (isLine S n) (eqb (job n) prev || eqb (job n) (suc prev))
 
 -- what a line leads to: the devices held, the first lines and the starters; or a refusal
 pub data Next : Type 0 where
@@ -43,9 +44,9 @@ pub data Next : Type 0 where
 -- the verb's own rule
 unfoldable pub ruleOf : ℕ → ℕ → List ℕ → List ℕ → List ℕ → Next
 ruleOf i n held first starter =
-    cond (isTake n) (on (operand n ∷ held) first starter)
+    cond (opens n) (on (deviceBits n ∷ held) first starter)
     (cond (isGive n)
-    (cond (isLast (operand n) held) (on (tail held) first starter) (bad (GiveWithoutTake (lineNumber i))))
+    (cond (isLast (deviceBits n) held) (on (tail held) first starter) (bad (GiveWithoutTake (lineNumber i))))
     (cond (isStart n)
     (cond (ltb (job n) (operand n) && eqb (getD starter (operand n) 0) 0)
     (on held first (set starter (operand n) (lineNumber i))) (bad (BadStart (lineNumber i))))
@@ -57,9 +58,9 @@ unless (some r) next = bad r
 unless none next = next
 
 -- all of it: a new job holds nothing, and has its first line here
-unfoldable pub stepOf : ℕ → ℕ → ℕ → ℕ → List ℕ → List ℕ → List ℕ → Next
-stepOf D n i prev held first starter =
-    unless (placeFault D n i prev)
+unfoldable pub stepOf : Settings → ℕ → ℕ → ℕ → List ℕ → List ℕ → List ℕ → Next
+stepOf S n i prev held first starter =
+    unless (placeFault S n i prev)
     (ruleOf i n (cond (eqb (job n) prev) held [])
     (set first (job n) (cond (eqb (job n) prev) (getD first (job n) 0) (lineNumber i))) starter)
 
@@ -76,7 +77,7 @@ pub record Stack (stack : List ℕ) : Type 0 where
 
 -- the set of the device that a line gives
 abbrev pub givenBy : ℕ → ℕ
-givenBy n = cond (isGive n) (onlyOf devices (operand n)) empty
+givenBy n = cond (isGive n) (onlyOf devices (deviceBits n)) empty
 
 -- a line gives another device than the one taken last
 abbrev pub misgiven : ℕ → ℕ → Bool
@@ -84,7 +85,7 @@ misgiven n latest = not (eqb (without (givenBy n) (onlyOf devices latest)) empty
 
 -- the depth after a line that breaks nothing
 abbrev pub depthAfter : ℕ → ℕ → ℕ
-depthAfter n depth = cond (isTake n) (depth + 1) (cond (isGive n) (depth - 1) depth)
+depthAfter n depth = cond (opens n) (depth + 1) (cond (isGive n) (depth - 1) depth)
 
 -- the whole state: beside the stack, the two tables
 pub record Walking (stack first starter : List ℕ) : Type 0 where
@@ -108,5 +109,5 @@ WalkingBy i (After.Bad r) stack first starter = Unit
 
 -- what the whole walk finds: the fault of the first line that has one, or the tables
 pub record Walked (p : List ℕ) (answer : Checked) (first starter : List ℕ) : Type 0 where
-  pub answers : answer ≡ checked (firstFault devices [] p)
-  pub tables : answer ≡ Checked.Fine → Tables devices p (length p) first starter
+  pub answers : answer ≡ checked (firstFault board [] p)
+  pub tables : answer ≡ Checked.Fine → Tables board p (length p) first starter

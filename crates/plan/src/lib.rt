@@ -16,7 +16,7 @@ ghost use lib.ListN.{length, getD};
 ghost use Rattle.model.specs.Line.{job, operand, isStart, isLine, maxLines, maxJob};
 ghost use Rattle.model.specs.Sets.{empty};
 ghost use Rattle.model.specs.WellFormed.{fault, firstFault};
-ghost use Rattle.model.specs.Board.{devices};
+ghost use Rattle.model.specs.Board.{devices, board};
 ghost use Rattle.sets.specs.Both.{differ, without};
 ghost use Rattle.plan.specs.Checked.{checked};
 ghost use Rattle.plan.specs.Tables.{none-yet};
@@ -49,12 +49,12 @@ const FLOOR: u8 = DEVICES as u8;
 // asks whether the job is the same, which cannot be foretold: the job less `prev` is 0 or 1, and that of a lower job
 // goes round the word's end and is far above.
 fn misplaced(i: usize, n: u32, prev: u32) -> Checked
-    ensures { λ r. ⌜ r ≡ checked (placeFault devices n i prev) ⌝ }
+    ensures { λ r. ⌜ r ≡ checked (placeFault board n i prev) ⌝ }
 {
     if MOST_LINES <= i {
         return Checked::Refused(Refusal::TooManyLines);
     }
-    if line::is_line(n) {
+    if line::is_line(n, false) {
         if 1 < std::num::wrapping_sub_u32(line::job(n), prev) {
             return Checked::Refused(Refusal::JobOutOfSequence((i + 1) as u32));
         }
@@ -76,21 +76,21 @@ fn deeper(depth: u32, takes: bool, gives: bool) -> u32
 fn misgives(n: u32, latest: u8) -> bool
     ensures { λ r. ⌜ r ≡ misgiven n latest ⌝ }
 {
-    let given = sets::only_if(line::is_give(n), line::operand(n));
+    let given = sets::only_if(line::is_give(n), line::device(n));
     sets::without(given, sets::only(latest as u32)) != sets::NONE
 }
 
 // What a do, a take or a give leads to, at position i, without a branch on the verb; a give is of the device taken
 // last. The operand is stacked above the open takes whatever the verb; it counts where the depth goes up.
 fn held_after(i: usize, n: u32, depth: u32, stack: &mut [u8; STACK_PLACES]) -> After
-    requires { ⌜ (i < maxLines) × (depth ≤ i) × (isLine devices n ≡ true) × (isStart n ≡ false) × Stack (now stack)
+    requires { ⌜ (i < maxLines) × (depth ≤ i) × (isLine board n ≡ true) × (isStart n ≡ false) × Stack (now stack)
         × (misgiven n (getD (now stack) depth 0) ≡ false) ⌝ }
     ensures led { λ r. ⌜ ((first starter : List ℕ) → nextBy r (now (stack .exit)) first starter
         ≡ ruleOf i n (heldIn depth (now (stack .entry))) first starter) ⌝ }
     ensures keeps { λ r. ⌜ StackBy i r (now (stack .exit)) ⌝ }
 {
-    stack[depth as usize + 1] = line::operand(n) as u8;
-    After::On(deeper(depth, line::is_take(n), line::is_give(n)))
+    stack[depth as usize + 1] = line::device(n) as u8;
+    After::On(deeper(depth, line::opens(n), line::is_give(n)))
 }
 
 // The verb's own rule, at position i. That of a give is asked first, of every verb: so the test is no branch on the
@@ -103,7 +103,7 @@ fn rule(
     stack: &mut [u8; STACK_PLACES],
     starter: &mut [u32; EACH_JOB],
 ) -> After
-    requires { ⌜ (i < maxLines) × (depth ≤ i) × (isLine devices n ≡ true) × Stack (now stack)
+    requires { ⌜ (i < maxLines) × (depth ≤ i) × (isLine board n ≡ true) × Stack (now stack)
         × (length (now starter) ≡ suc maxJob) ⌝ }
     ensures led { λ r. ⌜ ((first : List ℕ) → nextBy r (now (stack .exit)) first (now (starter .exit))
         ≡ ruleOf i n (heldIn depth (now (stack .entry))) first (now (starter .entry))) ⌝ }
@@ -138,7 +138,7 @@ fn checked_line(
 ) -> After
     requires { ⌜ (depth ≤ i) × Walking (now stack) (now first) (now starter) ⌝ }
     ensures led { λ r. ⌜ nextBy r (now (stack .exit)) (now (first .exit)) (now (starter .exit))
-        ≡ stepOf devices n i prev (heldIn depth (now (stack .entry))) (now (first .entry)) (now (starter .entry)) ⌝ }
+        ≡ stepOf board n i prev (heldIn depth (now (stack .entry))) (now (first .entry)) (now (starter .entry)) ⌝ }
     ensures keeps { λ r. ⌜ WalkingBy i r (now (stack .exit)) (now (first .exit)) (now (starter .exit)) ⌝ }
 {
     if let Checked::Refused(r) = misplaced(i, n, prev) {
@@ -159,8 +159,8 @@ fn checked_line(
 fn change(n: u32, held: Set, latest: Set) -> Set
     ensures { λ r. ⌜ r ≡ changeOf n held latest ⌝ }
 {
-    let o = line::operand(n);
-    let taken = sets::only_if(line::is_take(n), o);
+    let o = line::device(n);
+    let taken = sets::only_if(line::opens(n), o);
     let given = sets::only_if(line::is_give(n), o);
     sets::union(sets::without(taken, held), sets::both(given, latest))
 }
@@ -169,8 +169,8 @@ fn change(n: u32, held: Set, latest: Set) -> Set
 fn is_again(n: u32, changed: Set) -> bool
     ensures { λ r. ⌜ r ≡ not (eqb (handledBy n) changed) ⌝ }
 {
-    let o = line::operand(n);
-    let taken = sets::only_if(line::is_take(n), o);
+    let o = line::device(n);
+    let taken = sets::only_if(line::opens(n), o);
     let given = sets::only_if(line::is_give(n), o);
     sets::union(taken, given) != changed
 }
@@ -290,7 +290,7 @@ fn walk(
 
 // The fault of the first line that has one, whatever comes after the last line.
 pub fn lines_fault(plan: &[u32]) -> Checked
-    ensures { λ r. ⌜ r ≡ checked (firstFault devices [] (now (plan .entry))) ⌝ }
+    ensures { λ r. ⌜ r ≡ checked (firstFault board [] (now (plan .entry))) ⌝ }
 {
     let mut first = [0u32; EACH_JOB];
     let mut starter = [0u32; EACH_JOB];
@@ -414,7 +414,7 @@ pub fn scan(
 
 // The fault of a plan, if it has one.
 pub fn fault(plan: &[u32]) -> Checked
-    ensures { λ r. ⌜ r ≡ checked (fault devices (now (plan .entry))) ⌝ }
+    ensures { λ r. ⌜ r ≡ checked (fault board (now (plan .entry))) ⌝ }
 {
     let mut first = [0u32; EACH_JOB];
     let mut starter = [0u32; EACH_JOB];

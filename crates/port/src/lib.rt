@@ -7,13 +7,14 @@ use model::ReadAnswer;
 use model::TableAnswer;
 use model::VerdictAnswer;
 use model::WriteAnswer;
+ghost use Rattle.model.specs.Board.{board};
 ghost use Rattle.promises.specs.ForC.{ReadsForC, WritesForC, TablesForC, OrdersForC, MovesForC, JudgesForC};
 ghost use Rattle.promises.specs.ForC.{BuildsForC, MovesKeptForC, QuickForC};
 
 // A text into a lent list of packed numbers: the number of lines.
 #[no_mangle]
 pub extern "C" fn gimmerskip_read(text: &[u8], plan: &mut [u32]) -> u64
-    ensures { λ r. ⌜ ReadsForC (now (text .entry)) (now (plan .entry)) r (now (plan .exit)) ⌝ }
+    ensures { λ r. ⌜ ReadsForC board (now (text .entry)) (now (plan .entry)) r (now (plan .exit)) ⌝ }
 {
     match reading::read(text, plan) {
         ReadAnswer::Lines(n) => n as u64,
@@ -24,7 +25,7 @@ pub extern "C" fn gimmerskip_read(text: &[u8], plan: &mut [u32]) -> u64
 // A packed plan into a lent buffer of bytes: the number of bytes.
 #[no_mangle]
 pub extern "C" fn gimmerskip_write(plan: &[u32], text: &mut [u8]) -> u64
-    ensures { λ r. ⌜ WritesForC (now (plan .entry)) (now (text .entry)) r (now (text .exit)) ⌝ }
+    ensures { λ r. ⌜ WritesForC board (now (plan .entry)) (now (text .entry)) r (now (text .exit)) ⌝ }
 {
     match writing::write(plan, text) {
         WriteAnswer::Bytes(n) => n as u64,
@@ -35,7 +36,7 @@ pub extern "C" fn gimmerskip_write(plan: &[u32], text: &mut [u8]) -> u64
 // The table of a packed plan's claims into a lent list of sets: the number of lines.
 #[no_mangle]
 pub extern "C" fn gimmerskip_table(plan: &[u32], sets: &mut [Set]) -> u64
-    ensures { λ r. ⌜ TablesForC (now (plan .entry)) (now (sets .entry)) r (now (sets .exit)) ⌝ }
+    ensures { λ r. ⌜ TablesForC board (now (plan .entry)) (now (sets .entry)) r (now (sets .exit)) ⌝ }
 {
     match claims::table(plan, sets) {
         TableAnswer::Lines(n) => n as u64,
@@ -46,7 +47,7 @@ pub extern "C" fn gimmerskip_table(plan: &[u32], sets: &mut [Set]) -> u64
 // The verdict on a packed plan, with the order in a lent list of line numbers: the number of devices still held.
 #[no_mangle]
 pub extern "C" fn gimmerskip_verdict(plan: &[u32], order: &mut [u16]) -> u64
-    ensures { λ r. ⌜ OrdersForC (now (plan .entry)) (now (order .entry)) r (now (order .exit)) ⌝ }
+    ensures { λ r. ⌜ OrdersForC board (now (plan .entry)) (now (order .entry)) r (now (order .exit)) ⌝ }
 {
     match verdict::verdict(plan, order) {
         VerdictAnswer::Held(n) => n as u64,
@@ -58,7 +59,7 @@ pub extern "C" fn gimmerskip_verdict(plan: &[u32], order: &mut [u16]) -> u64
 // are not what they were.
 #[no_mangle]
 pub extern "C" fn gimmerskip_move(plan: &mut [u32], sets: &mut [Set], line: u32, device: u32) -> u64
-    ensures { λ r. ⌜ MovesForC (now (plan .entry)) (now (sets .entry)) line device r (now (plan .exit))
+    ensures { λ r. ⌜ MovesForC board (now (plan .entry)) (now (sets .entry)) line device r (now (plan .exit))
         (now (sets .exit)) ⌝ }
 {
     match moving::move_claim(plan, sets, line, device) {
@@ -70,7 +71,7 @@ pub extern "C" fn gimmerskip_move(plan: &mut [u32], sets: &mut [Set], line: u32,
 // An order from elsewhere, as line numbers, judged against a packed plan: 0 if it is legal.
 #[no_mangle]
 pub extern "C" fn gimmerskip_judge(plan: &[u32], order: &[u16]) -> u64
-    ensures { λ r. ⌜ JudgesForC (now (plan .entry)) (now (order .entry)) r ⌝ }
+    ensures { λ r. ⌜ JudgesForC board (now (plan .entry)) (now (order .entry)) r ⌝ }
 {
     match legal::judge(plan, order) {
         JudgeAnswer::Legal => 0,

@@ -12,11 +12,11 @@ use mathlib.Core.Path.{_≡_, refl, sym, _∙_, ap}
 use native.Mathlib.Omega.{arith}
 use lib.Dec.{lit≤, eqb}
 use lib.ListN.{length, getD, take}
-use Rattle.model.specs.Board.{devices}
+use Rattle.model.specs.Board.{devices, board}
 use Rattle.model.specs.Lists.{upFrom, positions}
 use Rattle.model.specs.Answers.{numberOf, placeOf, lineValues, readValues, writeValues, tableValues, verdictValues}
 use Rattle.model.specs.Answers.{moveValues, judgeValues}
-use Rattle.model.specs.Line.{job, isLine, lineNumber}
+use Rattle.model.specs.Line.{Settings, job, isLine, lineNumber, heldFrom}
 use Rattle.model.specs.Text.{spelt, cursorAfter, cursorFrom, lineFrom}
 use Rattle.model.specs.WellFormed.{WellFormed}
 use Rattle.model.specs.Rows.{rows}
@@ -33,20 +33,19 @@ use Rattle.model.specs.declared.VerdictAnswer.{VerdictAnswer}
 use Rattle.model.specs.declared.MoveAnswer.{MoveAnswer}
 use Rattle.model.specs.declared.JudgeAnswer.{JudgeAnswer}
 use Rattle.theory.specs.WellFormed.{Broken}
-use Rattle.theory.specs.Verdict.{NoOrderBy, twice, back}
+use Rattle.theory.specs.Verdict.{NoOrderBy, twice, back, NoOrder, byRows, byHeld}
 use Rattle.theory.specs.Text.{TextBroken, tooLong, spells}
 use Rattle.theory.specs.Judged.{LegalEntries}
 use Rattle.theory.proofs.Answers.{number-range, one-refusal}
 use Rattle.theory.proofs.Lists.{those-length}
-use Rattle.theory.proofs.Line.{line-parts}
-use Rattle.theory.proofs.WellFormed.{take-line}
+use Rattle.theory.proofs.Line.{line-parts, take-line}
 use Rattle.theory.proofs.Claims.{length-upFrom}
 use Rattle.theory.proofs.Way.{may-change-line}
 use Rattle.theory.proofs.Move.{asked-take, nearest-may-change}
 use Rattle.theory.proofs.Text.{text-length}
 use Rattle.theory.proofs.Reader.{RightAnswer, next-right}
 use Rattle.theory.proofs.Offsets.{StandsAt, from-stands, one-past}
-use Rattle.theory.proofs.Judged.{stray-exactly, stray-bounds}
+use Rattle.theory.proofs.Judged.{stray-exactly, stray-bounds, steps-few}
 use Rattle.theory.proofs.Printed.{broken-bounds, held-few}
 use Rattle.model.specs.InOne.{half, inOne}
 use Rattle.promises.specs.Outcome.{MeetsInOne, faulty, short, further, NoFurther}
@@ -148,56 +147,61 @@ module _ {A L S : Type 0} {B F : Refusal → Type 0} (e : Entry A L S B F) (s : 
 -- ---- the entries
 
 -- a plan's faults are at lines of at most 1,025
-fault-small : (p : List ℕ) (r : Refusal) → Broken devices p r → placeOf r < half
-fault-small p r b = omega (arith, broken-bounds devices p r b .1)
+fault-small : (S : Settings) (p : List ℕ) (r : Refusal) → Broken S p r → placeOf r < half
+fault-small S p r b = omega (arith, broken-bounds S p r b .1)
 
-pub read-number : (text lent : List ℕ) (n : ℕ) (left : List ℕ) → ReadsForC text lent n left
-    → ReadOff readValues ReadAnswer.Lines ReadAnswer.Refused (reading devices text lent) lent n left
+pub read-number : (S : Settings) (text lent : List ℕ) (n : ℕ) (left : List ℕ) → ReadsForC S text lent n left
+    → ReadOff readValues ReadAnswer.Lines ReadAnswer.Refused (reading S text lent) lent n left
 unfolding reading
-read-number text lent = says (readEntry text lent) (record {
+read-number S text lent = says (readEntry S text lent) (record {
   broken = text-small;
   needed = λ w. omega (arith, w .1 .few);
   further = λ w r f. absurd f;
   count = λ w. omega (arith, w .1 .few);
 })
   where
-    text-small : (r : Refusal) → TextBroken devices text r → placeOf r < half
+    text-small : (r : Refusal) → TextBroken S text r → placeOf r < half
     text-small r (tooLong h) = omega arith
-    text-small r (spells q h b) = fault-small (spelt devices text) q b
+    text-small r (spells q h b) = fault-small S (spelt S text) q b
 
-pub write-number : (plan lent : List ℕ) (n : ℕ) (left : List ℕ) → WritesForC plan lent n left
-    → ReadOff writeValues WriteAnswer.Bytes WriteAnswer.Refused (writing devices plan lent) lent n left
+pub write-number : (S : Settings) (plan lent : List ℕ) (n : ℕ) (left : List ℕ) → WritesForC S plan lent n left
+    → ReadOff writeValues WriteAnswer.Bytes WriteAnswer.Refused (writing S plan lent) lent n left
 unfolding writing
-write-number plan lent = says (writeEntry plan lent) (record {
-  broken = fault-small plan;
-  needed = λ w. omega (arith, w .few, text-length devices plan (w .lines));
+write-number S plan lent = says (writeEntry S plan lent) (record {
+  broken = fault-small S plan;
+  needed = λ w. omega (arith, w .few, text-length S plan (w .lines));
   further = λ w r f. absurd f;
-  count = λ w. omega (arith, w .few, text-length devices plan (w .lines));
+  count = λ w. omega (arith, w .few, text-length S plan (w .lines));
 })
 
-pub table-number : (plan lent : List ℕ) (n : ℕ) (left : List ℕ) → TablesForC plan lent n left
-    → ReadOff tableValues TableAnswer.Lines TableAnswer.Refused (tabling devices plan lent) lent n left
+pub table-number : (S : Settings) (plan lent : List ℕ) (n : ℕ) (left : List ℕ) → TablesForC S plan lent n left
+    → ReadOff tableValues TableAnswer.Lines TableAnswer.Refused (tabling S plan lent) lent n left
 unfolding tabling
-table-number plan lent = says (table.entry plan lent) (record {
-  broken = fault-small plan;
+table-number S plan lent = says (table.entry S plan lent) (record {
+  broken = fault-small S plan;
   needed = λ w. omega (arith, w .few);
   further = λ w r f. absurd f;
   count = λ w. omega (arith, w .few);
 })
 
 -- 9 and 10 are at devices
-device-small : (p rs : List ℕ) (r : Refusal) → NoOrderBy devices p rs r → placeOf r < half
-device-small p rs r (twice d h l f) = omega arith
-device-small p rs r (back d f h l g) = omega arith
+device-small : (D : ℕ) → D ≤ heldFrom → (p rs : List ℕ) (r : Refusal) → NoOrderBy D p rs r → placeOf r < half
+device-small D small p rs r (twice d h l f) = omega arith
+device-small D small p rs r (back d f h l g) = omega arith
 
-pub verdict-number : (plan lent : List ℕ) (n : ℕ) (left : List ℕ) → OrdersForC plan lent n left
-    → ReadOff verdictValues VerdictAnswer.Held VerdictAnswer.Refused (ordering devices plan lent) lent n left
+no-order-small : (D : ℕ) → D ≤ heldFrom → (p : List ℕ) (r : Refusal) → NoOrder D p r → placeOf r < half
+no-order-small D small p r (byRows q n) = device-small D small p (rows D p) q n
+no-order-small D small p r (byHeld d t b h l n f) = omega arith
+
+pub verdict-number : (S : Settings) → S .devices ≤ heldFrom → (plan lent : List ℕ) (n : ℕ) (left : List ℕ)
+    → OrdersForC S plan lent n left
+    → ReadOff verdictValues VerdictAnswer.Held VerdictAnswer.Refused (ordering S plan lent) lent n left
 unfolding ordering
-verdict-number plan lent = says (verdict.entry plan lent) (record {
-  broken = fault-small plan;
-  needed = λ w. omega (arith, w .few);
-  further = λ w. device-small plan (rows devices plan);
-  count = λ w. omega (arith, held-few devices plan);
+verdict-number S small plan lent = says (verdict.entry S plan lent) (record {
+  broken = fault-small S plan;
+  needed = λ w. omega (arith, w .few, steps-few plan);
+  further = λ w. no-order-small (S .devices) small plan;
+  count = λ w. omega (arith, held-few (S .devices) plan);
 })
 
 -- what is read off the quick verdict's number is its answer
@@ -209,9 +213,9 @@ quick-number plan rs n m =
     let r =
     says (kept.quickEntry plan rs)
     (record {
-      broken = fault-small plan;
+      broken = fault-small board plan;
       needed = λ w. omega arith;
-      further = λ w. device-small plan (take devices rs);
+      further = λ w. device-small devices (lit≤ tt) plan (take devices rs);
       count = λ w. omega (arith, those-length (lastsIn plan) (upFrom 0 devices), length-upFrom 0 devices);
     })
     n tt
@@ -236,7 +240,7 @@ build-number plan sets rs held n sets′ rs′ held′ =
     let lent = beside sets rs held in
     rw (kept.building-is plan lent)
     (says (kept.buildEntry plan lent) (record {
-      broken = fault-small plan;
+      broken = fault-small board plan;
       needed = λ w. omega (arith, w .few);
       further = λ w. after-table-small lent NoFurther (λ r f. absurd f);
       count = λ w. omega (arith, w .few);
@@ -252,9 +256,12 @@ changed-few p t u =
       length-upFrom 0 (length p),
     )
 
+count-small : (S : Settings) (p t : List ℕ) → WellFormed S p → (u : List ℕ) → changed p t u < half
+count-small S p t w u = omega (arith, w .few, changed-few p t u)
+
 -- line and device are numbers of 32 bits
-module _ (p t : List ℕ) (line device : ℕ) (lineSmall : line < half) (deviceSmall : device < half) where
-  not-moved-small : WellFormed devices p → (r : Refusal) → NotMoved p t line device r → placeOf r < half
+module _ (S : Settings) (p t : List ℕ) (line device : ℕ) (lineSmall : line < half) (deviceSmall : device < half) where
+  not-moved-small : WellFormed S p → (r : Refusal) → NotMoved S p t line device r → placeOf r < half
   unfolding lineNumber
   not-moved-small w r (notATake x) = lineSmall
   not-moved-small w r (noSuchDevice x h) = deviceSmall
@@ -263,22 +270,20 @@ module _ (p t : List ℕ) (line device : ℕ) (lineSmall : line < half) (deviceS
       let inPlan = take-line p i (asked-take p line x) in
       omega (arith, may-change-line p i inPlan k (nearest-may-change p t i k s), w .few)
 
-  count-small : WellFormed devices p → (u : List ℕ) → changed p t u < half
-  count-small w u = omega (arith, w .few, changed-few p t u)
-
-  pub move-number : (n : ℕ) (p′ t′ : List ℕ) → MovesForC p t line device n p′ t′
-      → ReadOff moveValues MoveAnswer.Changed MoveAnswer.Refused (moving devices p t line device)
+  pub move-number : (n : ℕ) (p′ t′ : List ℕ) → MovesForC S p t line device n p′ t′
+      → ReadOff moveValues MoveAnswer.Changed MoveAnswer.Refused (moving S p t line device)
       (record { plan = p; sets = t }) n (record { plan = p′; sets = t′ })
   unfolding moving moveRefusal
   move-number n p′ t′ =
-      says (move.entry p t line device) (record {
-        broken = fault-small p;
+      says (move.entry S p t line device) (record {
+        broken = fault-small S p;
         needed = λ w. omega (arith, w .few);
         further = not-moved-small;
-        count = λ w. count-small w (rewritten (edited p (askedAt line) device) t (fromLast p (askedAt line)));
+        count = λ w. count-small S p t w (rewritten (edited p (askedAt line) device) t (fromLast p (askedAt line)));
       })
       n (record { plan = p′; sets = t′ })
 
+module _ (p t : List ℕ) (line device : ℕ) (lineSmall : line < half) (deviceSmall : device < half) where
   pub move-kept-number : (rs held : List ℕ) (n : ℕ) (p′ t′ rs′ held′ : List ℕ)
       → MovesKeptForC p t rs held line device n p′ t′ rs′ held′
       → ReadOff moveValues MoveAnswer.Changed MoveAnswer.Refused
@@ -288,40 +293,44 @@ module _ (p t : List ℕ) (line device : ℕ) (lineSmall : line < half) (deviceS
       let lent = beside t rs held in
       rw (kept.moving-is p lent line device)
       (says (kept.moveEntry p lent line device) (record {
-        broken = fault-small p;
+        broken = fault-small board p;
         needed = λ w. omega (arith, w .few);
-        further = λ w. after-table-small lent (NotMoved p t line device) (not-moved-small w);
-        count = λ w. count-small w (rewritten (edited p (askedAt line) device) t (fromLast p (askedAt line)));
+        further = λ w. after-table-small lent (NotMoved board p t line device)
+            (not-moved-small board p t line device lineSmall deviceSmall w);
+        count = λ w. count-small board p t w
+            (rewritten (edited p (askedAt line) device) t (fromLast p (askedAt line)));
       })
       n (record { plan = p′; beside = beside t′ rs′ held′ }))
 
 -- ---- the line entry
 
 -- a line's number is not 0, and has 32 bits
-line-small : (n : ℕ) → isLine devices n ≡ true → (0 < n) × (n < half)
+line-small : (S : Settings) (n : ℕ) → isLine S n ≡ true → (0 < n) × (n < half)
 unfolding job
-line-small n h = let r = line-parts devices n h in (omega (arith, r .0), omega (arith, r .1))
+line-small S n h = let r = line-parts S n h in (omega (arith, r .0), omega (arith, r .1))
 
-pub line-number : (text : List ℕ) (offset n : ℕ) → HandsOutForC text offset n
-    → LineStandsFor n (lineFrom devices text offset)
+pub line-number : (S : Settings) → S .devices ≤ heldFrom → (text : List ℕ) (offset n : ℕ)
+    → HandsOutForC S text offset n
+    → LineStandsFor n (lineFrom S text offset)
 unfolding lineFrom
-line-number text offset n m =
-    go (lineFrom devices text offset) (next-right devices (lit≤ tt) text (cursorFrom text offset)) (m .answers)
+line-number S small text offset n m =
+    go (lineFrom S text offset) (next-right S small text (cursorFrom text offset)) (m .answers)
   where
-    go : (a : LineAnswer) → RightAnswer devices a → n ≡ inOne (lineValues a) → LineStandsFor n a
+    go : (a : LineAnswer) → RightAnswer S a → n ≡ inOne (lineValues a) → LineStandsFor n a
     go (LineAnswer.Line l next) h e =
         let z : l ≡ n = omega arith in
-        let b = line-small l h in
+        let b = line-small S l h in
         rw z (aLine next (omega (arith, b .0)) (omega (arith, b .1)))
     go (LineAnswer.Refused r) h e =
         noLine r (omega (arith, number-range r .0)) (omega (arith, h .1)) (omega (arith, h .1))
     go LineAnswer.End h e = theEnd e
 
 -- 0 exactly at the end
-pub end-exactly : (text : List ℕ) (offset n : ℕ) → HandsOutForC text offset n
-    → (n ≡ 0) ↔ (lineFrom devices text offset ≡ LineAnswer.End)
-end-exactly text offset n m =
-    (λ e. go e (lineFrom devices text offset) (line-number text offset n m), λ e. rw e at (m .answers))
+pub end-exactly : (S : Settings) → S .devices ≤ heldFrom → (text : List ℕ) (offset n : ℕ)
+    → HandsOutForC S text offset n
+    → (n ≡ 0) ↔ (lineFrom S text offset ≡ LineAnswer.End)
+end-exactly S small text offset n m =
+    (λ e. go e (lineFrom S text offset) (line-number S small text offset n m), λ e. rw e at (m .answers))
   where
     go : n ≡ 0 → (a : LineAnswer) → LineStandsFor n a → a ≡ LineAnswer.End
     go e a (theEnd h) = refl
@@ -330,14 +339,15 @@ end-exactly text offset n m =
 
 -- Asked again and again by the numbers alone, past the newline of each line that came, it is the reader of a text and
 -- an offset that is asked so.
-module _ (text : List ℕ) (offset number : ℕ → ℕ) (asked : AskedForC text offset number) where
-  pub asked-so : Asked text offset (λ k. lineFrom devices text (offset k))
+module _ (S : Settings) (small : S .devices ≤ heldFrom) (text : List ℕ) (offset number : ℕ → ℕ)
+    (asked : AskedForC S text offset number) where
+  pub asked-so : Asked S text offset (λ k. lineFrom S text (offset k))
   unfolding cursorAfter cursorFrom
   asked-so = record {
     begins = asked .begins;
     answers = λ k. refl;
-    goesOn = λ k. go k (lineFrom devices text (offset k)) (line-number text (offset k) (number k) (asked .answers k))
-        (from-stands devices text (offset k));
+    goesOn = λ k. go k (lineFrom S text (offset k)) (line-number S small text (offset k) (number k) (asked .answers k))
+        (from-stands S text (offset k));
   }
     where
       go : (k : ℕ) (a : LineAnswer) → LineStandsFor (number k) a → StandsAt text (offset k) a
@@ -348,10 +358,10 @@ module _ (text : List ℕ) (offset number : ℕ → ℕ) (asked : AskedForC text
       go k a (noLine r h f g) s = asked .refused k h
 
   -- and a text that is read comes number by number, and then noughts
-  pub numbers-come : (lent left : List ℕ) (n : ℕ) → ReadsAs text lent (ReadAnswer.Lines n) left
+  pub numbers-come : (lent left : List ℕ) (n : ℕ) → ReadsAs S text lent (ReadAnswer.Lines n) left
       → ((i : ℕ) → i < n → number i ≡ getD left i 0) × ((k : ℕ) → n ≤ k → number k ≡ 0)
   numbers-come lent left n m =
-      let r = read-line-by-line text offset (λ k. lineFrom devices text (offset k)) asked-so lent left n m in (
+      let r = read-line-by-line S text offset (λ k. lineFrom S text (offset k)) asked-so lent left n m in (
         λ i h. let q = r .0 i h in asked .answers i .answers ∙ rw (q .1) (omega arith),
         λ k h. asked .answers k .answers ∙ rw (r .1 k h),
       )
@@ -367,35 +377,35 @@ one-judge-number n a b (notPassed r h f g) (notPassed s k u v) =
     ap JudgeAnswer.Refused (one-refusal r s (f ∙ sym u) (g ∙ sym v))
 
 -- a list goes wrong at most one past as many entries as there are lines
-not-passed-small : (plan entries : List ℕ) (r : Refusal) → NotPassed plan entries r → placeOf r < half
-not-passed-small plan entries r (judge.faulty q b) = fault-small plan q b
-not-passed-small plan entries r (judge.astray q w s) =
+not-passed-small : (S : Settings) (plan entries : List ℕ) (r : Refusal) → NotPassed S plan entries r → placeOf r < half
+not-passed-small S plan entries r (judge.faulty q b) = fault-small S plan q b
+not-passed-small S plan entries r (judge.astray q w s) =
     omega (arith, w .few, stray-bounds plan entries q (stray-exactly plan entries q .1 s) .0)
 
-module _ (plan entries : List ℕ) (n : ℕ) (m : JudgesForC plan entries n) where
+module _ (S : Settings) (plan entries : List ℕ) (n : ℕ) (m : JudgesForC S plan entries n) where
   -- what a caller reads off is the answer of the judge behind
-  pub judge-number : (a : JudgeAnswer) × JudgesAs plan entries a × JudgeStandsFor n a
+  pub judge-number : (a : JudgeAnswer) × JudgesAs S plan entries a × JudgeStandsFor n a
   judge-number =
-      let a = judging devices plan entries in
-      let behind : JudgesAs plan entries a = record { answers = refl } in (a, behind, go a behind (m .answers))
+      let a = judging S plan entries in
+      let behind : JudgesAs S plan entries a = record { answers = refl } in (a, behind, go a behind (m .answers))
     where
-      go : (a : JudgeAnswer) → JudgesAs plan entries a → n ≡ inOne (judgeValues a) → JudgeStandsFor n a
+      go : (a : JudgeAnswer) → JudgesAs S plan entries a → n ≡ inOne (judgeValues a) → JudgeStandsFor n a
       go JudgeAnswer.Legal j e = aLegal e
       go (JudgeAnswer.Refused r) j e =
-          let no = refused-exactly plan entries (JudgeAnswer.Refused r) j r .0 refl in
-          let small = not-passed-small plan entries r no in
+          let no = refused-exactly S plan entries (JudgeAnswer.Refused r) j r .0 refl in
+          let small = not-passed-small S plan entries r no in
           notPassed r (omega (arith, number-range r .0)) (omega arith) (omega arith)
 
   -- 0 exactly of a legal order, and a plan without a fault
-  pub legal-exactly : (n ≡ 0) ↔ (WellFormed devices plan × LegalEntries plan entries)
+  pub legal-exactly : (n ≡ 0) ↔ (WellFormed S plan × LegalEntries plan entries)
   legal-exactly = let r = judge-number in (
     λ e. to (r .0) (r .1) e (r .2),
-    λ l. from (r .0) (accepted-exactly plan entries (r .0) (r .1) .1 l) (r .2),
+    λ l. from (r .0) (accepted-exactly S plan entries (r .0) (r .1) .1 l) (r .2),
   )
     where
-      to : (a : JudgeAnswer) → JudgesAs plan entries a → n ≡ 0 → JudgeStandsFor n a
-          → WellFormed devices plan × LegalEntries plan entries
-      to a j e (aLegal f) = accepted-exactly plan entries a j .0 refl
+      to : (a : JudgeAnswer) → JudgesAs S plan entries a → n ≡ 0 → JudgeStandsFor n a
+          → WellFormed S plan × LegalEntries plan entries
+      to a j e (aLegal f) = accepted-exactly S plan entries a j .0 refl
       to a j e (notPassed r h f g) = absurd (omega arith)
 
       from : (a : JudgeAnswer) → a ≡ JudgeAnswer.Legal → JudgeStandsFor n a → n ≡ 0

@@ -10,8 +10,8 @@ use mathlib.Core.Path.{_≡_, refl, sym, _∙_, ap}
 use native.Mathlib.Omega.{arith}
 use lib.ListN.{getD}
 use Rattle.model.specs.Lists.{has}
+use Rattle.model.specs.Line.{Settings}
 use Rattle.model.specs.Answers.{numberOf, placeOf}
-use Rattle.model.specs.Board.{devices}
 use Rattle.model.specs.Text.{tab, newline, number, decimal, isDigit, fieldsOf, tabbed}
 use Rattle.model.specs.Printed.{refusedWord, printedLine, printedRefusal}
 use Rattle.model.specs.Judged.{judgedBy, judgeTextRefusal, legalLine, judgeLine, judgePrinted}
@@ -56,7 +56,7 @@ not-legal r e = let z : _≡_ {A = ℕ} 108 114 = ap (λ (l : List ℕ). getD l 
 
 -- ---- what is printed
 
-module _ (text : List ℕ) where
+module _ (S : Settings) (text : List ℕ) where
   legal-line : (o : Option Refusal) → judgeLine (judgedBy o) ≡ legalLine → o ≡ none
   unfolding judgeLine judgedBy
   legal-line none e = refl
@@ -67,17 +67,17 @@ module _ (text : List ℕ) where
   refused-line none r e = absurd (not-legal r e)
   refused-line (some s) r e = ap {B = Option Refusal} some (one-line-each s r e)
 
-  pub legal-printed-exactly : (judgePrinted devices text ≡ legalLine) ↔ TextPasses devices text
+  pub legal-printed-exactly : (judgePrinted S text ≡ legalLine) ↔ TextPasses S text
   unfolding judgePrinted judgeLine judgedBy
   legal-printed-exactly = (
-    λ e. text-passes-exactly devices text .0 (legal-line (judgeTextRefusal devices text) e),
-    λ t. rw (text-passes-exactly devices text .1 t),
+    λ e. text-passes-exactly S text .0 (legal-line (judgeTextRefusal S text) e),
+    λ t. rw (text-passes-exactly S text .1 t),
   )
 
   pub refusal-printed-exactly : (r : Refusal)
-      → (judgePrinted devices text ≡ printedRefusal r) ↔ TextWrong devices text r
+      → (judgePrinted S text ≡ printedRefusal r) ↔ TextWrong S text r
   unfolding judgePrinted judgeLine judgedBy
   refusal-printed-exactly r = (
-    λ e. text-refused-exactly devices text r .0 (refused-line (judgeTextRefusal devices text) r e),
-    λ w. rw (text-refused-exactly devices text r .1 w),
+    λ e. text-refused-exactly S text r .0 (refused-line (judgeTextRefusal S text) r e),
+    λ w. rw (text-refused-exactly S text r .1 w),
   )

@@ -24,7 +24,7 @@ use Rattle.model.specs.Entries.{Outcome, Lent, outcome, moving}
 use Rattle.model.specs.Kept.{heldNumber, Beside, besideOf, overAll, roomFor, building}
 use Rattle.model.specs.Kept.{concerned, keptRows, keptHeld, keptRefusal, besideAfter, LentBeside, movingKept}
 use Rattle.model.specs.Kept.{quickRefusal, quickBy, quick}
-use Rattle.model.specs.Board.{devices}
+use Rattle.model.specs.Board.{devices, board}
 use Rattle.model.specs.declared.Refusal.{Refusal}
 use Rattle.model.specs.declared.Refusal.the-variants.{ListTooShort}
 use Rattle.model.specs.declared.TableAnswer.{TableAnswer}
@@ -36,7 +36,7 @@ use Rattle.theory.specs.Move.{differing, Ask}
 use Rattle.theory.specs.Kept.{Own, lessRows, withoutRows, WritesOnly, MadeBy, StepKept, refused, accepted}
 use Rattle.theory.specs.Kept.{movedKept, movedKeptBy, StillOwn}
 use Rattle.theory.proofs.Answers.{one-verdict-answer, one-move-answer, none-refuses, long-enough}
-use Rattle.theory.proofs.WellFormed.{fault-exactly, no-fault-exactly, broken-number}
+use Rattle.theory.proofs.WellFormed.{fault-exactly, no-fault-exactly, morning-number}
 use Rattle.theory.proofs.Claims.{length-table}
 use Rattle.theory.proofs.OnlyIf.{length-rows}
 use Rattle.theory.proofs.Verdict.{view-by, seen-exactly}
@@ -97,23 +97,23 @@ one-by-one none none none (some r) tests = refl
 one-by-one none none none none tests = refl
 
 rooms-one-by-one : (p : List ℕ) (lent : Beside) (tests : List (Option Refusal))
-    → firstRefusal (fault devices p ∷ roomFor devices p lent ∷ tests)
-    ≡ firstRefusal (fault devices p ∷ tooShort (length (lent .sets)) (length p) ∷ laterRooms lent tests)
+    → firstRefusal (fault board p ∷ roomFor devices p lent ∷ tests)
+    ≡ firstRefusal (fault board p ∷ tooShort (length (lent .sets)) (length p) ∷ laterRooms lent tests)
 unfolding roomFor
 rooms-one-by-one p lent tests =
-    one-by-one (fault devices p) (tooShort (length (lent .sets)) (length p)) (tooShort (length (lent .rows)) devices)
+    one-by-one (fault board p) (tooShort (length (lent .sets)) (length p)) (tooShort (length (lent .rows)) devices)
     (tooShort (length (lent .held)) 1) tests
 
 -- ---- building
 
 abbrev pub buildEntry : (plan : List ℕ) (lent : Beside)
-    → Entry TableAnswer Beside (WellFormed devices plan) (Broken devices plan) (AfterTable lent NoFurther)
+    → Entry TableAnswer Beside (WellFormed board plan) (Broken board plan) (AfterTable lent NoFurther)
 buildEntry plan lent = record {
   answers = tables;
-  fault = fault devices plan;
+  fault = fault board plan;
   rest = laterRooms lent [];
-  sound = no-fault-exactly devices plan;
-  broken = fault-exactly devices plan;
+  sound = no-fault-exactly board plan;
+  broken = fault-exactly board plan;
   beyond = λ w. later-exactly lent [] NoFurther none-after;
   room = length (lent .sets);
   needed = length plan;
@@ -183,14 +183,14 @@ module _ (plan : List ℕ) (lent : Beside) where
 
   -- a plan without a fault is built exactly if there is room, and that it is so is promised
   pub built-exactly : (a : TableAnswer) (left : Beside) → BuildsWith plan lent a left
-      → ((n : ℕ) × (a ≡ TableAnswer.Lines n)) ↔ (WellFormed devices plan × HasRoom plan lent)
+      → ((n : ℕ) × (a ≡ TableAnswer.Lines n)) ↔ (WellFormed board plan × HasRoom plan lent)
   built-exactly a left m =
       let d = one.done-exactly (buildEntry plan lent) a left (rw building-is at m) in (
         λ h. let p = d .0 h in let r = rooms-passed lent [] (p .2) in (p .0, (p .1, r .0, r .1)),
         λ h. d .1 (h .0, h .1 .0, rooms-pass lent (h .1 .1) (h .1 .2)),
       )
 
-  pub builds-with : (left : Beside) → WellFormed devices plan → HasRoom plan lent
+  pub builds-with : (left : Beside) → WellFormed board plan → HasRoom plan lent
       → left ≡ overAll (besideOf devices plan) lent → BuildsWith plan lent (TableAnswer.Lines (length plan)) left
   builds-with left w h e =
       rw building-is
@@ -207,14 +207,14 @@ module _ (plan : List ℕ) (lent : Beside) where
 -- ---- the quick verdict
 
 abbrev pub quickEntry : (plan rs : List ℕ)
-    → Entry VerdictAnswer (Unit {0}) (WellFormed devices plan) (Broken devices plan)
+    → Entry VerdictAnswer (Unit {0}) (WellFormed board plan) (Broken board plan)
     (NoOrderBy devices plan (take devices rs))
 quickEntry plan rs = record {
   answers = orders;
-  fault = fault devices plan;
+  fault = fault board plan;
   rest = twoLasting devices plan ∷ circleOf devices (take devices rs) ∷ [];
-  sound = no-fault-exactly devices plan;
-  broken = fault-exactly devices plan;
+  sound = no-fault-exactly board plan;
+  broken = fault-exactly board plan;
   beyond = λ w. seen-exactly devices plan (take devices rs)
       (firstRefusal (twoLasting devices plan ∷ circleOf devices (take devices rs) ∷ []))
       (view-by devices plan (take devices rs));
@@ -258,18 +258,18 @@ module _ (plan rs : List ℕ) where
 -- ---- any move
 
 abbrev pub moveEntry : (p : List ℕ) (lent : Beside) (line device : ℕ)
-    → Entry MoveAnswer LentBeside (WellFormed devices p) (Broken devices p)
-    (AfterTable lent (NotMoved p (lent .sets) line device))
+    → Entry MoveAnswer LentBeside (WellFormed board p) (Broken board p)
+    (AfterTable lent (NotMoved board p (lent .sets) line device))
 moveEntry p lent line device =
     let new : Beside = besideAfter devices p lent (askedAt line) device in
     record {
       answers = moves;
-      fault = fault devices p;
-      rest = laterRooms lent (move.rest p (lent .sets) line device);
-      sound = no-fault-exactly devices p;
-      broken = fault-exactly devices p;
-      beyond = λ w. later-exactly lent (move.rest p (lent .sets) line device) (NotMoved p (lent .sets) line device)
-          (move.not-moved-exactly p (lent .sets) line device);
+      fault = fault board p;
+      rest = laterRooms lent (move.rest board p (lent .sets) line device);
+      sound = no-fault-exactly board p;
+      broken = fault-exactly board p;
+      beyond = λ w. later-exactly lent (move.rest board p (lent .sets) line device)
+          (NotMoved board p (lent .sets) line device) (move.not-moved-exactly board p (lent .sets) line device);
       room = length (lent .sets);
       needed = length p;
       count = changed p (lent .sets) (new .sets);
@@ -280,7 +280,7 @@ moveEntry p lent line device =
 module _ (p : List ℕ) (lent : Beside) (line device : ℕ) where
   pub moving-is : movingKept devices p lent line device ≡ one.outcomeOf (moveEntry p lent line device)
   unfolding movingKept keptRefusal
-  moving-is = rw (rooms-one-by-one p lent (move.rest p (lent .sets) line device))
+  moving-is = rw (rooms-one-by-one p lent (move.rest board p (lent .sets) line device))
 
   abbrev left : List ℕ → Beside → LentBeside
   left p′ b = record { plan = p′; beside = b }
@@ -299,7 +299,7 @@ module _ (p : List ℕ) (lent : Beside) (line device : ℕ) where
 
   -- whatever rows and held set are lent, given room: answer, plan and table are what a move without them promises
   pub moves-as-before : devices ≤ length (lent .rows) → 1 ≤ length (lent .held) → (a : MoveAnswer) (p′ : List ℕ)
-      (b : Beside) → MovesKeptWith p lent line device a p′ b → MovesAs p (lent .sets) line device a p′ (b .sets)
+      (b : Beside) → MovesKeptWith p lent line device a p′ b → MovesAs board p (lent .sets) line device a p′ (b .sets)
   unfolding withoutRows lessRows
   moves-as-before h k a p′ b m =
       let e = as-before devices p lent line device h k in
@@ -330,18 +330,18 @@ module _ (p : List ℕ) (lent : Beside) (line device : ℕ) where
       → MovesKeptWith p lent line device (MoveAnswer.Refused r) p′ b → (numberOf r ≢ 9) × (numberOf r ≢ 10)
   no-verdict-bars r p′ b m = go r (move-refused-leaves r p′ b m .listed)
     where
-      far : (r : Refusal) → NotMoved p (lent .sets) line device r → 12 ≤ numberOf r
+      far : (r : Refusal) → NotMoved board p (lent .sets) line device r → 12 ≤ numberOf r
       far r (notATake x) = omega arith
       far r (noSuchDevice x h) = omega arith
       far r (staleTable k x h s) = omega arith
 
-      later : (r : Refusal) → AfterTable lent (NotMoved p (lent .sets) line device) r → 11 ≤ numberOf r
+      later : (r : Refusal) → AfterTable lent (NotMoved board p (lent .sets) line device) r → 11 ≤ numberOf r
       later r (alsoShort h) = omega arith
       later r (beyond q h (alsoShort k)) = omega arith
       later r (beyond q h (beyond s k f)) = omega (arith, far s f)
 
       go : (r : Refusal) → NoMoveKept p lent line device r → (numberOf r ≢ 9) × (numberOf r ≢ 10)
-      go r (faulty s b) = let n = broken-number devices p s b in (λ e. omega arith, λ e. omega arith)
+      go r (faulty s b) = let n = morning-number devices p s b in (λ e. omega arith, λ e. omega arith)
       go r (short w h) = (λ e. omega arith, λ e. omega arith)
       go r (further s w h f) = let n = later s f in (λ e. omega arith, λ e. omega arith)
 
@@ -359,9 +359,9 @@ module _ (p : List ℕ) (lent : Beside) (line device : ℕ) where
   abbrev i : ℕ
   i = askedAt line
 
-  abbrev plainEntry : Entry MoveAnswer Lent (WellFormed devices p) (Broken devices p)
-      (NotMoved p (lent .sets) line device)
-  plainEntry = move.entry p (lent .sets) line device
+  abbrev plainEntry : Entry MoveAnswer Lent (WellFormed board p) (Broken board p)
+      (NotMoved board p (lent .sets) line device)
+  plainEntry = move.entry board p (lent .sets) line device
 
   abbrev new : LentBeside
   new = moveEntry p lent line device .new
@@ -384,16 +384,17 @@ module _ (p : List ℕ) (lent : Beside) (line device : ℕ) where
       new h refl
 
   -- where building would be refused, so is the move
-  pub met-as-building : (r : Refusal) → firstRefusal (fault devices p ∷ roomFor devices p lent ∷ []) ≡ some r
+  pub met-as-building : (r : Refusal) → firstRefusal (fault board p ∷ roomFor devices p lent ∷ []) ≡ some r
       → MovesKeptWith p lent line device (MoveAnswer.Refused r) p lent
   unfolding keptRefusal
   met-as-building r h =
       met-by-refusal r
-      (refused-early (fault devices p) (roomFor devices p lent) (move.rest p (lent .sets) line device) r h)
+      (refused-early (fault board p) (roomFor devices p lent) (move.rest board p (lent .sets) line device) r h)
 
   module _ (rowsRoom : devices ≤ length (lent .rows)) (heldRoom : 1 ≤ length (lent .held)) where
     -- a move without rows was refused: nothing more is written
-    pub met-refused : (r : Refusal) (p′ t′ : List ℕ) → MovesAs p (lent .sets) line device (MoveAnswer.Refused r) p′ t′
+    pub met-refused : (r : Refusal) (p′ t′ : List ℕ)
+        → MovesAs board p (lent .sets) line device (MoveAnswer.Refused r) p′ t′
         → MovesKeptWith p lent line device (MoveAnswer.Refused r) p′ (beside t′ (lent .rows) (lent .held))
     unfolding moving moveRefusal
     met-refused r p′ t′ m =
@@ -403,7 +404,7 @@ module _ (p : List ℕ) (lent : Beside) (line device : ℕ) where
         (same-tests devices p lent line device rowsRoom heldRoom ∙ one.listed-exactly plainEntry r .1 (e .listed)))
 
     -- it was accepted: the rows of the devices concerned are written, and two bits of the held set
-    pub met-accepted : (n : ℕ) (p′ t′ : List ℕ) → MovesAs p (lent .sets) line device (MoveAnswer.Changed n) p′ t′
+    pub met-accepted : (n : ℕ) (p′ t′ : List ℕ) → MovesAs board p (lent .sets) line device (MoveAnswer.Changed n) p′ t′
         → MovesKeptWith p lent line device (MoveAnswer.Changed n) p′
         (beside t′ (over (keptRows devices p′ t′ (concerned p i device) (lent .rows)) (lent .rows))
         (over (keptHeld p′ (deviceAt p i) device (getD (lent .held) 0 0) ∷ []) (lent .held)))
@@ -422,7 +423,7 @@ own-has-room p lent own =
 
 -- a move that is right without rows, and counts
 moved-afresh : (p t : List ℕ) (line device : ℕ) (a : MoveAnswer) (p′ t′ : List ℕ) (n : ℕ) → a ≡ MoveAnswer.Changed n
-    → Moved p t line device a p′ t′ → Afresh p t line device n p′ t′
+    → Moved board p t line device a p′ t′ → Afresh board p t line device n p′ t′
 moved-afresh p t line device a p′ t′ n e (plainly.notMoved r x) =
     let z : _≡_ {A = ℕ} 0 1 = cc in absurd (omega arith)
 moved-afresh p t line device a p′ t′ n e (plainly.isMoved k q u f) = let z : k ≡ n = cc in rw z at f
@@ -449,7 +450,7 @@ module _ (p : List ℕ) (lent : Beside) (line device : ℕ) (mine : OwnBeside p 
       room : HasRoom p lent
       room = own-has-room p lent (mine .own)
 
-      plainly : MovesAs p (lent .sets) line device a p′ (b .sets)
+      plainly : MovesAs board p (lent .sets) line device a p′ (b .sets)
       plainly = moves-as-before p lent line device (room .1) (room .2) a p′ b m
 
       go : StepKept devices p lent line device o → MovedKept p lent line device a p′ b
@@ -461,8 +462,8 @@ module _ (p : List ℕ) (lent : Beside) (line device : ℕ) (mine : OwnBeside p 
           let e : a ≡ MoveAnswer.Changed n = same .0 ∙ c .asBefore .count in
           let f =
           moved-afresh p (lent .sets) line device a p′ (b .sets) n e
-          (move.moves-right p (lent .sets) line device (record { sound = mine .sound; own = mine .own .ownTable }) a p′
-          (b .sets) plainly) in
+          (move.moves-right board (lit≤ tt) p (lent .sets) line device
+          (record { sound = mine .sound; own = mine .own .ownTable }) a p′ (b .sets) plainly) in
           let long : length p′ ≡ length p = ap length plan-is ∙ c .asBefore .long in
           let new : b ≡ overAll (besideOf devices p′) lent = lists-are ∙ c .afresh ∙ rw plan-is in
           rw e
@@ -478,9 +479,9 @@ module _ (p : List ℕ) (lent : Beside) (line device : ℕ) (mine : OwnBeside p 
       (b : Beside) → MovesKeptWith p lent line device a p′ b → (a ≡ MoveAnswer.Changed 0) × (p′ ≡ p) × (b ≡ lent)
   stays-put taken present a p′ b m =
       let room = own-has-room p lent (mine .own) in
-      let own : OwnTable p (lent .sets) = record { sound = mine .sound; own = mine .own .ownTable } in
+      let own : OwnTable board p (lent .sets) = record { sound = mine .sound; own = mine .own .ownTable } in
       let r =
-      move.stays-put p (lent .sets) line device own taken present a p′ (b .sets)
+      move.stays-put board p (lent .sets) line device own taken present a p′ (b .sets)
       (moves-as-before p lent line device (room .1) (room .2) a p′ b m) in
       (r .0, r .1, go a p′ b (r .1) (moves-right a p′ b m))
     where
@@ -518,11 +519,11 @@ moves-stay-right s v asks own ms = record {
     k : StillOwn devices s v
     k =
         rw (moves-are s v asks ms)
-        (moves-keep-own devices (lit≤ tt) s asks (no-fault-exactly devices (s .plan) .1 (own .sound)) (own .own))
+        (moves-keep-own devices (lit≤ tt) s asks (no-fault-exactly board (s .plan) .1 (own .sound)) (own .own))
 
     mine : OwnBeside (v .plan) (v .beside)
     mine = record {
-      sound = no-fault-exactly devices (v .plan) .0 (k .noFault);
+      sound = no-fault-exactly board (v .plan) .0 (k .noFault);
       own = rw (k .afresh) (own-written devices (v .plan) (s .beside));
     }
 
@@ -535,7 +536,7 @@ built-moves-stay-right plan lent b n m v asks =
 
 -- Whatever rows and held set are lent, given room: plan and table go through the moves as without them.
 pub moves-plainly : (s v : LentBeside) (asks : List Ask) → devices ≤ length (s .beside .rows)
-    → 1 ≤ length (s .beside .held) → MovesKept s asks v → Moves (lessRows s) asks (lessRows v)
+    → 1 ≤ length (s .beside .held) → MovesKept s asks v → Moves board (lessRows s) asks (lessRows v)
 unfolding lessRows
 moves-plainly s v asks a b (none-asked u) = plainly.none-asked (lessRows u)
 moves-plainly s v asks a b (one-more s′ u w x rest answer m ms) =

@@ -3,26 +3,25 @@
 -- 10 refuse none; a move changes sets on the way and under the take alone; from a plan without a fault and its own
 -- table, an accepted move leaves what would be worked out afresh, with the count of the sets that differ; and so on
 -- over any list of moves (demand 3).
-use Prim.Native.Nat.{ℕ}
+use Prim.Native.Nat.{ℕ, _≤_}
 use mathlib.Core.Bool.{Bool, true, false, not}
 use mathlib.Core.List.{List, [], _∷_}
 use mathlib.Core.Logic.{_≢_, _↔_}
 use mathlib.Core.Option.{Option, none, some, Option·none-ne-some}
 use mathlib.Core.Path.{_≡_, refl, sym, _∙_, ap, subst}
 use native.Mathlib.Omega.{arith}
-use lib.Dec.{lit≤, leb}
+use lib.Dec.{leb}
 use lib.ListN.{length, getD, drop}
 use lib.Seq.{take-at}
 use borrow.Author.Tests.{leb-true, leb-false, le-leb, lt-leb}
 use Rattle.model.specs.Lists.{has, over, firstOf}
 use Rattle.model.specs.Answers.{numberOf, refuseIf, refuseAt, firstRefusal}
-use Rattle.model.specs.Line.{lineNumber}
+use Rattle.model.specs.Line.{Settings, lineNumber, heldFrom}
 use Rattle.model.specs.Mate.{deviceAt}
 use Rattle.model.specs.WellFormed.{WellFormed, fault}
 use Rattle.model.specs.Claims.{table}
 use Rattle.model.specs.Move.{edited, mayChange, fromLast, stale, rewritten, changed, askedAt, isTakeOf, moveRefusal}
 use Rattle.model.specs.Entries.{Outcome, Lent, moving}
-use Rattle.model.specs.Board.{devices}
 use Rattle.model.specs.declared.Refusal.{Refusal}
 use Rattle.model.specs.declared.Refusal.the-variants.{NotATake, NoSuchDevice, StaleTable}
 use Rattle.model.specs.declared.MoveAnswer.{MoveAnswer}
@@ -47,10 +46,10 @@ use Rattle.promises.proofs.Verdict.{decided}
 
 -- ---- the listed cases
 
-module _ (p t : List ℕ) (line device : ℕ) where
+module _ (S : Settings) (p t : List ℕ) (line device : ℕ) where
   abbrev pub rest : List (Option Refusal)
   rest =
-      refuseIf (not (isTakeOf p line)) (NotATake line) ∷ refuseIf (leb devices device) (NoSuchDevice device)
+      refuseIf (not (isTakeOf p line)) (NotATake line) ∷ refuseIf (leb (S .devices) device) (NoSuchDevice device)
       ∷ refuseAt (λ k. StaleTable (lineNumber k)) (firstOf (stale p t) (mayChange p (askedAt line))) ∷ []
 
   -- the tests after that of the room, by their outcomes
@@ -60,45 +59,45 @@ module _ (p t : List ℕ) (line device : ℕ) where
       (refuseIf (not taken) (NotATake line) ∷ refuseIf off (NoSuchDevice device)
       ∷ refuseAt (λ k. StaleTable (lineNumber k)) old ∷ [])
 
-  pub not-moved-exactly : (r : Refusal) → (firstRefusal rest ≡ some r) ↔ NotMoved p t line device r
+  pub not-moved-exactly : (r : Refusal) → (firstRefusal rest ≡ some r) ↔ NotMoved S p t line device r
   unfolding firstRefusal refuseIf refuseAt restBy
   not-moved-exactly r = (
-    to (isTakeOf p line) (leb devices device) (firstOf (stale p t) (mayChange p i)) refl refl refl,
+    to (isTakeOf p line) (leb (S .devices) device) (firstOf (stale p t) (mayChange p i)) refl refl refl,
     from r,
   )
     where
       i : ℕ
       i = askedAt line
 
-      to : (b c : Bool) (o : Option ℕ) → isTakeOf p line ≡ b → leb devices device ≡ c
-          → firstOf (stale p t) (mayChange p i) ≡ o → restBy b c o ≡ some r → NotMoved p t line device r
+      to : (b c : Bool) (o : Option ℕ) → isTakeOf p line ≡ b → leb (S .devices) device ≡ c
+          → firstOf (stale p t) (mayChange p i) ≡ o → restBy b c o ≡ some r → NotMoved S p t line device r
       to false c o x y z e = let s : r ≡ NotATake line = cc in rw s (notATake x)
       to true true o x y z e =
-          let s : r ≡ NoSuchDevice device = cc in rw s (noSuchDevice x (leb-true devices device y))
+          let s : r ≡ NoSuchDevice device = cc in rw s (noSuchDevice x (leb-true (S .devices) device y))
       to true false (some k) x y z e =
           let s : r ≡ StaleTable (lineNumber k) = cc in
-          rw s (staleTable k x (leb-false devices device y) (stale-exactly p t i k .0 z))
+          rw s (staleTable k x (leb-false (S .devices) device y) (stale-exactly p t i k .0 z))
       to true false none x y z e = absurd (Option·none-ne-some r e)
 
-      from : (r : Refusal) → NotMoved p t line device r → firstRefusal rest ≡ some r
+      from : (r : Refusal) → NotMoved S p t line device r → firstRefusal rest ≡ some r
       from r (notATake x) = rw x
-      from r (noSuchDevice x h) = rw (x, le-leb devices device h)
-      from r (staleTable k x h s) = rw (x, lt-leb devices device h, stale-exactly p t i k .1 s)
+      from r (noSuchDevice x h) = rw (x, le-leb (S .devices) device h)
+      from r (staleTable k x h s) = rw (x, lt-leb (S .devices) device h, stale-exactly p t i k .1 s)
 
 -- ---- for every plan, table, line and device
 
-abbrev pub entry : (p t : List ℕ) (line device : ℕ)
-    → Entry MoveAnswer Lent (WellFormed devices p) (Broken devices p) (NotMoved p t line device)
-entry p t line device =
+abbrev pub entry : (S : Settings) (p t : List ℕ) (line device : ℕ)
+    → Entry MoveAnswer Lent (WellFormed S p) (Broken S p) (NotMoved S p t line device)
+entry S p t line device =
     let plan : List ℕ = edited p (askedAt line) device in
     let sets : List ℕ = rewritten plan t (fromLast p (askedAt line)) in
     record {
       answers = moves;
-      fault = fault devices p;
-      rest = rest p t line device;
-      sound = no-fault-exactly devices p;
-      broken = fault-exactly devices p;
-      beyond = λ w. not-moved-exactly p t line device;
+      fault = fault S p;
+      rest = rest S p t line device;
+      sound = no-fault-exactly S p;
+      broken = fault-exactly S p;
+      beyond = λ w. not-moved-exactly S p t line device;
       room = length t;
       needed = length p;
       count = changed p t sets;
@@ -106,74 +105,76 @@ entry p t line device =
       lent = record { plan = p; sets = t };
     }
 
-module _ (p t : List ℕ) (line device : ℕ) where
+module _ (S : Settings) (p t : List ℕ) (line device : ℕ) where
   abbrev left : List ℕ → List ℕ → Lent
   left p′ t′ = record { plan = p′; sets = t′ }
 
   -- a refusal exactly in a listed case; it changes nothing
-  pub refused-exactly : (a : MoveAnswer) (p′ t′ : List ℕ) → MovesAs p t line device a p′ t′ → (r : Refusal)
-      → (a ≡ MoveAnswer.Refused r) ↔ NoMove p t line device r
+  pub refused-exactly : (a : MoveAnswer) (p′ t′ : List ℕ) → MovesAs S p t line device a p′ t′ → (r : Refusal)
+      → (a ≡ MoveAnswer.Refused r) ↔ NoMove S p t line device r
   unfolding moving moveRefusal
-  refused-exactly a p′ t′ = one.refused-exactly (entry p t line device) a (left p′ t′)
+  refused-exactly a p′ t′ = one.refused-exactly (entry S p t line device) a (left p′ t′)
 
-  pub refused-leaves : (r : Refusal) (p′ t′ : List ℕ) → MovesAs p t line device (MoveAnswer.Refused r) p′ t′
-      → Refuses (NoMove p t line device) (left p t) r (left p′ t′)
+  pub refused-leaves : (r : Refusal) (p′ t′ : List ℕ) → MovesAs S p t line device (MoveAnswer.Refused r) p′ t′
+      → Refuses (NoMove S p t line device) (left p t) r (left p′ t′)
   unfolding moving moveRefusal
-  refused-leaves r p′ t′ m = one.refused-leaves (entry p t line device) (MoveAnswer.Refused r) (left p′ t′) m r refl
+  refused-leaves r p′ t′ m = one.refused-leaves (entry S p t line device) (MoveAnswer.Refused r) (left p′ t′) m r refl
 
   -- a move is never refused by 9 or 10
-  pub no-verdict-bars : (r : Refusal) (p′ t′ : List ℕ) → MovesAs p t line device (MoveAnswer.Refused r) p′ t′
+  pub no-verdict-bars : (r : Refusal) (p′ t′ : List ℕ) → MovesAs S p t line device (MoveAnswer.Refused r) p′ t′
       → (numberOf r ≢ 9) × (numberOf r ≢ 10)
   unfolding moveRefusal
   no-verdict-bars r p′ t′ m =
-      no-verdict-refuses devices p t line device r
-      (one.listed-exactly (entry p t line device) r .1 (refused-leaves r p′ t′ m .listed))
+      no-verdict-refuses S p t line device r
+      (one.listed-exactly (entry S p t line device) r .1 (refused-leaves r p′ t′ m .listed))
 
   -- at lines that the move may not change sets stay what they were, and there are as many as before
-  pub elsewhere-stays : (a : MoveAnswer) (p′ t′ : List ℕ) → MovesAs p t line device a p′ t′ → (k : ℕ)
+  pub elsewhere-stays : (a : MoveAnswer) (p′ t′ : List ℕ) → MovesAs S p t line device a p′ t′ → (k : ℕ)
       → has k (mayChange p (askedAt line)) ≡ false → getD t′ k 0 ≡ getD t k 0
   unfolding moving moveRefusal
-  elsewhere-stays a p′ t′ m k off = go (one.came (entry p t line device) a (left p′ t′) m)
+  elsewhere-stays a p′ t′ m k off = go (one.came (entry S p t line device) a (left p′ t′) m)
     where
-      go : Came (entry p t line device) a (left p′ t′) → getD t′ k 0 ≡ getD t k 0
+      go : Came (entry S p t line device) a (left p′ t′) → getD t′ k 0 ≡ getD t k 0
       go (kept r h e f) = ap (λ (l : Lent). getD (l .sets) k 0) f
       go (passed h e f) =
-          let rules = no-fault-exactly devices p .0 (tests-passed devices p t line device h .0) .rules in
+          let rules = no-fault-exactly S p .0 (tests-passed S p t line device h .0) .rules in
           ap (λ (l : Lent). getD (l .sets) k 0) f
           ∙ rewritten-off (edited p (askedAt line) device) t (fromLast p (askedAt line)) k
           (from-last-same p rules (askedAt line) k ∙ off)
 
-  pub as-many-sets : (a : MoveAnswer) (p′ t′ : List ℕ) → MovesAs p t line device a p′ t′ → length t′ ≡ length t
+  pub as-many-sets : (a : MoveAnswer) (p′ t′ : List ℕ) → MovesAs S p t line device a p′ t′ → length t′ ≡ length t
   unfolding moving moveRefusal
-  as-many-sets a p′ t′ m = go (one.came (entry p t line device) a (left p′ t′) m)
+  as-many-sets a p′ t′ m = go (one.came (entry S p t line device) a (left p′ t′) m)
     where
-      go : Came (entry p t line device) a (left p′ t′) → length t′ ≡ length t
+      go : Came (entry S p t line device) a (left p′ t′) → length t′ ≡ length t
       go (kept r h e f) = ap (λ (l : Lent). length (l .sets)) f
       go (passed h e f) =
           ap (λ (l : Lent). length (l .sets)) f
           ∙ length-rewritten (edited p (askedAt line) device) t (fromLast p (askedAt line))
 
   -- unless a test refuses, a claim moved to where it is counts 0, and all stays
-  pub unrefused-stays-put : moveRefusal devices p t line device ≡ none → deviceAt p (askedAt line) ≡ device
-      → (a : MoveAnswer) (p′ t′ : List ℕ) → MovesAs p t line device a p′ t′
+  pub unrefused-stays-put : moveRefusal S p t line device ≡ none → deviceAt p (askedAt line) ≡ device
+      → (a : MoveAnswer) (p′ t′ : List ℕ) → MovesAs S p t line device a p′ t′
       → (a ≡ MoveAnswer.Changed 0) × (p′ ≡ p) × (t′ ≡ t)
   unrefused-stays-put h present a p′ t′ m =
       let u = the-outcome one-move-answer a (left p′ t′) m in
-      let e = same-device-stays devices p t line device present h in
+      let e = same-device-stays S p t line device present h in
       let l = u .1 ∙ ap (λ (o : Outcome MoveAnswer Lent). o .left) e in
       let b = u .0 ∙ ap (λ (o : Outcome MoveAnswer Lent). o .answer) e in
       (b, ap (λ (x : Lent). x .plan) l, ap (λ (x : Lent). x .sets) l)
 
 -- ---- from a plan without a fault and its own table
 
-module _ (p t : List ℕ) (line device : ℕ) (own : OwnTable p t) where
+module _ (S : Settings) (small : S .devices ≤ heldFrom) (p t : List ℕ) (line device : ℕ)
+    (own : OwnTable S p t) where
   -- a move is refused by 12 or 13 and changes nothing, or leaves what would be worked out afresh
-  pub moves-right : (a : MoveAnswer) (p′ t′ : List ℕ) → MovesAs p t line device a p′ t′ → Moved p t line device a p′ t′
+  pub moves-right : (a : MoveAnswer) (p′ t′ : List ℕ) → MovesAs S p t line device a p′ t′
+      → Moved S p t line device a p′ t′
   unfolding over
-  moves-right a p′ t′ m = go (move-step devices p t line device (own .sound) (lit≤ tt) (own .own))
+  moves-right a p′ t′ m = go (move-step S p t line device (own .sound) small (own .own))
     where
       o : Outcome MoveAnswer Lent
-      o = moving devices p t line device
+      o = moving S p t line device
 
       same : (a ≡ o .answer) × (record { plan = p′; sets = t′ } ≡ o .left)
       same = the-outcome one-move-answer a (record { plan = p′; sets = t′ }) m
@@ -184,66 +185,68 @@ module _ (p t : List ℕ) (line device : ℕ) (own : OwnTable p t) where
       sets-are : t′ ≡ o .left .sets
       sets-are = ap (λ (l : Lent). l .sets) (same .1)
 
-      afresh : Accepted devices p t line device o → Afresh p t line device (differing (o .left .sets) t) p′ t′
+      afresh : Accepted S p t line device o → Afresh S p t line device (differing (o .left .sets) t) p′ t′
       afresh c = record {
         plan = plan-is ∙ c .plan;
         sound = sound;
-        tables = tables-as p′ t t′ sound (omega (arith, long, own-long p t (own .own)))
+        tables = tables-as S p′ t t′ sound (omega (arith, long, own-long p t (own .own)))
             (sets-are ∙ c .afresh ∙ rw (← plan-is, length-table p′, long));
-        elsewhere = elsewhere-stays p t line device a p′ t′ m;
+        elsewhere = elsewhere-stays S p t line device a p′ t′ m;
         counts = ap (λ (s : List ℕ). differing s t) (sym sets-are);
         verdict = λ lent h b left j.
-            subst (λ (q : List ℕ). Decided q lent b left) (plan-is ∙ c .plan) (decided p′ lent b left j sound h);
+            subst (λ (q : List ℕ). Decided S q lent b left) (plan-is ∙ c .plan) (decided S p′ lent b left j sound h);
       }
         where
           long : length p′ ≡ length p
           long = ap length plan-is ∙ c .long
 
-          sound : WellFormed devices p′
-          sound = rw plan-is (no-fault-exactly devices (o .left .plan) .0 (c .noFault))
+          sound : WellFormed S p′
+          sound = rw plan-is (no-fault-exactly S (o .left .plan) .0 (c .noFault))
 
-      go : Step devices p t line device o → Moved p t line device a p′ t′
+      go : Step S p t line device o → Moved S p t line device a p′ t′
       go (refused u) =
           rw (same .0 ∙ u .answer, plan-is ∙ u .plan, sets-are ∙ u .sets) (notMoved (u .refusal) (u .reason))
       go (accepted c) = rw (same .0 ∙ c .count) (isMoved (differing (o .left .sets) t) p′ t′ (afresh c))
 
-  -- a take moved to the device that it has is never refused: 0, and nothing changes
-  pub stays-put : isTakeOf p line ≡ true → deviceAt p (askedAt line) ≡ device → (a : MoveAnswer) (p′ t′ : List ℕ)
-      → MovesAs p t line device a p′ t′ → (a ≡ MoveAnswer.Changed 0) × (p′ ≡ p) × (t′ ≡ t)
-  stays-put taken present =
-      unrefused-stays-put p t line device
-      (same-device-passes devices p t line device present (own .sound) (own .own) taken) present
+-- a take moved to the device that it has is never refused: 0, and nothing changes
+pub stays-put : (S : Settings) (p t : List ℕ) (line device : ℕ) → OwnTable S p t → isTakeOf p line ≡ true
+    → deviceAt p (askedAt line) ≡ device → (a : MoveAnswer) (p′ t′ : List ℕ) → MovesAs S p t line device a p′ t′
+    → (a ≡ MoveAnswer.Changed 0) × (p′ ≡ p) × (t′ ≡ t)
+stays-put S p t line device own taken present =
+    unrefused-stays-put S p t line device
+    (same-device-passes S p t line device present (own .sound) (own .own) taken) present
 
 -- ---- demand 3: any list of moves, refused ones among them
 
-moves-are : (s v : Lent) (asks : List Ask) → Moves s asks v → v ≡ movedBy devices s asks
+moves-are : (S : Settings) (s v : Lent) (asks : List Ask) → Moves S s asks v → v ≡ movedBy S s asks
 unfolding movedBy moved
-moves-are s v asks (none-asked u) = refl
-moves-are s v asks (one-more s′ u w a rest answer m ms) =
-    moves-are u w rest ms
-    ∙ ap (λ (x : Lent). movedBy devices x rest) (the-outcome one-move-answer answer u m .1)
+moves-are S s v asks (none-asked u) = refl
+moves-are S s v asks (one-more s′ u w a rest answer m ms) =
+    moves-are S u w rest ms
+    ∙ ap (λ (x : Lent). movedBy S x rest) (the-outcome one-move-answer answer u m .1)
 
 -- The theorem: from a plan without a fault and its own table, after any list of moves, refused ones among them, the
 -- plan has no fault, the sets are its own table, and the next move is right.
-pub moves-stay-right : (s v : Lent) (asks : List Ask) → OwnTable (s .plan) (s .sets) → Moves s asks v → StaysRight s v
+pub moves-stay-right : (S : Settings) → S .devices ≤ heldFrom → (s v : Lent) (asks : List Ask)
+    → OwnTable S (s .plan) (s .sets) → Moves S s asks v → StaysRight S s v
 unfolding over
-moves-stay-right s v asks own ms = record {
+moves-stay-right S small s v asks own ms = record {
   lines = k .long;
   own = mine;
-  tables = tables-as (v .plan) (s .sets) (v .sets) (mine .sound)
+  tables = tables-as S (v .plan) (s .sets) (v .sets) (mine .sound)
       (omega (arith, k .long, own-long (s .plan) (s .sets) (own .own)))
       (k .afresh ∙ rw (length-table (v .plan), k .long));
-  next = λ a. moves-right (v .plan) (v .sets) (a .line) (a .device) mine;
+  next = λ a. moves-right S small (v .plan) (v .sets) (a .line) (a .device) mine;
 }
   where
-    k : Kept devices s v
+    k : Kept S s v
     k =
-        rw (moves-are s v asks ms)
-        (moves-keep devices (lit≤ tt) s asks (no-fault-exactly devices (s .plan) .1 (own .sound)) (own .own))
+        rw (moves-are S s v asks ms)
+        (moves-keep S small s asks (no-fault-exactly S (s .plan) .1 (own .sound)) (own .own))
 
-    mine : OwnTable (v .plan) (v .sets)
+    mine : OwnTable S (v .plan) (v .sets)
     mine = record {
-      sound = no-fault-exactly devices (v .plan) .0 (k .noFault);
+      sound = no-fault-exactly S (v .plan) .0 (k .noFault);
       own = rw (k .afresh)
           (take-at (table (v .plan)) (drop (length (s .plan)) (s .sets)) (length (v .plan)) (length-table (v .plan)));
     }

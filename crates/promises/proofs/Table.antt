@@ -7,8 +7,8 @@ use mathlib.Core.Path.{_≡_, refl, _∙_, sym}
 use native.Mathlib.Omega.{arith}
 use lib.ListN.{length, drop}
 use lib.Seq.{take-at}
-use Rattle.model.specs.Board.{devices}
 use Rattle.model.specs.Lists.{over}
+use Rattle.model.specs.Line.{Settings}
 use Rattle.model.specs.WellFormed.{WellFormed, fault}
 use Rattle.model.specs.Claims.{table}
 use Rattle.model.specs.Entries.{tabling}
@@ -23,14 +23,14 @@ use Rattle.promises.proofs.Tight.{by-none}
 use Rattle.promises.proofs.Outcome as one
 use Rattle.promises.proofs.Outcome.{Entry, tables, none-after}
 
-abbrev pub entry : (plan lent : List ℕ)
-    → Entry TableAnswer (List ℕ) (WellFormed devices plan) (Broken devices plan) NoFurther
-entry plan lent = record {
+abbrev pub entry : (S : Settings) (plan lent : List ℕ)
+    → Entry TableAnswer (List ℕ) (WellFormed S plan) (Broken S plan) NoFurther
+entry S plan lent = record {
   answers = tables;
-  fault = fault devices plan;
+  fault = fault S plan;
   rest = [];
-  sound = no-fault-exactly devices plan;
-  broken = fault-exactly devices plan;
+  sound = no-fault-exactly S plan;
+  broken = fault-exactly S plan;
   beyond = λ s. none-after;
   room = length lent;
   needed = length plan;
@@ -39,31 +39,31 @@ entry plan lent = record {
   lent = lent;
 }
 
-module _ (plan lent : List ℕ) where
+module _ (S : Settings) (plan lent : List ℕ) where
   -- a refusal exactly in a listed case; it leaves the list
-  pub refused-exactly : (a : TableAnswer) (left : List ℕ) → TablesAs plan lent a left → (r : Refusal)
-      → (a ≡ TableAnswer.Refused r) ↔ NoTable plan lent r
+  pub refused-exactly : (a : TableAnswer) (left : List ℕ) → TablesAs S plan lent a left → (r : Refusal)
+      → (a ≡ TableAnswer.Refused r) ↔ NoTable S plan lent r
   unfolding tabling
-  refused-exactly = one.refused-exactly (entry plan lent)
+  refused-exactly = one.refused-exactly (entry S plan lent)
 
-  pub refused-leaves : (r : Refusal) (left : List ℕ) → TablesAs plan lent (TableAnswer.Refused r) left
-      → Refuses (NoTable plan lent) lent r left
+  pub refused-leaves : (r : Refusal) (left : List ℕ) → TablesAs S plan lent (TableAnswer.Refused r) left
+      → Refuses (NoTable S plan lent) lent r left
   unfolding tabling
-  refused-leaves r left m = one.refused-leaves (entry plan lent) (TableAnswer.Refused r) left m r refl
+  refused-leaves r left m = one.refused-leaves (entry S plan lent) (TableAnswer.Refused r) left m r refl
 
   -- a table exactly of a plan without a fault, given room; it stands in front
-  pub tabled-exactly : (a : TableAnswer) (left : List ℕ) → TablesAs plan lent a left
-      → ((n : ℕ) × (a ≡ TableAnswer.Lines n)) ↔ (WellFormed devices plan × (length plan ≤ length lent))
+  pub tabled-exactly : (a : TableAnswer) (left : List ℕ) → TablesAs S plan lent a left
+      → ((n : ℕ) × (a ≡ TableAnswer.Lines n)) ↔ (WellFormed S plan × (length plan ≤ length lent))
   unfolding tabling
   tabled-exactly a left m =
-      let d = one.done-exactly (entry plan lent) a left m in
+      let d = one.done-exactly (entry S plan lent) a left m in
       (λ h. let p = d .0 h in (p .0, p .1), λ h. d .1 (h .0, h .1, refl))
 
-  pub tabled-leaves : (n : ℕ) (left : List ℕ) → TablesAs plan lent (TableAnswer.Lines n) left
-      → IsTabled plan lent n left
+  pub tabled-leaves : (n : ℕ) (left : List ℕ) → TablesAs S plan lent (TableAnswer.Lines n) left
+      → IsTabled S plan lent n left
   unfolding tabling
   tabled-leaves n left m =
-      let d = one.done-leaves (entry plan lent) (TableAnswer.Lines n) left m n refl in
+      let d = one.done-leaves (entry S plan lent) (TableAnswer.Lines n) left m n refl in
       record {
         sound = d .0 .0;
         room = omega (arith, d .0 .1, length-table plan);
@@ -72,15 +72,15 @@ module _ (plan lent : List ℕ) where
       }
 
   -- and that it does is promised
-  pub tables-as : (left : List ℕ) → WellFormed devices plan → length plan ≤ length lent → left ≡ over (table plan) lent
-      → TablesAs plan lent (TableAnswer.Lines (length plan)) left
+  pub tables-as : (left : List ℕ) → WellFormed S plan → length plan ≤ length lent → left ≡ over (table plan) lent
+      → TablesAs S plan lent (TableAnswer.Lines (length plan)) left
   unfolding tabling
   tables-as left w h e =
       by-none TableAnswer.Refused (TableAnswer.Lines (length plan)) (over (table plan) lent) lent
-      (one.tests (entry plan lent)) left (one.passed-exactly (entry plan lent) .1 (w, h, refl)) e
+      (one.tests (entry S plan lent)) left (one.passed-exactly (entry S plan lent) .1 (w, h, refl)) e
 
   -- what is tabled is the plan's own
-  pub tabled-own : (n : ℕ) (left : List ℕ) → TablesAs plan lent (TableAnswer.Lines n) left → OwnTable plan left
+  pub tabled-own : (n : ℕ) (left : List ℕ) → TablesAs S plan lent (TableAnswer.Lines n) left → OwnTable S plan left
   unfolding over
   tabled-own n left m =
       let d = tabled-leaves n left m in

@@ -7,12 +7,10 @@ use mathlib.Core.List.{List, []}
 use mathlib.Core.Logic.{_⊎_, inl, inr, _↔_}
 use mathlib.Core.Path.{_≡_, refl, sym, _∙_, ap}
 use native.Mathlib.Omega.{arith}
-use lib.Dec.{lit≤}
 use lib.ListN.{length, getD, take, drop, List·getD-append}
 use borrow.Author.Tests.{lt-ltb}
-use Rattle.model.specs.Board.{devices}
 use Rattle.model.specs.Lists.{over}
-use Rattle.model.specs.Line.{isLine, at, maxLines, maxBytes}
+use Rattle.model.specs.Line.{Settings, isLine, at, maxLines, maxBytes, heldFrom}
 use Rattle.model.specs.Text.{spelt, textOf, nextLine, cursorAfter, begin, cursorAt, cursorFrom, lineFrom}
 use Rattle.model.specs.WellFormed.{WellFormed, fault}
 use Rattle.model.specs.Entries.{textFault, reading, writing}
@@ -40,59 +38,59 @@ use Rattle.promises.proofs.Outcome.{Entry, reads, writes, none-after}
 
 -- ---- reading
 
-abbrev pub readEntry : (text lent : List ℕ)
-    → Entry ReadAnswer (List ℕ) (SoundText text) (TextBroken devices text) NoFurther
-readEntry text lent = record {
+abbrev pub readEntry : (S : Settings) (text lent : List ℕ)
+    → Entry ReadAnswer (List ℕ) (SoundText S text) (TextBroken S text) NoFurther
+readEntry S text lent = record {
   answers = reads;
-  fault = textFault devices text;
+  fault = textFault S text;
   rest = [];
   sound = (
-    λ e. let h = no-text-fault devices text .0 e in (h .0, no-fault-exactly devices (spelt devices text) .0 (h .1)),
-    λ s. no-text-fault devices text .1 (s .0, no-fault-exactly devices (spelt devices text) .1 (s .1)),
+    λ e. let h = no-text-fault S text .0 e in (h .0, no-fault-exactly S (spelt S text) .0 (h .1)),
+    λ s. no-text-fault S text .1 (s .0, no-fault-exactly S (spelt S text) .1 (s .1)),
   );
-  broken = text-fault-exactly devices text;
+  broken = text-fault-exactly S text;
   beyond = λ s. none-after;
   room = length lent;
-  needed = length (spelt devices text);
-  count = length (spelt devices text);
-  new = over (spelt devices text) lent;
+  needed = length (spelt S text);
+  count = length (spelt S text);
+  new = over (spelt S text) lent;
   lent = lent;
 }
 
-module _ (text lent : List ℕ) where
-  pub read-refused-exactly : (a : ReadAnswer) (left : List ℕ) → ReadsAs text lent a left → (r : Refusal)
-      → (a ≡ ReadAnswer.Refused r) ↔ NotRead text lent r
+module _ (S : Settings) (text lent : List ℕ) where
+  pub read-refused-exactly : (a : ReadAnswer) (left : List ℕ) → ReadsAs S text lent a left → (r : Refusal)
+      → (a ≡ ReadAnswer.Refused r) ↔ NotRead S text lent r
   unfolding reading
-  read-refused-exactly = one.refused-exactly (readEntry text lent)
+  read-refused-exactly = one.refused-exactly (readEntry S text lent)
 
-  pub refused-read-leaves : (r : Refusal) (left : List ℕ) → ReadsAs text lent (ReadAnswer.Refused r) left
-      → Refuses (NotRead text lent) lent r left
+  pub refused-read-leaves : (r : Refusal) (left : List ℕ) → ReadsAs S text lent (ReadAnswer.Refused r) left
+      → Refuses (NotRead S text lent) lent r left
   unfolding reading
-  refused-read-leaves r left m = one.refused-leaves (readEntry text lent) (ReadAnswer.Refused r) left m r refl
+  refused-read-leaves r left m = one.refused-leaves (readEntry S text lent) (ReadAnswer.Refused r) left m r refl
 
-  pub read-exactly : (a : ReadAnswer) (left : List ℕ) → ReadsAs text lent a left
-      → ((n : ℕ) × (a ≡ ReadAnswer.Lines n)) ↔ (SoundText text × (length (spelt devices text) ≤ length lent))
+  pub read-exactly : (a : ReadAnswer) (left : List ℕ) → ReadsAs S text lent a left
+      → ((n : ℕ) × (a ≡ ReadAnswer.Lines n)) ↔ (SoundText S text × (length (spelt S text) ≤ length lent))
   unfolding reading
   read-exactly a left m =
-      let d = one.done-exactly (readEntry text lent) a left m in
+      let d = one.done-exactly (readEntry S text lent) a left m in
       (λ h. let p = d .0 h in (p .0, p .1), λ h. d .1 (h .0, h .1, refl))
 
-  pub read-leaves : (n : ℕ) (left : List ℕ) → ReadsAs text lent (ReadAnswer.Lines n) left → IsRead text lent n left
+  pub read-leaves : (n : ℕ) (left : List ℕ) → ReadsAs S text lent (ReadAnswer.Lines n) left → IsRead S text lent n left
   unfolding reading
   read-leaves n left m =
-      let d = one.done-leaves (readEntry text lent) (ReadAnswer.Lines n) left m n refl in
+      let d = one.done-leaves (readEntry S text lent) (ReadAnswer.Lines n) left m n refl in
       record { sound = d .0 .0; room = d .0 .1; counts = d .1; leaves = d .2 }
 
 -- ---- writing
 
-abbrev pub writeEntry : (plan lent : List ℕ)
-    → Entry WriteAnswer (List ℕ) (WellFormed devices plan) (Broken devices plan) NoFurther
-writeEntry plan lent = record {
+abbrev pub writeEntry : (S : Settings) (plan lent : List ℕ)
+    → Entry WriteAnswer (List ℕ) (WellFormed S plan) (Broken S plan) NoFurther
+writeEntry S plan lent = record {
   answers = writes;
-  fault = fault devices plan;
+  fault = fault S plan;
   rest = [];
-  sound = no-fault-exactly devices plan;
-  broken = fault-exactly devices plan;
+  sound = no-fault-exactly S plan;
+  broken = fault-exactly S plan;
   beyond = λ s. none-after;
   room = length lent;
   needed = length (textOf plan);
@@ -101,29 +99,29 @@ writeEntry plan lent = record {
   lent = lent;
 }
 
-module _ (plan lent : List ℕ) where
-  pub write-refused-exactly : (a : WriteAnswer) (left : List ℕ) → WritesAs plan lent a left → (r : Refusal)
-      → (a ≡ WriteAnswer.Refused r) ↔ NotWritten plan lent r
+module _ (S : Settings) (plan lent : List ℕ) where
+  pub write-refused-exactly : (a : WriteAnswer) (left : List ℕ) → WritesAs S plan lent a left → (r : Refusal)
+      → (a ≡ WriteAnswer.Refused r) ↔ NotWritten S plan lent r
   unfolding writing
-  write-refused-exactly = one.refused-exactly (writeEntry plan lent)
+  write-refused-exactly = one.refused-exactly (writeEntry S plan lent)
 
-  pub refused-write-leaves : (r : Refusal) (left : List ℕ) → WritesAs plan lent (WriteAnswer.Refused r) left
-      → Refuses (NotWritten plan lent) lent r left
+  pub refused-write-leaves : (r : Refusal) (left : List ℕ) → WritesAs S plan lent (WriteAnswer.Refused r) left
+      → Refuses (NotWritten S plan lent) lent r left
   unfolding writing
-  refused-write-leaves r left m = one.refused-leaves (writeEntry plan lent) (WriteAnswer.Refused r) left m r refl
+  refused-write-leaves r left m = one.refused-leaves (writeEntry S plan lent) (WriteAnswer.Refused r) left m r refl
 
-  pub written-exactly : (a : WriteAnswer) (left : List ℕ) → WritesAs plan lent a left
-      → ((n : ℕ) × (a ≡ WriteAnswer.Bytes n)) ↔ (WellFormed devices plan × (length (textOf plan) ≤ length lent))
+  pub written-exactly : (a : WriteAnswer) (left : List ℕ) → WritesAs S plan lent a left
+      → ((n : ℕ) × (a ≡ WriteAnswer.Bytes n)) ↔ (WellFormed S plan × (length (textOf plan) ≤ length lent))
   unfolding writing
   written-exactly a left m =
-      let d = one.done-exactly (writeEntry plan lent) a left m in
+      let d = one.done-exactly (writeEntry S plan lent) a left m in
       (λ h. let p = d .0 h in (p .0, p .1), λ h. d .1 (h .0, h .1, refl))
 
-  pub written-leaves : (n : ℕ) (left : List ℕ) → WritesAs plan lent (WriteAnswer.Bytes n) left
-      → IsWritten plan lent n left
+  pub written-leaves : (n : ℕ) (left : List ℕ) → WritesAs S plan lent (WriteAnswer.Bytes n) left
+      → IsWritten S plan lent n left
   unfolding writing
   written-leaves n left m =
-      let d = one.done-leaves (writeEntry plan lent) (WriteAnswer.Bytes n) left m n refl in
+      let d = one.done-leaves (writeEntry S plan lent) (WriteAnswer.Bytes n) left m n refl in
       record { sound = d .0 .0; room = d .0 .1; counts = d .1; leaves = d .2 }
 
 -- ---- the round trips
@@ -133,62 +131,65 @@ pub front-of : (new old left : List ℕ) (n : ℕ) → n ≡ length new → left
 front-of new old left n e f = rw f (over-front n new old (sym e))
 
 -- What was read, written again from the entries that reading wrote, is the text, byte for byte.
-pub read-then-written : (text lent left : List ℕ) (n : ℕ) → ReadsAs text lent (ReadAnswer.Lines n) left
+pub read-then-written : (S : Settings) → S .devices ≤ heldFrom → (text lent left : List ℕ) (n : ℕ)
+    → ReadsAs S text lent (ReadAnswer.Lines n) left
     → (buffer : List ℕ) → length text ≤ length buffer → (answer : WriteAnswer) (written : List ℕ)
-    → WritesAs (take n left) buffer answer written
+    → WritesAs S (take n left) buffer answer written
     → (answer ≡ WriteAnswer.Bytes (length text)) × (written ≡ over text buffer)
-read-then-written text lent left n r buffer h answer written w =
-    let d = read-leaves text lent n left r in
+read-then-written S small text lent left n r buffer h answer written w =
+    let d = read-leaves S text lent n left r in
     let u = the-outcome one-write-answer answer written w in
     let e =
-    ap (λ (p : List ℕ). writing devices p buffer) (front-of (spelt devices text) lent left n (d .counts) (d .leaves))
-    ∙ writing-read devices (lit≤ tt) text (readEntry text lent .sound .1 (d .sound)) buffer h in
+    ap (λ (p : List ℕ). writing S p buffer) (front-of (spelt S text) lent left n (d .counts) (d .leaves))
+    ∙ writing-read S small text (readEntry S text lent .sound .1 (d .sound)) buffer h in
     (u .0 ∙ rw e, u .1 ∙ rw e)
 
 -- What was written, read again from the bytes that writing wrote, is the plan, number for number.
-pub written-then-read : (plan lent left : List ℕ) (n : ℕ) → WritesAs plan lent (WriteAnswer.Bytes n) left
-    → (list : List ℕ) → length plan ≤ length list → (answer : ReadAnswer) (taken : List ℕ)
-    → ReadsAs (take n left) list answer taken
+pub written-then-read : (S : Settings) (plan lent left : List ℕ) (n : ℕ)
+    → WritesAs S plan lent (WriteAnswer.Bytes n) left → (list : List ℕ) → length plan ≤ length list
+    → (answer : ReadAnswer) (taken : List ℕ)
+    → ReadsAs S (take n left) list answer taken
     → (answer ≡ ReadAnswer.Lines (length plan)) × (taken ≡ over plan list)
-written-then-read plan lent left n r list h answer taken w =
-    let d = written-leaves plan lent n left r in
+written-then-read S plan lent left n r list h answer taken w =
+    let d = written-leaves S plan lent n left r in
     let u = the-outcome one-read-answer answer taken w in
     let e =
-    ap (λ (s : List ℕ). reading devices s list) (front-of (textOf plan) lent left n (d .counts) (d .leaves))
-    ∙ reading-written devices plan (no-fault-exactly devices plan .1 (d .sound)) list h in
+    ap (λ (s : List ℕ). reading S s list) (front-of (textOf plan) lent left n (d .counts) (d .leaves))
+    ∙ reading-written S plan (no-fault-exactly S plan .1 (d .sound)) list h in
     (u .0 ∙ rw e, u .1 ∙ rw e)
 
 -- ---- the line reader
 
 -- At a cursor: where no line came, asking again gives the same answer.
-pub same-again : (text : List ℕ) (c : Cursor) (a b : LineAnswer) → HandsOutAs text c a → NoLine a
-    → HandsOutAs text (cursorAfter c a) b → b ≡ a
-same-again text c a b x h y =
-    the-line text (cursorAfter c a) b y ∙ ap (nextLine devices text) (stays c a h) ∙ sym (the-line text c a x)
+pub same-again : (S : Settings) (text : List ℕ) (c : Cursor) (a b : LineAnswer) → HandsOutAs S text c a → NoLine a
+    → HandsOutAs S text (cursorAfter c a) b → b ≡ a
+same-again S text c a b x h y =
+    the-line S text (cursorAfter c a) b y ∙ ap (nextLine S text) (stays c a h) ∙ sym (the-line S text c a x)
 
 -- With a text and an offset, asked again and again.
-module _ (text : List ℕ) (offset : ℕ → ℕ) (answer : ℕ → LineAnswer) (asked : Asked text offset answer) where
+module _ (S : Settings) (text : List ℕ) (offset : ℕ → ℕ) (answer : ℕ → LineAnswer)
+    (asked : Asked S text offset answer) where
   -- it stands where the reader with a cursor stands, and hands out the same
-  stands : (k : ℕ) → offset k ≡ cursorAt devices text k .offset
+  stands : (k : ℕ) → offset k ≡ cursorAt S text k .offset
   unfolding cursorAt begin
   stands zero = asked .begins
   stands (suc k) =
       let o = stands k in
       asked .goesOn k
-      ∙ rw (asked .answers k, o, same-line devices text k, sym (cursor-from devices text k))
+      ∙ rw (asked .answers k, o, same-line S text k, sym (cursor-from S text k))
 
-  handed : (k : ℕ) → answer k ≡ nextLine devices text (cursorAt devices text k)
-  handed k = asked .answers k ∙ ap (lineFrom devices text) (stands k) ∙ same-line devices text k
+  handed : (k : ℕ) → answer k ≡ nextLine S text (cursorAt S text k)
+  handed k = asked .answers k ∙ ap (lineFrom S text) (stands k) ∙ same-line S text k
 
   -- Lines come one after another: after n lines the next one, or why none comes.
-  pub line-by-line : (n : ℕ) → n ≤ maxLines → FirstLines devices text n → Comes text n (answer n)
+  pub line-by-line : S .devices ≤ heldFrom → (n : ℕ) → n ≤ maxLines → FirstLines S text n → Comes S text n (answer n)
   unfolding nextLine
-  line-by-line n few lines =
+  line-by-line small n few lines =
       rw (handed n) (go (le-or-lt (length text) maxBytes) (le-or-lt (length p) n) (le-or-lt maxLines n)
-      (test (isLine devices (at p n))))
+      (test (isLine S (at p n))))
     where
       p : List ℕ
-      p = spelt devices text
+      p = spelt S text
 
       -- no line is the first n lines' past the end
       all : length p ≤ n → length p ≡ n
@@ -197,57 +198,57 @@ module _ (text : List ℕ) (offset : ℕ → ℕ) (answer : ℕ → LineAnswer) 
           whole : (n ≤ length p) ⊎ (length p < n) → length p ≡ n
           whole (inl g) = omega (arith, h)
           whole (inr g) =
-              absurd (omega (arith, line-there devices text (length p) (lines (length p) g), spelt-length devices text))
+              absurd (omega (arith, line-there S text (length p) (lines (length p) g), spelt-length S text))
 
       go : (length text ≤ maxBytes) ⊎ (maxBytes < length text) → (length p ≤ n) ⊎ (n < length p)
-          → (maxLines ≤ n) ⊎ (n < maxLines) → (isLine devices (at p n) ≡ true) ⊎ (isLine devices (at p n) ≡ false)
-          → Comes text n (nextLine devices text (cursorAt devices text n))
+          → (maxLines ≤ n) ⊎ (n < maxLines) → (isLine S (at p n) ≡ true) ⊎ (isLine S (at p n) ≡ false)
+          → Comes S text n (nextLine S text (cursorAt S text n))
       go (inr long) b c d = rw (lt-ltb maxBytes (length text) long) (tooLong long)
       go (inl short) (inl none) c d =
-          rw (reader-end devices text short n few lines (sym (spelt-length devices text) ∙ all none))
+          rw (reader-end S text short n few lines (sym (spelt-length S text) ∙ all none))
           (end short (all none))
       go (inl short) (inr b) (inl many) d =
-          rw (reader-many devices text short n few lines many (omega (arith, spelt-length devices text)))
+          rw (reader-many S text short n few lines many (omega (arith, spelt-length S text)))
           (tooMany short many b)
       go (inl short) (inr b) (inr c) (inl d) =
-          rw (reader-line devices text short n few lines c d) (line (cursorAt devices text (suc n)) short c d)
+          rw (reader-line S text short n few lines c d) (line (cursorAt S text (suc n)) short c d)
       go (inl short) (inr b) (inr c) (inr d) =
-          rw (reader-malformed devices text short n few lines (lit≤ tt) c (omega (arith, spelt-length devices text)) d)
+          rw (reader-malformed S text short n few lines small c (omega (arith, spelt-length S text)) d)
           (malformed short c b d)
 
   -- Where no line came, the same answer comes ever after.
   pub same-ever-after : (k : ℕ) → NoLine (answer k) → (m : ℕ) → answer (k + m) ≡ answer k
   unfolding cursorFrom
-  same-ever-after k h m = asked .answers (k + m) ∙ ap (lineFrom devices text) (again m) ∙ sym (asked .answers k)
+  same-ever-after k h m = asked .answers (k + m) ∙ ap (lineFrom S text) (again m) ∙ sym (asked .answers k)
     where
       again : (m : ℕ) → offset (k + m) ≡ offset k
       again zero = ap offset (omega arith)
       again (suc m) =
           let o = again m in
           let e : answer (k + m) ≡ answer k =
-          asked .answers (k + m) ∙ ap (lineFrom devices text) o ∙ sym (asked .answers k) in
+          asked .answers (k + m) ∙ ap (lineFrom S text) o ∙ sym (asked .answers k) in
           ap offset (omega arith) ∙ asked .goesOn (k + m)
           ∙ ap (λ (c : Cursor). c .offset) (stays (cursorFrom text (offset (k + m))) (answer (k + m)) (rw e h)) ∙ o
 
   -- A text that reading takes comes number by number, and then the end.
-  pub read-line-by-line : (lent left : List ℕ) (n : ℕ) → ReadsAs text lent (ReadAnswer.Lines n) left
+  pub read-line-by-line : (lent left : List ℕ) (n : ℕ) → ReadsAs S text lent (ReadAnswer.Lines n) left
       → ((i : ℕ) → i < n → (next : Cursor) × (answer i ≡ LineAnswer.Line (getD left i 0) next))
       × ((k : ℕ) → n ≤ k → answer k ≡ LineAnswer.End)
   unfolding over
-  read-line-by-line lent left n m = (λ i h. (cursorAt devices text (suc i), each i h), after)
+  read-line-by-line lent left n m = (λ i h. (cursorAt S text (suc i), each i h), after)
     where
       p : List ℕ
-      p = spelt devices text
+      p = spelt S text
 
-      d : IsRead text lent n left
-      d = read-leaves text lent n left m
+      d : IsRead S text lent n left
+      d = read-leaves S text lent n left m
 
       spells : ((i : ℕ) → i < length p
-          → nextLine devices text (cursorAt devices text i) ≡ LineAnswer.Line (at p i) (cursorAt devices text (suc i)))
-          × (nextLine devices text (cursorAt devices text (length p)) ≡ LineAnswer.End)
-      spells = reader-spells devices text (d .sound .0) (d .sound .1 .few) (d .sound .1 .lines)
+          → nextLine S text (cursorAt S text i) ≡ LineAnswer.Line (at p i) (cursorAt S text (suc i)))
+          × (nextLine S text (cursorAt S text (length p)) ≡ LineAnswer.End)
+      spells = reader-spells S text (d .sound .0) (d .sound .1 .few) (d .sound .1 .lines)
 
-      each : (i : ℕ) → i < n → answer i ≡ LineAnswer.Line (getD left i 0) (cursorAt devices text (suc i))
+      each : (i : ℕ) → i < n → answer i ≡ LineAnswer.Line (getD left i 0) (cursorAt S text (suc i))
       each i h =
           let lt : i < length p = omega (arith, d .counts) in
           rw (d .leaves, List·getD-append p (drop (length p) lent) 0 i lt) (handed i ∙ spells .0 i lt)

@@ -6,6 +6,7 @@ use mathlib.Core.List.{List}
 use mathlib.Core.Option.{Option, none, some}
 use mathlib.Core.Path.{_≡_, refl, sym, _∙_, ap}
 use Rattle.model.specs.Board.{devices}
+use Rattle.model.specs.Line.{Settings}
 use Rattle.model.specs.Answers.{verdictValues, judgeValues}
 use Rattle.model.specs.Text.{nextLine}
 use Rattle.model.specs.Entries.{Outcome, outcome}
@@ -69,31 +70,34 @@ module _ {A L : Type 0} {values : A → List ℕ} (refused : Refusal → A) (a :
 
 -- ---- the line reader, the judge, the quick verdict and the screens' entry
 
-pub one-line : (text : List ℕ) (c : Cursor) (a b : LineAnswer) → HandsOutAs text c a → HandsOutAs text c b → a ≡ b
-one-line text c a b x y = one-line-answer a b (x .answers ∙ sym (y .answers))
+pub one-line : (S : Settings) (text : List ℕ) (c : Cursor) (a b : LineAnswer) → HandsOutAs S text c a
+    → HandsOutAs S text c b → a ≡ b
+one-line S text c a b x y = one-line-answer a b (x .answers ∙ sym (y .answers))
 
-pub the-line : (text : List ℕ) (c : Cursor) (a : LineAnswer) → HandsOutAs text c a → a ≡ nextLine devices text c
-the-line text c a x = one-line-answer a (nextLine devices text c) (x .answers)
+pub the-line : (S : Settings) (text : List ℕ) (c : Cursor) (a : LineAnswer) → HandsOutAs S text c a
+    → a ≡ nextLine S text c
+the-line S text c a x = one-line-answer a (nextLine S text c) (x .answers)
 
-pub one-line-in-one : (text : List ℕ) (offset a b : ℕ) → HandsOutForC text offset a → HandsOutForC text offset b → a ≡ b
-one-line-in-one text offset a b p q = cc
+pub one-line-in-one : (S : Settings) (text : List ℕ) (offset a b : ℕ) → HandsOutForC S text offset a
+    → HandsOutForC S text offset b → a ≡ b
+one-line-in-one S text offset a b p q = cc
 
-pub one-judgement : (plan entries : List ℕ) (a b : JudgeAnswer) → JudgesAs plan entries a → JudgesAs plan entries b
-    → a ≡ b
-one-judgement plan entries a b x y = one-judge-answer a b (x .answers ∙ sym (y .answers))
+pub one-judgement : (S : Settings) (plan entries : List ℕ) (a b : JudgeAnswer) → JudgesAs S plan entries a
+    → JudgesAs S plan entries b → a ≡ b
+one-judgement S plan entries a b x y = one-judge-answer a b (x .answers ∙ sym (y .answers))
 
-pub the-judgement : (plan entries : List ℕ) (a : JudgeAnswer) → JudgesAs plan entries a
-    → a ≡ judging devices plan entries
-the-judgement plan entries a x = one-judge-answer a (judging devices plan entries) (x .answers)
+pub the-judgement : (S : Settings) (plan entries : List ℕ) (a : JudgeAnswer) → JudgesAs S plan entries a
+    → a ≡ judging S plan entries
+the-judgement S plan entries a x = one-judge-answer a (judging S plan entries) (x .answers)
 
 -- handed on as one number
-pub judged-in-one : {plan entries : List ℕ} {a b : JudgeAnswer} {n : ℕ} → JudgesAs plan entries a → a ≡ b
-    → n ≡ inOne (judgeValues b) → JudgesForC plan entries n
+pub judged-in-one : {S : Settings} {plan entries : List ℕ} {a b : JudgeAnswer} {n : ℕ} → JudgesAs S plan entries a
+    → a ≡ b → n ≡ inOne (judgeValues b) → JudgesForC S plan entries n
 judged-in-one x e m = record { answers = handed-on judgeValues (x .answers) e m }
 
-pub one-judgement-in-one : (plan entries : List ℕ) (a b : ℕ) → JudgesForC plan entries a → JudgesForC plan entries b
-    → a ≡ b
-one-judgement-in-one plan entries a b p q = cc
+pub one-judgement-in-one : (S : Settings) (plan entries : List ℕ) (a b : ℕ) → JudgesForC S plan entries a
+    → JudgesForC S plan entries b → a ≡ b
+one-judgement-in-one S plan entries a b p q = cc
 
 pub one-quick : (plan rs : List ℕ) (a b : VerdictAnswer) → QuickAs plan rs a → QuickAs plan rs b → a ≡ b
 one-quick plan rs a b x y = one-verdict-answer a b (x .answers ∙ sym (y .answers))
@@ -108,6 +112,6 @@ quick-in-one x e m = record { answers = handed-on verdictValues (x .answers) e m
 pub one-quick-in-one : (plan rs : List ℕ) (a b : ℕ) → QuickForC plan rs a → QuickForC plan rs b → a ≡ b
 one-quick-in-one plan rs a b p q = cc
 
-pub one-screen : (text lent : List ℕ) (m n : ℕ) (left other : List ℕ) → ScreensAs text lent m left
-    → ScreensAs text lent n other → (m ≡ n) × (left ≡ other)
-one-screen text lent m n left other p q = (cc, cc)
+pub one-screen : (S : Settings) (text lent : List ℕ) (m n : ℕ) (left other : List ℕ) → ScreensAs S text lent m left
+    → ScreensAs S text lent n other → (m ≡ n) × (left ≡ other)
+one-screen S text lent m n left other p q = (cc, cc)

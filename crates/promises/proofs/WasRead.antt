@@ -7,8 +7,7 @@ use mathlib.Core.Option.{none, some}
 use mathlib.Core.Path.{_≡_}
 use native.Mathlib.Omega.{arith}
 use lib.ListN.{length, take}
-use Rattle.model.specs.Board.{devices}
-use Rattle.model.specs.Line.{maxLines}
+use Rattle.model.specs.Line.{Settings, maxLines}
 use Rattle.model.specs.Text.{spelt}
 use Rattle.model.specs.WellFormed.{fault}
 use Rattle.model.specs.Entries.{textFault}
@@ -20,30 +19,30 @@ use Rattle.promises.specs.Outcome.{faulty, short, further}
 use Rattle.promises.specs.Text.{ReadsAs, NotRead, IsRead}
 use Rattle.promises.proofs.Text.{readEntry, read-refused-exactly, read-leaves, front-of}
 
-module _ (text lent : List ℕ) {a : ReadAnswer} {left : List ℕ} (m : ReadsAs text lent a left) where
-  pub read-fault : length lent ≡ maxLines → (r : Refusal) → a ≡ ReadAnswer.Refused r → textFault devices text ≡ some r
-  read-fault long r q = go r (read-refused-exactly text lent a left m r .0 q)
+module _ (S : Settings) (text lent : List ℕ) {a : ReadAnswer} {left : List ℕ} (m : ReadsAs S text lent a left) where
+  pub read-fault : length lent ≡ maxLines → (r : Refusal) → a ≡ ReadAnswer.Refused r → textFault S text ≡ some r
+  read-fault long r q = go r (read-refused-exactly S text lent a left m r .0 q)
     where
-      go : (r : Refusal) → NotRead text lent r → textFault devices text ≡ some r
-      go r (faulty s b) = text-fault-exactly devices text s .1 b
+      go : (r : Refusal) → NotRead S text lent r → textFault S text ≡ some r
+      go r (faulty s b) = text-fault-exactly S text s .1 b
       go r (short s h) = absurd (omega (arith, s .1 .few))
       go r (further s b h f) = absurd f
 
   module _ {n : ℕ} (q : a ≡ ReadAnswer.Lines n) where
-    is-read : IsRead text lent n left
-    is-read = read-leaves text lent n left (rw q at m)
+    is-read : IsRead S text lent n left
+    is-read = read-leaves S text lent n left (rw q at m)
 
-    pub read-counts : n ≡ length (spelt devices text)
+    pub read-counts : n ≡ length (spelt S text)
     read-counts = is-read .counts
 
     pub read-few : n ≤ maxLines
     read-few = omega (arith, is-read .counts, is-read .sound .1 .few)
 
-    pub no-fault-read : textFault devices text ≡ none
-    no-fault-read = readEntry text lent .sound .1 (is-read .sound)
+    pub no-fault-read : textFault S text ≡ none
+    no-fault-read = readEntry S text lent .sound .1 (is-read .sound)
 
-    pub well-formed-read : fault devices (spelt devices text) ≡ none
-    well-formed-read = no-fault-exactly devices (spelt devices text) .1 (is-read .sound .1)
+    pub well-formed-read : fault S (spelt S text) ≡ none
+    well-formed-read = no-fault-exactly S (spelt S text) .1 (is-read .sound .1)
 
-    pub front-read : take n left ≡ spelt devices text
-    front-read = front-of (spelt devices text) lent left n (is-read .counts) (is-read .leaves)
+    pub front-read : take n left ≡ spelt S text
+    front-read = front-of (spelt S text) lent left n (is-read .counts) (is-read .leaves)

@@ -1,10 +1,11 @@
--- What the entries for C and Rust promise (01, "Refusal numbers"; 02, requests 1 and 4): the outcome of the entry
--- behind each, its answer as one number of 64 bits. Then the words for what a caller reads off the number.
+-- What the entries for C and Rust promise (01, "Refusal numbers"; 02, requests 1, 4 and 5): the outcome of the
+-- entry behind each, its answer as one number of 64 bits. Then the words for what a caller reads off the number.
 use Prim.Native.Nat.{ℕ, suc, _/_, _%_, _<_, _≤_}
 use mathlib.Core.List.{List}
 use mathlib.Core.Logic.{_↔_}
 use mathlib.Core.Path.{_≡_}
 use Rattle.model.specs.Board.{devices}
+use Rattle.model.specs.Line.{Settings}
 use Rattle.model.specs.Answers.{numberOf, placeOf, lineValues, readValues, writeValues, tableValues}
 use Rattle.model.specs.Answers.{verdictValues, moveValues, judgeValues}
 use Rattle.model.specs.Text.{lineFrom}
@@ -21,24 +22,24 @@ use Rattle.promises.specs.Outcome.{Meets, MeetsInOne}
 use Rattle.promises.specs.Kept.{beside}
 
 -- the line that a reader of the text hands out at an offset
-pub record HandsOutForC (text : List ℕ) (offset answer : ℕ) : Type 0 where
-  pub answers : answer ≡ inOne (lineValues (lineFrom devices text offset))
+pub record HandsOutForC (S : Settings) (text : List ℕ) (offset answer : ℕ) : Type 0 where
+  pub answers : answer ≡ inOne (lineValues (lineFrom S text offset))
 
-abbrev pub ReadsForC : List ℕ → List ℕ → ℕ → List ℕ → Type 0
-ReadsForC text lent answer left = MeetsInOne readValues (reading devices text lent) answer left
+abbrev pub ReadsForC : Settings → List ℕ → List ℕ → ℕ → List ℕ → Type 0
+ReadsForC S text lent answer left = MeetsInOne readValues (reading S text lent) answer left
 
-abbrev pub WritesForC : List ℕ → List ℕ → ℕ → List ℕ → Type 0
-WritesForC plan lent answer left = MeetsInOne writeValues (writing devices plan lent) answer left
+abbrev pub WritesForC : Settings → List ℕ → List ℕ → ℕ → List ℕ → Type 0
+WritesForC S plan lent answer left = MeetsInOne writeValues (writing S plan lent) answer left
 
-abbrev pub TablesForC : List ℕ → List ℕ → ℕ → List ℕ → Type 0
-TablesForC plan lent answer left = MeetsInOne tableValues (tabling devices plan lent) answer left
+abbrev pub TablesForC : Settings → List ℕ → List ℕ → ℕ → List ℕ → Type 0
+TablesForC S plan lent answer left = MeetsInOne tableValues (tabling S plan lent) answer left
 
-abbrev pub OrdersForC : List ℕ → List ℕ → ℕ → List ℕ → Type 0
-OrdersForC plan lent answer left = MeetsInOne verdictValues (ordering devices plan lent) answer left
+abbrev pub OrdersForC : Settings → List ℕ → List ℕ → ℕ → List ℕ → Type 0
+OrdersForC S plan lent answer left = MeetsInOne verdictValues (ordering S plan lent) answer left
 
-abbrev pub MovesForC : List ℕ → List ℕ → ℕ → ℕ → ℕ → List ℕ → List ℕ → Type 0
-MovesForC p t line device answer p′ t′ =
-    MeetsInOne moveValues (moving devices p t line device) answer (record { plan = p′; sets = t′ })
+abbrev pub MovesForC : Settings → List ℕ → List ℕ → ℕ → ℕ → ℕ → List ℕ → List ℕ → Type 0
+MovesForC S p t line device answer p′ t′ =
+    MeetsInOne moveValues (moving S p t line device) answer (record { plan = p′; sets = t′ })
 
 -- the three that are lent rows (02, request 4), of which the quick verdict writes to nothing that is lent
 abbrev pub BuildsForC : List ℕ → List ℕ → List ℕ → List ℕ → ℕ → List ℕ → List ℕ → List ℕ → Type 0
@@ -54,8 +55,8 @@ pub record QuickForC (plan rows : List ℕ) (answer : ℕ) : Type 0 where
   pub answers : answer ≡ inOne (verdictValues (quick devices plan rows))
 
 -- the judge, who is lent nothing to write to
-pub record JudgesForC (plan entries : List ℕ) (answer : ℕ) : Type 0 where
-  pub answers : answer ≡ inOne (judgeValues (judging devices plan entries))
+pub record JudgesForC (S : Settings) (plan entries : List ℕ) (answer : ℕ) : Type 0 where
+  pub answers : answer ≡ inOne (judgeValues (judging S plan entries))
 
 -- ---- what a number says
 
@@ -91,9 +92,9 @@ pub data JudgeStandsFor (n : ℕ) : JudgeAnswer → Type 0 where
 
 -- The line entry asked again and again by a caller who has its numbers alone: it begins at offset 0, and goes on past
 -- the newline of a line that came; where none came, it stays.
-pub record AskedForC (text : List ℕ) (offset number : ℕ → ℕ) : Type 0 where
+pub record AskedForC (S : Settings) (text : List ℕ) (offset number : ℕ → ℕ) : Type 0 where
   pub begins : offset 0 ≡ 0
-  pub answers : (k : ℕ) → HandsOutForC text (offset k) (number k)
+  pub answers : (k : ℕ) → HandsOutForC S text (offset k) (number k)
   pub goesOn : (k : ℕ) → 0 < number k → number k < half → PastNewline text (offset k) (offset (suc k))
   pub ended : (k : ℕ) → number k ≡ 0 → offset (suc k) ≡ offset k
   pub refused : (k : ℕ) → half ≤ number k → offset (suc k) ≡ offset k

@@ -1,6 +1,6 @@
--- What `build`, `move_kept` and `quick` promise (02, request 4), and the words for what follows. What is lent beside
--- the plan is a table, rows and a list whose first number is the held set, and of each what is left has a mark. `quick`
--- writes to nothing that is lent.
+-- What `build`, `move_kept` and `quick` promise (02, request 4), and the words for what follows, all of it for plans of
+-- the morning. What is lent beside the plan is a table, rows and a list whose first number is the held set, and of each
+-- what is left has a mark. `quick` writes to nothing that is lent.
 use Prim.Native.Nat.{ℕ, _<_, _≤_}
 use mathlib.Core.List.{List, [], _∷_}
 use mathlib.Core.Path.{_≡_}
@@ -10,7 +10,7 @@ use Rattle.model.specs.WellFormed.{WellFormed}
 use Rattle.model.specs.Claims.{table}
 use Rattle.model.specs.Rows.{rows}
 use Rattle.model.specs.Kept.{heldToEnd, Beside, building, LentBeside, movingKept, quick}
-use Rattle.model.specs.Board.{devices}
+use Rattle.model.specs.Board.{devices, board}
 use Rattle.model.specs.declared.Refusal.{Refusal}
 use Rattle.model.specs.declared.Refusal.the-variants.{ListTooShort}
 use Rattle.model.specs.declared.TableAnswer.{TableAnswer}
@@ -60,21 +60,21 @@ AfterTable lent Further = AlsoLent (length (lent .rows)) devices (AlsoLent (leng
 -- why nothing is built: 2 to 7; where nothing is broken, 11 for the first list that is too short
 abbrev pub NoBuild : List ℕ → Beside → Refusal → Type 0
 NoBuild plan lent =
-    Listed (WellFormed devices plan) (Broken devices plan) (length (lent .sets)) (length plan)
+    Listed (WellFormed board plan) (Broken board plan) (length (lent .sets)) (length plan)
     (AfterTable lent NoFurther)
 
 -- why a move is refused: 2 to 7 of the plan as it is; where nothing is broken, 11 so; and where there is room, as
 -- without rows
 abbrev pub NoMoveKept : List ℕ → Beside → ℕ → ℕ → Refusal → Type 0
 NoMoveKept p lent line device =
-    Listed (WellFormed devices p) (Broken devices p) (length (lent .sets)) (length p)
-    (AfterTable lent (NotMoved p (lent .sets) line device))
+    Listed (WellFormed board p) (Broken board p) (length (lent .sets)) (length p)
+    (AfterTable lent (NotMoved board p (lent .sets) line device))
 
 -- why the quick verdict refuses: 2 to 7; where nothing is broken, 11 for the rows; and where there is room, 9 by the
 -- plan or 10 by the rows as they were lent
 abbrev pub NoQuick : List ℕ → List ℕ → Refusal → Type 0
 NoQuick plan rs =
-    Listed (WellFormed devices plan) (Broken devices plan) (length rs) devices
+    Listed (WellFormed board plan) (Broken board plan) (length rs) devices
     (NoOrderBy devices plan (take devices rs))
 
 -- ---- building
@@ -85,13 +85,13 @@ HasRoom plan lent = (length plan ≤ length (lent .sets)) × (devices ≤ length
 
 -- each list is filled: with the table, the rows, the held set
 pub record IsBuilt (plan : List ℕ) (lent : Beside) (count : ℕ) (left : Beside) : Type 0 where
-  pub ofTable : Fills (WellFormed devices plan) (table plan) (lent .sets) count (left .sets)
-  pub ofRows : Fills (WellFormed devices plan) (rows devices plan) (lent .rows) devices (left .rows)
-  pub ofHeld : Fills (WellFormed devices plan) (heldToEnd devices plan ∷ []) (lent .held) 1 (left .held)
+  pub ofTable : Fills (WellFormed board plan) (table plan) (lent .sets) count (left .sets)
+  pub ofRows : Fills (WellFormed board plan) (rows devices plan) (lent .rows) devices (left .rows)
+  pub ofHeld : Fills (WellFormed board plan) (heldToEnd devices plan ∷ []) (lent .held) 1 (left .held)
 
 -- A plan without a fault and what is its own beside it, in lists that may be longer: what `build` leaves.
 pub record OwnBeside (plan : List ℕ) (lent : Beside) : Type 0 where
-  pub sound : WellFormed devices plan
+  pub sound : WellFormed board plan
   pub own : Own devices plan lent
 
 -- ---- the quick verdict
@@ -100,7 +100,7 @@ pub record OwnBeside (plan : List ℕ) (lent : Beside) : Type 0 where
 abbrev pub Agrees : List ℕ → List ℕ → Type 0
 Agrees plan rs =
     (a b : VerdictAnswer) (lent left : List ℕ) → length plan ≤ length lent → QuickAs plan rs a
-    → OrdersAs plan lent b left → a ≡ b
+    → OrdersAs board plan lent b left → a ≡ b
 
 -- ---- moves from a plan without a fault and its own table, rows and held set
 
@@ -109,14 +109,14 @@ Agrees plan rs =
 -- and the quick verdict agrees
 pub record AfreshKept (p : List ℕ) (lent : Beside) (line device count : ℕ) (p′ : List ℕ) (left : Beside)
     : Type 0 where
-  pub asBefore : Afresh p (lent .sets) line device count p′ (left .sets)
+  pub asBefore : Afresh board p (lent .sets) line device count p′ (left .sets)
   pub builds : BuildsWith p′ lent (TableAnswer.Lines (length p′)) left
   pub only : WritesOnly devices p lent line device left
   pub agrees : Agrees p′ (left .rows)
 
 -- a move there: refused by 12 or 13, with nothing changed, or accepted
 pub data MovedKept (p : List ℕ) (lent : Beside) (line device : ℕ) : MoveAnswer → List ℕ → Beside → Type 0 where
-  notMoved : (r : Refusal) → Refused devices p line device r
+  notMoved : (r : Refusal) → Refused board p line device r
       → MovedKept p lent line device (MoveAnswer.Refused r) p lent
   isMoved : (n : ℕ) (p′ : List ℕ) (left : Beside) → AfreshKept p lent line device n p′ left
       → MovedKept p lent line device (MoveAnswer.Changed n) p′ left

@@ -4,7 +4,7 @@ use Prim.Native.Nat.{ℕ}
 use mathlib.Core.List.{List}
 use mathlib.Core.Path.{_≡_, _∙_, ap}
 use denote.Ref.{RefT, now}
-use Rattle.model.specs.Board.{devices}
+use Rattle.model.specs.Board.{board}
 use Rattle.model.specs.Text.{lineFrom}
 use Rattle.model.specs.declared.LineAnswer.{LineAnswer}
 use Rattle.reader.specs.declared.Reader.{Reader}
@@ -22,10 +22,10 @@ pub one-moved : (r : Reader) (offset : ℕ) (a b : Reader) → (a .text ≡ r .t
     → (b .text ≡ r .text) × (b .offset ≡ offset) → a ≡ b
 one-moved r offset a b p q = same-reader a b (cc) (cc)
 
-pub one-next : (r : Reader) (a b : LineAnswer) → a ≡ lineFrom devices (now (r .text)) (r .offset)
-    → b ≡ lineFrom devices (now (r .text)) (r .offset) → a ≡ b
+pub one-next : (r : Reader) (a b : LineAnswer) → a ≡ lineFrom board (now (r .text)) (r .offset)
+    → b ≡ lineFrom board (now (r .text)) (r .offset) → a ≡ b
 one-next r a b p q = cc
 
-pub one-line : (text : List ℕ) (offset : ℕ) (a b : LineAnswer) → a ≡ lineFrom devices text offset
-    → b ≡ lineFrom devices text offset → a ≡ b
+pub one-line : (text : List ℕ) (offset : ℕ) (a b : LineAnswer) → a ≡ lineFrom board text offset
+    → b ≡ lineFrom board text offset → a ≡ b
 one-line text offset a b p q = cc

@@ -4,7 +4,7 @@
 use model::Cursor;
 use model::LineAnswer;
 ghost use mathlib.Core.Path.{_≡_};
-ghost use Rattle.model.specs.Board.{devices};
+ghost use Rattle.model.specs.Board.{board};
 ghost use Rattle.model.specs.Text.{newlinesBefore, lineFrom};
 ghost use Rattle.promises.specs.ForC.{HandsOutForC};
 
@@ -30,7 +30,7 @@ fn newlines_before(text: &[u8], offset: usize) -> usize
 
 // The line at the offset, with the cursor past it; a refusal with its place; or the end.
 fn line_from(text: &[u8], offset: usize) -> LineAnswer
-    ensures { λ r. ⌜ r ≡ lineFrom devices (now (text .entry)) offset ⌝ }
+    ensures { λ r. ⌜ r ≡ lineFrom board (now (text .entry)) offset ⌝ }
 {
     let lines = newlines_before(text, offset);
     lines::next_line(text, Cursor { offset, lines })
@@ -53,7 +53,7 @@ pub fn new<'a>(text: &'a [u8]) -> Reader<'a>
 
 // What the reader hands out next.
 pub fn next<'a>(r: Reader<'a>) -> LineAnswer
-    ensures { λ a. ⌜ a ≡ lineFrom devices (now (r .entry .text)) (r .entry .offset) ⌝ }
+    ensures { λ a. ⌜ a ≡ lineFrom board (now (r .entry .text)) (r .entry .offset) ⌝ }
 {
     line_from(r.text, r.offset)
 }
@@ -72,7 +72,7 @@ pub fn moved<'a>(r: Reader<'a>, offset: usize) -> Reader<'a>
 
 // The line that a reader of this text hands out at the offset.
 pub fn line_at(text: &[u8], offset: usize) -> LineAnswer
-    ensures { λ r. ⌜ r ≡ lineFrom devices (now (text .entry)) offset ⌝ }
+    ensures { λ r. ⌜ r ≡ lineFrom board (now (text .entry)) offset ⌝ }
 {
     next(moved(new(text), offset))
 }
@@ -81,7 +81,7 @@ pub fn line_at(text: &[u8], offset: usize) -> LineAnswer
 // 2^32 plus its place.
 #[no_mangle]
 pub extern "C" fn gimmerskip_line(text: &[u8], offset: usize) -> u64
-    ensures { λ r. ⌜ HandsOutForC (now (text .entry)) offset r ⌝ }
+    ensures { λ r. ⌜ HandsOutForC board (now (text .entry)) offset r ⌝ }
 {
     match line_at(text, offset) {
         LineAnswer::Line(n, _) => n as u64,

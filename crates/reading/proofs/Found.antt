@@ -11,8 +11,8 @@ use lib.Dec.{leb}
 use lib.ListN.{length, take, drop, length-append}
 use lib.Seq.{take-at}
 use Rattle.model.specs.Answers.{firstRefusal, refuseIf}
-use Rattle.model.specs.Board.{devices}
-use Rattle.model.specs.Line.{isLine, lineNumber, maxLines}
+use Rattle.model.specs.Board.{board}
+use Rattle.model.specs.Line.{Settings, isLine, lineNumber, maxLines}
 use Rattle.model.specs.Lists.{over}
 use Rattle.model.specs.Text.{packedLine, linesOf, spelt}
 use Rattle.model.specs.WellFormed.{lineFault, firstFault}
@@ -24,66 +24,67 @@ use Rattle.lines.specs.Gathered.{handedOut, stopsWith, gathered, GathersAs}
 use Rattle.lines.specs.declared.Gathered.{Gathered}
 use Rattle.lines.proofs.Gathering.{all-room, gathers-over}
 
-fault-many : (D : ℕ) (b : List ℕ) (l : ℕ) → leb maxLines (length b) ≡ true → lineFault D b l ≡ some TooManyLines
+fault-many : (S : Settings) (b : List ℕ) (l : ℕ) → leb maxLines (length b) ≡ true → lineFault S b l ≡ some TooManyLines
 unfolding lineFault
-fault-many D b l e = rw e
+fault-many S b l e = rw e
 
-fault-malformed : (D : ℕ) (b : List ℕ) (l : ℕ) → leb maxLines (length b) ≡ false → isLine D l ≡ false
-    → lineFault D b l ≡ some (Malformed (lineNumber (length b)))
+fault-malformed : (S : Settings) (b : List ℕ) (l : ℕ) → leb maxLines (length b) ≡ false → isLine S l ≡ false
+    → lineFault S b l ≡ some (Malformed (lineNumber (length b)))
 unfolding lineFault
-fault-malformed D b l e f = rw (e, f)
+fault-malformed S b l e f = rw (e, f)
 
 -- the fault of the first line that has one: of those handed out, and then the refusal
-pub first-found : (D : ℕ) (b : List ℕ) (ls : List (List ℕ))
-    → firstFault D b (map (numberIn D) ls)
-    ≡ firstRefusal (firstFault D b (handedOut D (length b) ls) ∷ stopsWith D (length b) ls ∷ [])
+pub first-found : (S : Settings) (b : List ℕ) (ls : List (List ℕ))
+    → firstFault S b (map (numberIn S) ls)
+    ≡ firstRefusal (firstFault S b (handedOut S (length b) ls) ∷ stopsWith S (length b) ls ∷ [])
 unfolding firstFault handedOut stopsWith firstRefusal
-first-found D b [] = refl
-first-found D b (l ∷ ls) =
-    go (leb maxLines (length b)) refl (packedLine D l) refl (λ m. first-found D (m ∷ b) ls)
+first-found S b [] = refl
+first-found S b (l ∷ ls) =
+    go (leb maxLines (length b)) refl (packedLine S l) refl (λ m. first-found S (m ∷ b) ls)
   where
-    go : (t : Bool) → leb maxLines (length b) ≡ t → (o : Option ℕ) → packedLine D l ≡ o
-        → ((m : ℕ) → firstFault D (m ∷ b) (map (numberIn D) ls)
-        ≡ firstRefusal (firstFault D (m ∷ b) (handedOut D (suc (length b)) ls) ∷ stopsWith D (suc (length b)) ls ∷ []))
-        → firstFault D b (Option·getD o 0 ∷ map (numberIn D) ls)
+    go : (t : Bool) → leb maxLines (length b) ≡ t → (o : Option ℕ) → packedLine S l ≡ o
+        → ((m : ℕ) → firstFault S (m ∷ b) (map (numberIn S) ls)
+        ≡ firstRefusal (firstFault S (m ∷ b) (handedOut S (suc (length b)) ls) ∷ stopsWith S (suc (length b)) ls ∷ []))
+        → firstFault S b (Option·getD o 0 ∷ map (numberIn S) ls)
         ≡ firstRefusal
-        (firstFault D b (cond t [] (elim o [ none ↦ [] | some m ↦ m ∷ handedOut D (suc (length b)) ls ]))
+        (firstFault S b (cond t [] (elim o [ none ↦ [] | some m ↦ m ∷ handedOut S (suc (length b)) ls ]))
         ∷ cond t (some TooManyLines)
-        (elim o [ none ↦ some (Malformed (lineNumber (length b))) | some m ↦ stopsWith D (suc (length b)) ls ])
+        (elim o [ none ↦ some (Malformed (lineNumber (length b))) | some m ↦ stopsWith S (suc (length b)) ls ])
         ∷ [])
-    go true e o q ih = rw (fault-many D b (Option·getD o 0) e, firstFault)
-    go false e none q ih = rw (fault-malformed D b 0 e (zero-no-line D), firstFault)
-    go false e (some m) q ih = own (lineFault D b m) (ih m)
+    go true e o q ih = rw (fault-many S b (Option·getD o 0) e, firstFault)
+    go false e none q ih = rw (fault-malformed S b 0 e (zero-no-line S), firstFault)
+    go false e (some m) q ih = own (lineFault S b m) (ih m)
       where
         rest : Option Refusal
-        rest = firstFault D (m ∷ b) (handedOut D (suc (length b)) ls)
+        rest = firstFault S (m ∷ b) (handedOut S (suc (length b)) ls)
 
         own : (f : Option Refusal)
-            → firstFault D (m ∷ b) (map (numberIn D) ls) ≡ firstRefusal (rest ∷ stopsWith D (suc (length b)) ls ∷ [])
-            → elim f [ some r ↦ some r | none ↦ firstFault D (m ∷ b) (map (numberIn D) ls) ]
-            ≡ firstRefusal (elim f [ some r ↦ some r | none ↦ rest ] ∷ stopsWith D (suc (length b)) ls ∷ [])
+            → firstFault S (m ∷ b) (map (numberIn S) ls) ≡ firstRefusal (rest ∷ stopsWith S (suc (length b)) ls ∷ [])
+            → elim f [ some r ↦ some r | none ↦ firstFault S (m ∷ b) (map (numberIn S) ls) ]
+            ≡ firstRefusal (elim f [ some r ↦ some r | none ↦ rest ] ∷ stopsWith S (suc (length b)) ls ∷ [])
         own none ih = ih
         own (some r) ih = refl
 
 -- at the end, all lines were handed out
-all-found : (D n : ℕ) (ls : List (List ℕ)) → stopsWith D n ls ≡ none → handedOut D n ls ≡ map (numberIn D) ls
+all-found : (S : Settings) (n : ℕ) (ls : List (List ℕ)) → stopsWith S n ls ≡ none
+    → handedOut S n ls ≡ map (numberIn S) ls
 unfolding handedOut stopsWith
-all-found D n [] e = refl
-all-found D n (l ∷ ls) e = go (leb maxLines n) (packedLine D l) refl (all-found D (suc n) ls) e
+all-found S n [] e = refl
+all-found S n (l ∷ ls) e = go (leb maxLines n) (packedLine S l) refl (all-found S (suc n) ls) e
   where
-    go : (t : Bool) (o : Option ℕ) → packedLine D l ≡ o
-        → (stopsWith D (suc n) ls ≡ none → handedOut D (suc n) ls ≡ map (numberIn D) ls)
+    go : (t : Bool) (o : Option ℕ) → packedLine S l ≡ o
+        → (stopsWith S (suc n) ls ≡ none → handedOut S (suc n) ls ≡ map (numberIn S) ls)
         → cond t (some TooManyLines)
-        (elim o [ none ↦ some (Malformed (lineNumber n)) | some m ↦ stopsWith D (suc n) ls ]) ≡ none
-        → cond t [] (elim o [ none ↦ [] | some m ↦ m ∷ handedOut D (suc n) ls ]) ≡ Option·getD o 0 ∷ map (numberIn D) ls
+        (elim o [ none ↦ some (Malformed (lineNumber n)) | some m ↦ stopsWith S (suc n) ls ]) ≡ none
+        → cond t [] (elim o [ none ↦ [] | some m ↦ m ∷ handedOut S (suc n) ls ]) ≡ Option·getD o 0 ∷ map (numberIn S) ls
     go true o q ih e = absurd (Option·none-ne-some TooManyLines (sym e))
     go false none q ih e = absurd (Option·none-ne-some (Malformed (lineNumber n)) (sym e))
     go false (some m) q ih e = rw (ih e)
 
-pub all-spelt : (D : ℕ) (text : List ℕ) → stopsWith D 0 (linesOf text) ≡ none
-    → handedOut D 0 (linesOf text) ≡ spelt D text
+pub all-spelt : (S : Settings) (text : List ℕ) → stopsWith S 0 (linesOf text) ≡ none
+    → handedOut S 0 (linesOf text) ≡ spelt S text
 unfolding spelt
-all-spelt D text e = all-found D 0 (linesOf text) e
+all-spelt S text e = all-found S 0 (linesOf text) e
 
 -- ---- what the answer says of the list
 
@@ -91,16 +92,16 @@ all-spelt D text e = all-found D 0 (linesOf text) e
 pub record Front (text : List ℕ) (n : ℕ) (left : List ℕ) : Type 0 where
   pub within : n ≤ length left
   pub few : n ≤ maxLines
-  pub lines : take n left ≡ handedOut devices 0 (linesOf text)
+  pub lines : take n left ≡ handedOut board 0 (linesOf text)
 
 module _ (text lent left : List ℕ) (long : length lent ≡ maxLines) where
   abbrev out : List ℕ
-  out = handedOut devices 0 (linesOf text)
+  out = handedOut board 0 (linesOf text)
 
   front : (n : ℕ) (a : Gathered) → n ≡ length out → GathersAs text lent a left → Front text n left
   unfolding over
   front n a e g =
-      let few = all-room devices (linesOf text) in
+      let few = all-room board (linesOf text) in
       let l = gathers-over text lent a left long g in
       record {
         within = rw (l, length-append) (omega arith);
@@ -109,9 +110,9 @@ module _ (text lent left : List ℕ) (long : length lent ≡ maxLines) where
       }
 
   pub stopped-front : (n : ℕ) (r : Refusal) → GathersAs text lent (Gathered.Stopped n r) left
-      → Front text n left × (stopsWith devices 0 (linesOf text) ≡ some r)
+      → Front text n left × (stopsWith board 0 (linesOf text) ≡ some r)
   unfolding gathered
-  stopped-front n r g = go (stopsWith devices 0 (linesOf text)) (g .answers)
+  stopped-front n r g = go (stopsWith board 0 (linesOf text)) (g .answers)
     where
       go : (o : Option Refusal) → Gathered.Stopped n r ≡ gathered (length out) o
           → Front text n left × (o ≡ some r)
@@ -119,9 +120,9 @@ module _ (text lent left : List ℕ) (long : length lent ≡ maxLines) where
       go (some q) e = (front n (Gathered.Stopped n r) (cc) g, cc)
 
   pub all-front : (n : ℕ) → GathersAs text lent (Gathered.All n) left
-      → Front text n left × (stopsWith devices 0 (linesOf text) ≡ none)
+      → Front text n left × (stopsWith board 0 (linesOf text) ≡ none)
   unfolding gathered
-  all-front n g = go (stopsWith devices 0 (linesOf text)) (g .answers)
+  all-front n g = go (stopsWith board 0 (linesOf text)) (g .answers)
     where
       go : (o : Option Refusal) → Gathered.All n ≡ gathered (length out) o
           → Front text n left × (o ≡ none)

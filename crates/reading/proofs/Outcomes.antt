@@ -6,7 +6,7 @@ use mathlib.Core.Path.{_≡_, refl, sym, _∙_}
 use lib.ListN.{length}
 use borrow.Author.Tests.{lt-ltb, le-ltb}
 use Rattle.model.specs.Answers.{firstRefusal, refuseIf, tooShort}
-use Rattle.model.specs.Board.{devices}
+use Rattle.model.specs.Board.{board}
 use Rattle.model.specs.Entries.{outcome, textFault, reading}
 use Rattle.model.specs.Line.{maxBytes}
 use Rattle.model.specs.Lists.{over}
@@ -25,15 +25,15 @@ use Rattle.reading.proofs.Found.{first-found, all-spelt}
 
 module _ (lines lent : List ℕ) where
   tests : Option Refusal
-  tests = firstRefusal (fault devices lines ∷ tooShort (length lent) (length lines) ∷ [])
+  tests = firstRefusal (fault board lines ∷ tooShort (length lent) (length lines) ∷ [])
 
   -- 2 to 7
-  pub keeps-fault : (r : Refusal) → fault devices lines ≡ some r → KeepsAs lines lent (ReadAnswer.Refused r) lent
+  pub keeps-fault : (r : Refusal) → fault board lines ≡ some r → KeepsAs lines lent (ReadAnswer.Refused r) lent
   unfolding tests firstRefusal
   keeps-fault r e =
       by-refusal ReadAnswer.Refused (ReadAnswer.Lines (length lines)) (over lines lent) lent tests r (rw e)
 
-  module _ (e : fault devices lines ≡ none) where
+  module _ (e : fault board lines ≡ none) where
     -- 11
     pub keeps-short : length lent < length lines
         → KeepsAs lines lent (ReadAnswer.Refused (ListTooShort (length lines))) lent
@@ -53,46 +53,46 @@ module _ (lines lent : List ℕ) where
 -- ---- the text read
 
 module _ (text lent : List ℕ) where
-  refused : (r : Refusal) → textFault devices text ≡ some r → ReadsAs text lent (ReadAnswer.Refused r) lent
+  refused : (r : Refusal) → textFault board text ≡ some r → ReadsAs board text lent (ReadAnswer.Refused r) lent
   unfolding reading firstRefusal
   refused r e =
-      let p : List ℕ = spelt devices text in
+      let p : List ℕ = spelt board text in
       by-refusal ReadAnswer.Refused (ReadAnswer.Lines (length p)) (over p lent) lent
-      (firstRefusal (textFault devices text ∷ tooShort (length lent) (length p) ∷ [])) r (rw e)
+      (firstRefusal (textFault board text ∷ tooShort (length lent) (length p) ∷ [])) r (rw e)
 
   -- 1
-  pub reads-long : maxBytes < length text → ReadsAs text lent (ReadAnswer.Refused TextTooLong) lent
+  pub reads-long : maxBytes < length text → ReadsAs board text lent (ReadAnswer.Refused TextTooLong) lent
   unfolding textFault refuseIf firstRefusal
   reads-long h = refused TextTooLong (rw (lt-ltb maxBytes (length text) h))
 
   module _ (short : length text ≤ maxBytes) where
-    plan-fault : textFault devices text ≡ fault devices (spelt devices text)
+    plan-fault : textFault board text ≡ fault board (spelt board text)
     unfolding textFault refuseIf firstRefusal
-    plan-fault = rw (le-ltb maxBytes (length text) short) (only (fault devices (spelt devices text)))
+    plan-fault = rw (le-ltb maxBytes (length text) short) (only (fault board (spelt board text)))
       where
         only : (o : Option Refusal) → firstRefusal (o ∷ []) ≡ o
         only none = refl
         only (some r) = refl
 
     -- the reader stopped
-    pub reads-stopped : (r : Refusal) → stopsWith devices 0 (linesOf text) ≡ some r
-        → ReadsAs text lent
-        (ReadAnswer.Refused (Option·getD (firstFault devices [] (handedOut devices 0 (linesOf text))) r)) lent
+    pub reads-stopped : (r : Refusal) → stopsWith board 0 (linesOf text) ≡ some r
+        → ReadsAs board text lent
+        (ReadAnswer.Refused (Option·getD (firstFault board [] (handedOut board 0 (linesOf text))) r)) lent
     unfolding fault spelt firstRefusal
     reads-stopped r e =
-        let out : List ℕ = handedOut devices 0 (linesOf text) in
-        refused (Option·getD (firstFault devices [] out) r)
-        (plan-fault ∙ rw (first-found devices [] (linesOf text), e) (go (firstFault devices [] out)))
+        let out : List ℕ = handedOut board 0 (linesOf text) in
+        refused (Option·getD (firstFault board [] out) r)
+        (plan-fault ∙ rw (first-found board [] (linesOf text), e) (go (firstFault board [] out)))
       where
         go : (o : Option Refusal)
             → firstRefusal
-            (firstRefusal (o ∷ some r ∷ []) ∷ emptyStart (spelt devices text) ∷ neverStarted (spelt devices text) ∷ [])
+            (firstRefusal (o ∷ some r ∷ []) ∷ emptyStart (spelt board text) ∷ neverStarted (spelt board text) ∷ [])
             ≡ some (Option·getD o r)
         go none = refl
         go (some q) = refl
 
     -- it came to the end
-    pub reads-kept : stopsWith devices 0 (linesOf text) ≡ none → (a : ReadAnswer) (left : List ℕ)
-        → KeepsAs (handedOut devices 0 (linesOf text)) lent a left → ReadsAs text lent a left
+    pub reads-kept : stopsWith board 0 (linesOf text) ≡ none → (a : ReadAnswer) (left : List ℕ)
+        → KeepsAs (handedOut board 0 (linesOf text)) lent a left → ReadsAs board text lent a left
     unfolding reading
-    reads-kept e a left k = rw plan-fault (rw (all-spelt devices text e) at k)
+    reads-kept e a left k = rw plan-fault (rw (all-spelt board text e) at k)

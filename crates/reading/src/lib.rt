@@ -11,7 +11,7 @@ ghost use mathlib.Core.List.{[]};
 ghost use mathlib.Core.Option.{Option·getD};
 ghost use mathlib.Core.Path.{_≡_};
 ghost use lib.ListN.{length};
-ghost use Rattle.model.specs.Board.{devices};
+ghost use Rattle.model.specs.Board.{board};
 ghost use Rattle.model.specs.Line.{maxLines};
 ghost use Rattle.model.specs.Lists.{over};
 ghost use Rattle.model.specs.WellFormed.{firstFault};
@@ -32,7 +32,7 @@ fn copy_numbers(from: &[u32], to: &mut [u32])
 
 // Where the reader stopped, an earlier line's own fault decides over the refusal.
 fn first_fault(lines: &[u32], r: Refusal) -> Refusal
-    ensures { λ q. ⌜ q ≡ Option·getD (firstFault devices [] (now (lines .entry))) r ⌝ }
+    ensures { λ q. ⌜ q ≡ Option·getD (firstFault board [] (now (lines .entry))) r ⌝ }
 {
     match plan::lines_fault(lines) {
         Checked::Refused(q) => {
@@ -64,7 +64,7 @@ fn keep(lines: &[u32], plan: &mut [u32]) -> ReadAnswer
 
 // A text into a lent list of packed numbers.
 pub fn read(text: &[u8], plan: &mut [u32]) -> ReadAnswer
-    ensures { λ r. ⌜ ReadsAs (now (text .entry)) (now (plan .entry)) r (now (plan .exit)) ⌝ }
+    ensures { λ r. ⌜ ReadsAs board (now (text .entry)) (now (plan .entry)) r (now (plan .exit)) ⌝ }
 {
     if MOST_BYTES < text.len() {
         return ReadAnswer::Refused(Refusal::TextTooLong);

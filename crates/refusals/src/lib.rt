@@ -28,6 +28,8 @@ pub fn number(r: Refusal) -> u32
         Refusal::NoSuchDevice(_) => 13,
         Refusal::StaleTable(_) => 14,
         Refusal::IllegalStep(_) => 15,
+        Refusal::HeldTwice(_) => 16,
+        Refusal::HeldLate(_) => 17,
     }
 }
 
@@ -50,6 +52,8 @@ pub fn place(r: Refusal) -> u32
         Refusal::NoSuchDevice(asked) => asked,
         Refusal::StaleTable(line) => line,
         Refusal::IllegalStep(position) => position,
+        Refusal::HeldTwice(line) => line,
+        Refusal::HeldLate(line) => line,
     }
 }
 

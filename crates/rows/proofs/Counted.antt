@@ -9,17 +9,21 @@ use lib.Dec.{eqb, leb}
 use lib.ListN.{length, getD, drop, length-drop, drop-of-length-le}
 use lib.Seq.{drop-cons}
 use borrow.Author.Tests.{le-leb}
-use Rattle.model.specs.Board.{devices}
+use Rattle.model.specs.Board.{devices, board}
 use Rattle.model.specs.Lists.{upFrom, positions, any, those}
-use Rattle.model.specs.Line.{job, operand, at, maxLines}
+use Rattle.model.specs.Line.{job, operand, isHeld, isTake, at, maxLines}
 use Rattle.model.specs.Mate.{takesAt, deviceAt, takes, mate, isNone, lastingAt, lasting}
 use Rattle.model.specs.Sets.{empty, union, member}
 use Rattle.model.specs.Rows.{lastingTakes}
 use Rattle.model.specs.WellFormed.{fault}
 use Rattle.theory.specs.Outer.{plain, plainAt}
-use Rattle.theory.proofs.Tests.{and-right}
+use Rattle.theory.proofs.Tests.{and-right, and-split}
+use Rattle.theory.proofs.Line.{take-no-held, own-device}
+use Rattle.theory.proofs.Claims.{outermost}
 use Rattle.theory.proofs.Sets.{member-empty, member-union, empty-below, union-below}
+use Rattle.model.specs.Verdict.{keepers}
 use Rattle.theory.proofs.WellFormed.{no-fault-exactly}
+use Rattle.theory.proofs.Morning.{keepers-lasting}
 use Rattle.sets.specs.Only.{onlyOf}
 use Rattle.sets.specs.Both.{both}
 use Rattle.sets.proofs.Members.{member-only-of, member-both, only-of-below, both-below}
@@ -74,9 +78,9 @@ more-on p d k false h e = ap length (takes-on p d k false h e)
 
 -- ---- the line at hand: it has its flag, and counts by it
 
-module _ (p again : List ℕ) (k : ℕ) (pre : (fault devices p ≡ none) × (again ≡ againFlags p)) (h : k < length p) where
+module _ (p again : List ℕ) (k : ℕ) (pre : (fault board p ≡ none) × (again ≡ againFlags p)) (h : k < length p) where
   pub has-flag : k < maxLines
-  has-flag = omega (arith, no-fault-exactly devices p .0 (pre .0) .few)
+  has-flag = omega (arith, no-fault-exactly board p .0 (pre .0) .few)
 
   pub counts-as : plain (eqb (getD again k 0) 1) (at p k) ≡ plainAt p k
   counts-as = plain-is p again k (pre .1) has-flag
@@ -111,6 +115,16 @@ pub none-known : (p : List ℕ)
     → Knows p (record { job = 0; wanted = 0; lasts = false; held = 0; twice = 0 }) (length p)
 none-known p k e = rw (drop-of-length-le p {i = length p} (omega arith)) (after-is (at p k) [] 0 0 none-wanting)
 
+-- a lasting take is an outermost take
+pub lasting-takes : (p : List ℕ) (k : ℕ) → lastingAt p k ≡ true → takesAt p k ≡ true
+unfolding lastingAt
+lasting-takes p k e = and-split (takesAt p k) (isNone (mate p k)) e .0
+
+-- the device of a take is its operand
+pub taken-operand : (p : List ℕ) (k : ℕ) → isTake (at p k) ≡ true → deviceAt p k ≡ operand (at p k)
+unfolding deviceAt
+taken-operand p k t = own-device (at p k) (take-no-held (at p k) t)
+
 -- one line further back
 module _ (p : List ℕ) (few : length p ≤ maxLines) (old new : Passed) (k : ℕ) (m : Counted p old (suc k))
     (w : Knows p old (suc k)) (n : PassedOn new old (at p k) (plainAt p k)) where
@@ -122,9 +136,14 @@ module _ (p : List ℕ) (few : length p ≤ maxLines) (old new : Passed) (k : �
   one = cond (new .lasts) (onlyOf devices (operand (at p k))) empty
 
   member-one : (d : ℕ) → d < devices → member one d ≡ lasting p k d
-  unfolding deviceAt
-  member-one d h = go (new .lasts) ∙ ap (λ b. b && eqb (operand (at p k)) d) lasts-made ∙ sym (lasting-is p k d)
+  member-one d h =
+      go (new .lasts) ∙ ap (λ b. b && eqb (operand (at p k)) d) lasts-made
+      ∙ (own (lastingAt p k) refl ∙ sym (lasting-is p k d))
     where
+      own : (b : Bool) → lastingAt p k ≡ b → (b && eqb (operand (at p k)) d) ≡ (b && eqb (deviceAt p k) d)
+      own false e = refl
+      own true e = rw (taken-operand p k (outermost p k (lasting-takes p k e) .0))
+
       go : (b : Bool) → member (cond b (onlyOf devices (operand (at p k))) empty) d ≡ (b && eqb (operand (at p k)) d)
       go true = member-only-of devices (operand (at p k)) d h
       go false = member-empty d
@@ -210,14 +229,15 @@ some-take f (x ∷ xs) = go (f x) (some-take f xs)
     go true ih = le-leb 1 (suc (length (those f xs))) (omega arith)
     go false ih = ih
 
-pub all-counted : (p : List ℕ) (passed : Passed) → Counted p passed 0 → HeldAs passed p
-unfolding heldToEnd lastsIn lastsAmong heldTwice
-all-counted p passed m = record {
+pub all-counted : (p : List ℕ) → ((i : ℕ) → isHeld (at p i) ≡ false) → (passed : Passed) → Counted p passed 0
+    → HeldAs passed p
+unfolding heldToEnd lastsIn lastsAmong heldTwice lastingTakes
+all-counted p unheld passed m = record {
   toEnd =
       is-where (λ d. any (λ k. lasting p k d) (positions p)) devices (passed .held) (m .heldBelow)
       (λ d k. m .heldIs d k ∙ ap (λ xs. leb 1 (length xs)) (takes-all p d)
       ∙ some-take (λ k. lasting p k d) (positions p));
   twice =
-      is-where (λ d. leb 2 (length (lastingTakes p d))) devices (passed .twice) (m .twiceBelow)
-      (λ d k. m .twiceIs d k ∙ ap (λ xs. leb 2 (length xs)) (takes-all p d));
+      is-where (λ d. leb 2 (length (keepers p d))) devices (passed .twice) (m .twiceBelow)
+      (λ d k. m .twiceIs d k ∙ ap (λ xs. leb 2 (length xs)) (takes-all p d ∙ sym (keepers-lasting p unheld d)));
 }

@@ -10,14 +10,14 @@ use lib.Dec.{eqb}
 use lib.ListN.{length, getD, set, replicate, length-set, getD-replicate}
 use lib.Seq.{getD-set-same, getD-set-other, ext-getD}
 use borrow.Author.Tests.{eqb-true, eqb-false}
-use Rattle.model.specs.Board.{devices}
+use Rattle.model.specs.Board.{devices, board}
 use Rattle.model.specs.Lists.{upFrom}
 use Rattle.model.specs.Line.{job, operand, isTake, isLine, at}
-use Rattle.model.specs.Mate.{takesAt, deviceAt, mate, isNone, lastingAt, lasting}
+use Rattle.model.specs.Mate.{deviceAt, lastingAt, lasting}
 use Rattle.model.specs.Sets.{empty, union, unionOf}
 use Rattle.model.specs.Claims.{table, beyond}
 use Rattle.model.specs.Rows.{rowOf, rows}
-use Rattle.theory.proofs.Tests.{test, and-split}
+use Rattle.theory.proofs.Tests.{test}
 use Rattle.theory.proofs.Line.{take-no-start}
 use Rattle.theory.specs.Claims.{claim}
 use Rattle.theory.specs.Outer.{againAt, plainAt}
@@ -29,12 +29,8 @@ use Rattle.claims.proofs.Claimed.{claimFrom, Claimed, none-claimed, next-is, cl
 use Rattle.rows.specs.Lasting.{rowJoined}
 use Rattle.rows.specs.Holds.{JoinedOn}
 use Rattle.rows.proofs.Entries.{entry-of, length-entries}
-use Rattle.rows.proofs.Counted.{lasting-is, takesFrom, takes-past, takes-on, takes-all}
-
--- a lasting take is an outermost take
-pub lasting-takes : (p : List ℕ) (k : ℕ) → lastingAt p k ≡ true → takesAt p k ≡ true
-unfolding lastingAt
-lasting-takes p k e = and-split (takesAt p k) (isNone (mate p k)) e .0
+use Rattle.rows.proofs.Counted.{taken-operand, lasting-takes, lasting-is, takesFrom, takes-past, takes-on}
+use Rattle.rows.proofs.Counted.{takes-all}
 
 -- the row of device d as far as the lines from i on make it, by some table
 pub rowFrom : List ℕ → List ℕ → ℕ → ℕ → ℕ
@@ -62,20 +58,23 @@ module _ (p t rs : List ℕ) (k next : ℕ) (m : RowsBy p t rs (suc k)) (h : k <
 
   rows-on : (b : Bool) → lastingAt p k ≡ b → (d : ℕ) → d < devices
       → getD (rowJoined (at p k) b next rs) d 0 ≡ rowFrom p t d k
-  unfolding rowJoined deviceAt
+  unfolding rowJoined
   rows-on false e d b = m .are d b ∙ sym (row-on d false (lasting-is p k d ∙ rw e))
   rows-on true e d b = go (test (eqb (operand (at p k)) d))
     where
+      own : deviceAt p k ≡ operand (at p k)
+      own = taken-operand p k (outermost p k (lasting-takes p k e) .0)
+
       go : (eqb (operand (at p k)) d ≡ true) ⊎ (eqb (operand (at p k)) d ≡ false)
           → getD (set rs (operand (at p k)) (union next (getD rs (operand (at p k)) 0))) d 0 ≡ rowFrom p t d k
       go (inl q) =
           ap (λ (x : ℕ). getD (set rs x (union next (getD rs x 0))) d 0) (eqb-true (operand (at p k)) d q)
           ∙ getD-set-same rs d (union next (getD rs d 0)) 0 (omega (arith, m .long))
           ∙ rw (lies (outermost p k (lasting-takes p k e) .0), m .are d b)
-          (sym (row-on d true (lasting-is p k d ∙ rw (e, q))))
+          (sym (row-on d true (lasting-is p k d ∙ rw (e, own, q))))
       go (inr q) =
           getD-set-other rs (operand (at p k)) d _ 0 (λ y. eqb-false (operand (at p k)) d q (sym y)) ∙ m .are d b
-          ∙ sym (row-on d false (lasting-is p k d ∙ rw (e, q)))
+          ∙ sym (row-on d false (lasting-is p k d ∙ rw (e, own, q)))
 
   rows-long : (b : Bool) → length (rowJoined (at p k) b next rs) ≡ devices
   unfolding rowJoined
@@ -106,7 +105,7 @@ pub none-from : (p : List ℕ) → RowsFrom p (replicate devices 0) (replicate o
 none-from p = record { by = none-by p (table p); claims = none-claimed p }
 
 module _ (p rs claimed : List ℕ) (k : ℕ) (m : RowsFrom p rs claimed (suc k)) (h : k < length p)
-    (ok : isLine devices (at p k) ≡ true) where
+    (ok : isLine board (at p k) ≡ true) where
   abbrev l : ℕ
   l = at p k
 

@@ -12,8 +12,8 @@ use Rattle.model.specs.Lists.{upFrom, positions, any, those, firstOf}
 use Rattle.model.specs.Mate.{lasting}
 use Rattle.model.specs.Sets.{member, lowestOf}
 use Rattle.model.specs.Answers.{refuseIf, refuseAt}
-use Rattle.model.specs.Rows.{lastingTakes, leadsBack}
-use Rattle.model.specs.Verdict.{twoLasting, circleOf}
+use Rattle.model.specs.Rows.{leadsBack}
+use Rattle.model.specs.Verdict.{keepers, twoLasting, circleOf}
 use Rattle.model.specs.declared.Refusal.{Refusal}
 use Rattle.model.specs.declared.Refusal.the-variants.{TwoLasting, LeadsBack}
 use Rattle.rows.specs.Where.{circlesOf}
@@ -48,7 +48,7 @@ module _ (D : ℕ) (p : List ℕ) where
       ≡ refuseIf (ltb (lowestOf D (heldTwice D p)) D) (TwoLasting (lowestOf D (heldTwice D p)))
   unfolding twoLasting heldTwice
   two-lasting-at =
-      ap (refuseAt TwoLasting) (sym (where-first D (λ d. leb 2 (length (lastingTakes p d)))))
+      ap (refuseAt TwoLasting) (sym (where-first D (λ d. leb 2 (length (keepers p d)))))
       ∙ at-lowest D (heldTwice D p) TwoLasting
 
   -- the devices still held after the last step

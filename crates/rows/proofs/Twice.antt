@@ -1,19 +1,19 @@
 -- What the jobs hold after their last lines tells which devices are held to the end, and which have two lasting takes
 -- (02, request 4): a job has one lasting take of a device at most.
 use Prim.Native.Nat.{ℕ, zero, suc, _^_, _<_}
-use mathlib.Core.Bool.{true}
+use mathlib.Core.Bool.{true, false}
 use mathlib.Core.List.{List, [], _∷_, map}
 use mathlib.Core.Logic.{_⊎_, inl, inr, _≢_}
 use mathlib.Core.Path.{_≡_, sym, _∙_, ap}
 use native.Mathlib.Omega.{arith}
 use lib.Dec.{leb}
 use lib.ListN.{length}
-use Rattle.model.specs.Board.{devices}
+use Rattle.model.specs.Board.{devices, board}
 use Rattle.model.specs.Lists.{upFrom, positions, has}
-use Rattle.model.specs.Line.{job, at, maxJob}
+use Rattle.model.specs.Line.{job, isHeld, at, maxJob}
 use Rattle.model.specs.Mate.{lasting}
 use Rattle.model.specs.Sets.{empty, unionOf, member}
-use Rattle.model.specs.Rows.{lastingTakes}
+use Rattle.model.specs.Verdict.{keepers}
 use Rattle.model.specs.WellFormed.{before, heldBy, WellFormed}
 use Rattle.model.specs.Kept.{lastsAmong, lastsIn, heldToEnd}
 use Rattle.theory.proofs.Tests.{clash, and-split, and-both, tests-agree}
@@ -23,6 +23,7 @@ use Rattle.theory.proofs.Sets.{union-below}
 use Rattle.sets.specs.Both.{both}
 use Rattle.sets.proofs.Members.{member-both, both-below}
 use Rattle.theory.proofs.Line.{line-parts}
+use Rattle.theory.proofs.WellFormed.{no-held-in-morning}
 use Rattle.theory.proofs.Claims.{takes-line}
 use Rattle.theory.proofs.Places.{lasting-parts}
 use Rattle.theory.proofs.JobEnds.{holds-lasting, lasting-holds, two-jobs}
@@ -127,9 +128,13 @@ module _ (D : ℕ) (f : ℕ → ℕ) (small : (j : ℕ) → f j < 2 ^ D) where
 
 -- ---- what the jobs of a plan hold
 
-module _ (p : List ℕ) (w : WellFormed devices p) where
+module _ (p : List ℕ) (w : WellFormed board p) where
   abbrev jobs : List ℕ
   jobs = upFrom 0 (suc maxJob)
+
+  -- no line is held
+  unheld : (i : ℕ) → isHeld (at p i) ≡ false
+  unheld = no-held-in-morning devices p w
 
   -- a lasting take stands in the plan, and its job is one of them
   lasts-at : (k d : ℕ) → lasting p k d ≡ true → k < length p
@@ -137,8 +142,8 @@ module _ (p : List ℕ) (w : WellFormed devices p) where
 
   of-jobs : (j d : ℕ) → has d (heldBy j (before p (length p))) ≡ true → has j jobs ≡ true
   of-jobs j d h =
-      let r = holds-lasting p (w .rules) j d h in
-      let b = line-parts devices (at p (r .0)) (w .lines (r .0) (lasts-at (r .0) d (r .1))) in
+      let r = holds-lasting p (w .rules) unheld j d h in
+      let b = line-parts board (at p (r .0)) (w .lines (r .0) (lasts-at (r .0) d (r .1))) in
       upFrom-has 0 (suc maxJob) j (omega arith) (omega (arith, b .1, r .2))
 
   -- The theorem: in one of what the jobs hold at their ends are the devices held to the end,
@@ -152,7 +157,7 @@ module _ (p : List ℕ) (w : WellFormed devices p) where
       to : (d : ℕ) → d < devices → member (unionOf (map (holding p) jobs)) d ≡ true → lastsIn p d ≡ true
       to d h m =
           let r = in-unionOf (holding p) jobs d m in
-          let k = holds-lasting p (w .rules) (r .0) d (sym (holding-has p (r .0) d h) ∙ r .2) in
+          let k = holds-lasting p (w .rules) unheld (r .0) d (sym (holding-has p (r .0) d h) ∙ r .2) in
           any-at (λ i. lasting p i d) (positions p) (k .0) (position-has p (k .0) (lasts-at (k .0) d (k .1))) (k .1)
 
       from : (d : ℕ) → d < devices → lastsIn p d ≡ true → member (unionOf (map (holding p) jobs)) d ≡ true
@@ -166,13 +171,13 @@ module _ (p : List ℕ) (w : WellFormed devices p) where
   pub two-of-jobs : twiceIn (holdings p) ≡ heldTwice devices p
   unfolding holdings heldTwice
   two-of-jobs =
-      is-where (λ d. leb 2 (length (lastingTakes p d))) devices (twiceIn (map (holding p) jobs))
+      is-where (λ d. leb 2 (length (keepers p d))) devices (twiceIn (map (holding p) jobs))
       (twice-below devices (holding p) (holding-below p) jobs)
-      (λ d h. tests-agree (member (twiceIn (map (holding p) jobs)) d) (leb 2 (length (lastingTakes p d))) (to d h)
+      (λ d h. tests-agree (member (twiceIn (map (holding p) jobs)) d) (leb 2 (length (keepers p d))) (to d h)
       (from d h))
     where
       to : (d : ℕ) → d < devices → member (twiceIn (map (holding p) jobs)) d ≡ true
-          → leb 2 (length (lastingTakes p d)) ≡ true
+          → leb 2 (length (keepers p d)) ≡ true
       to d h m =
           let t = in-twice (holding p) d 0 (suc maxJob) m in
           lasts-twice-exactly p d .1
@@ -184,7 +189,7 @@ module _ (p : List ℕ) (w : WellFormed devices p) where
             sym (holding-has p (t .k) d h) ∙ t .k-has,
           ))
 
-      from : (d : ℕ) → d < devices → leb 2 (length (lastingTakes p d)) ≡ true
+      from : (d : ℕ) → d < devices → leb 2 (length (keepers p d)) ≡ true
           → member (twiceIn (map (holding p) jobs)) d ≡ true
       from d h m =
           let t = two-jobs p (w .rules) d .0 (lasts-twice-exactly p d .0 m) in

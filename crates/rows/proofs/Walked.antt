@@ -8,14 +8,15 @@ use mathlib.Core.Path.{_≡_, refl, sym, _∙_}
 use native.Mathlib.Omega.{arith}
 use lib.ListN.{length, set, replicate, length-set, length-replicate, getD-replicate}
 use mir.Val.{boolByte}
-use Rattle.model.specs.Board.{devices}
+use Rattle.model.specs.Board.{devices, board}
 use Rattle.model.specs.Line.{isTake, isLine, at, maxLines}
 use Rattle.model.specs.Mate.{lastingAt}
 use Rattle.model.specs.WellFormed.{fault}
 use Rattle.theory.specs.Outer.{againAt, plainAt}
 use Rattle.theory.proofs.Claims.{outermost}
 use Rattle.theory.proofs.Outer.{plain-line, plain-take}
-use Rattle.theory.proofs.WellFormed.{no-fault-exactly, take-line}
+use Rattle.theory.proofs.Line.{take-line}
+use Rattle.theory.proofs.WellFormed.{no-fault-exactly, no-held-in-morning}
 use Rattle.claims.specs.Claim.{operands, tableIn}
 use Rattle.claims.proofs.Written.{EndOf, end-on, end-whole, none-written, one-written}
 use Rattle.rows.specs.declared.Passed.{Passed}
@@ -24,8 +25,8 @@ use Rattle.rows.specs.Holds.{PassedOn, JoinedOn, WalkedAs}
 use Rattle.rows.proofs.Entries.{length-entries}
 use Rattle.rows.proofs.Wanted.{flag-at}
 use Rattle.rows.proofs.Counted.{Counted, Knows, none-counted, none-known, lasts-made, known-on, counted-on}
-use Rattle.rows.proofs.Counted.{all-counted}
-use Rattle.rows.proofs.RowsFrom.{lasting-takes, RowsFrom, none-from, set-made, from-on, all-from}
+use Rattle.rows.proofs.Counted.{lasting-takes, all-counted}
+use Rattle.rows.proofs.RowsFrom.{RowsFrom, none-from, set-made, from-on, all-from}
 
 pub record Walked (p lent rs flags table claimed : List ℕ) (passed : Passed) (i : ℕ) : Type 0 where
   pub counted : Counted p passed i
@@ -84,16 +85,16 @@ none-walked p lent = record {
 }
 
 -- one line further back
-module _ {p lent rs flags table claimed : List ℕ} {old new : Passed} {k : ℕ} (fine : fault devices p ≡ none)
+module _ {p lent rs flags table claimed : List ℕ} {old new : Passed} {k : ℕ} (fine : fault board p ≡ none)
     (m : Walked p lent rs flags table claimed old (suc k)) (n : PassedOn new old (at p k) (plainAt p k)) where
   few : length p ≤ maxLines
-  few = no-fault-exactly devices p .0 fine .few
+  few = no-fault-exactly board p .0 fine .few
 
-  is-line : isLine devices (at p k) ≡ true
-  is-line = no-fault-exactly devices p .0 fine .lines k (m .counted .inPlan)
+  is-line : isLine board (at p k) ≡ true
+  is-line = no-fault-exactly board p .0 fine .lines k (m .counted .inPlan)
 
-  pub counts-line : isLine devices (plainAt p k) ≡ true
-  counts-line = plain-line (againAt p k) (at p k) devices is-line
+  pub counts-line : isLine board (plainAt p k) ≡ true
+  counts-line = plain-line (againAt p k) (at p k) board is-line
 
   lasts-here : new .lasts ≡ lastingAt p k
   lasts-here = lasts-made p few old new k (m .counted) (m .known) n
@@ -117,9 +118,10 @@ module _ {p lent rs flags table claimed : List ℕ} {old new : Passed} {k : ℕ}
 
 -- at the front all is the plan's
 pub all-walked : {p lent rs flags table claimed : List ℕ} {passed : Passed}
-    → Walked p lent rs flags table claimed passed 0 → WalkedAs p lent passed rs flags table
-all-walked {p} {lent} {rs} {flags} {table} {claimed} {passed} m = record {
-  held = all-counted p passed (m .counted);
+    → fault board p ≡ none → Walked p lent rs flags table claimed passed 0
+    → WalkedAs p lent passed rs flags table
+all-walked {p} {lent} {rs} {flags} {table} {claimed} {passed} fine m = record {
+  held = all-counted p (no-held-in-morning devices p (no-fault-exactly board p .0 fine)) passed (m .counted);
   rowsAre = all-from p rs claimed (m .rowsFrom);
   flagsAre = end-whole (lastingFlags p) flags (m .flagged);
   tableIs = end-whole (tableIn p lent) table (m .written);

@@ -10,7 +10,7 @@ use native.Mathlib.Omega.{arith}
 use lib.Dec.{eqb, leb}
 use lib.ListN.{length, getD, drop}
 use borrow.Author.Tests.{eqb-true, eq-eqb, eqb-false, ne-eqb, le-leb, lt-leb}
-use Rattle.model.specs.Line.{job, isTake, isGive, at, maxLines}
+use Rattle.model.specs.Line.{job, opens, isTake, isGive, at, maxLines}
 use Rattle.model.specs.Mate.{takesAt, mateIn, mate, isNone, lastingAt}
 use Rattle.theory.specs.Outer.{plainAt}
 use Rattle.theory.proofs.Tests.{test, leb-agree}
@@ -27,7 +27,7 @@ wanted j (l ∷ ls) = cond (eqb (job l) j) (wantedBefore l (wanted j ls)) 0
 pub wanted-few : (j : ℕ) (ls : List ℕ) → wanted j ls ≤ length ls
 unfolding wanted wantedBefore
 wanted-few j [] = omega arith
-wanted-few j (l ∷ ls) = go (eqb (job l) j) (isTake l) (isGive l) (wanted j ls) (wanted-few j ls)
+wanted-few j (l ∷ ls) = go (eqb (job l) j) (opens l) (isGive l) (wanted j ls) (wanted-few j ls)
   where
     go : (x y z : Bool) (w : ℕ) → w ≤ length ls → cond x (cond y (w - 1) (cond z (suc w) w)) 0 ≤ suc (length ls)
     go false y z w h = omega arith
@@ -40,7 +40,7 @@ none-mates : (j depth i : ℕ) (ls : List ℕ) → isNone (mateIn j depth i ls) 
 unfolding mateIn isNone wanted wantedBefore
 none-mates j depth i [] = sym (le-leb 0 depth (omega arith))
 none-mates j depth i (l ∷ ls) =
-    go (eqb (job l) j) (isTake l) (isGive l) depth (wanted j ls) (λ e. none-mates j e (suc i) ls)
+    go (eqb (job l) j) (opens l) (isGive l) depth (wanted j ls) (λ e. none-mates j e (suc i) ls)
   where
     go : (x y z : Bool) (depth w : ℕ) → ((e : ℕ) → isNone (mateIn j e (suc i) ls) ≡ leb w e)
         → isNone (elim x [

@@ -6,7 +6,7 @@ use mathlib.Core.Option.{Option, none, some}
 use mathlib.Core.Path.{_≡_}
 use lib.Dec.{eqb}
 use lib.ListN.{getD, set}
-use Rattle.model.specs.Board.{devices}
+use Rattle.model.specs.Board.{devices, board}
 use Rattle.model.specs.Line.{job, operand, isTake}
 use Rattle.model.specs.Rows.{rows}
 use Rattle.model.specs.Sets.{empty, union}
@@ -61,14 +61,14 @@ holdsBy (some r) p = HoldsAnswer.Refused r
 
 pub record HoldsAs (p first again rs flags : List ℕ) (answer : HoldsAnswer) (first′ again′ rs′ flags′ : List ℕ)
     : Type 0 where
-  pub answers : answer ≡ holdsBy (fault devices p) p
-  pub firstsAre : first′ ≡ leftBy (fault devices p) (firstLines p) first
-  pub againsAre : again′ ≡ leftBy (fault devices p) (againFlags p) again
-  pub rowsAre : rs′ ≡ leftBy (fault devices p) (rowsOf p) rs
-  pub flagsAre : flags′ ≡ leftBy (fault devices p) (lastingFlags p) flags
+  pub answers : answer ≡ holdsBy (fault board p) p
+  pub firstsAre : first′ ≡ leftBy (fault board p) (firstLines p) first
+  pub againsAre : again′ ≡ leftBy (fault board p) (againFlags p) again
+  pub rowsAre : rs′ ≡ leftBy (fault board p) (rowsOf p) rs
+  pub flagsAre : flags′ ≡ leftBy (fault board p) (lastingFlags p) flags
 
 -- the same with the table, as far as its list has room
 pub record TabledAs (p rs table : List ℕ) (answer : HoldsAnswer) (rs′ table′ : List ℕ) : Type 0 where
-  pub answers : answer ≡ holdsBy (fault devices p) p
-  pub rowsAre : rs′ ≡ leftBy (fault devices p) (rowsOf p) rs
-  pub tableIs : table′ ≡ leftBy (fault devices p) (tableIn p table) table
+  pub answers : answer ≡ holdsBy (fault board p) p
+  pub rowsAre : rs′ ≡ leftBy (fault board p) (rowsOf p) rs
+  pub tableIs : table′ ≡ leftBy (fault board p) (tableIn p table) table

@@ -1,15 +1,15 @@
 -- The lasting takes of a plan (01, "Rules of a well-formed plan" and "Claims and rows"): a flag for each line, and the
--- set of the devices with two lasting takes. Below them the steps of the walk back.
+-- set of the devices that two lines keep to the end. Below them the steps of the walk back.
 use Prim.Native.Nat.{ℕ, suc, _-_}
 use mathlib.Core.Bool.{Bool, cond}
 use mathlib.Core.List.{List, map}
 use lib.Dec.{eqb, leb}
 use lib.ListN.{length, getD, set}
 use Rattle.model.specs.Lists.{upFrom}
-use Rattle.model.specs.Line.{job, operand, isTake, isGive, maxLines}
+use Rattle.model.specs.Line.{job, operand, opens, isGive, maxLines}
 use Rattle.model.specs.Mate.{lastingAt}
 use Rattle.model.specs.Sets.{union, devicesWhere}
-use Rattle.model.specs.Rows.{lastingTakes}
+use Rattle.model.specs.Verdict.{keepers}
 
 -- 1 at a lasting take, else 0; past the plan 0
 unfoldable pub lastingFlag : List ℕ → ℕ → ℕ
@@ -20,16 +20,16 @@ unfoldable pub lastingFlags : List ℕ → List ℕ
 unfolding lastingFlag upFrom
 lastingFlags p = map (lastingFlag p) (upFrom 0 maxLines)
 
--- the devices with two lasting takes
+-- the devices that two lines keep: in a plan of the morning, those with two lasting takes
 unfoldable pub heldTwice : ℕ → List ℕ → ℕ
-unfolding devicesWhere lastingTakes
-heldTwice D p = devicesWhere D (λ d. leb 2 (length (lastingTakes p d)))
+unfolding devicesWhere keepers
+heldTwice D p = devicesWhere D (λ d. leb 2 (length (keepers p d)))
 
 -- Going back, the gives of a job that still want their takes are counted. What is wanted before a line, where so much
--- is wanted after it: a take serves one, a give is one more.
+-- is wanted after it: a take or a held line serves one, a give is one more.
 unfoldable pub wantedBefore : ℕ → ℕ → ℕ
-unfolding isTake isGive
-wantedBefore l after = cond (isTake l) (after - 1) (cond (isGive l) (suc after) after)
+unfolding opens isGive
+wantedBefore l after = cond (opens l) (after - 1) (cond (isGive l) (suc after) after)
 
 -- what is wanted after a line, with so much wanted from the line passed last on, which is of job j: another job wants
 -- nothing

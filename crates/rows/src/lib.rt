@@ -15,7 +15,7 @@ ghost use mathlib.Core.Option.{none};
 ghost use Prim.Native.Nat.{suc, _%_, _^_};
 ghost use lib.Dec.{ltb};
 ghost use lib.ListN.{length, set};
-ghost use Rattle.model.specs.Board.{devices};
+ghost use Rattle.model.specs.Board.{devices, board};
 ghost use Rattle.model.specs.Line.{operand, isTake, isLine, maxJob};
 ghost use Rattle.model.specs.Sets.{unionOf};
 ghost use Rattle.model.specs.WellFormed.{fault};
@@ -69,7 +69,7 @@ fn wanted_before(l: u32, after: u32) -> u32
     let served = after - (0 < after) as u32;
     let more = std::num::wrapping_add_u32(after, 1);
     let given = line::choose(line::is_give(l), more, after);
-    line::choose(line::is_take(l), served, given)
+    line::choose(line::opens(l), served, given)
 }
 
 // One line further back, as it stands and as it counts. Gives match every take, so these are counted as they stand; a
@@ -109,7 +109,7 @@ fn join_line(
     rows: &mut [Set; EACH_DEVICE],
     claimed: &mut [Set; EACH_OPERAND],
 ) -> Set
-    requires { ⌜ (isLine devices l ≡ true) × (lasts ≡ true → isTake l ≡ true) ⌝ }
+    requires { ⌜ (isLine board l ≡ true) × (lasts ≡ true → isTake l ≡ true) ⌝ }
     ensures { λ r. ⌜
         JoinedOn l lasts (now (rows .entry)) (now (claimed .entry)) r (now (rows .exit)) (now (claimed .exit))
         ⌝ }
@@ -143,7 +143,7 @@ fn walk_back(
     lasting: &mut [u8; MOST_LINES],
     table: &mut [Set],
 ) -> Passed
-    requires { ⌜ (fault devices (now plan) ≡ none) × (now again ≡ againFlags (now plan)) ⌝ }
+    requires { ⌜ (fault board (now plan) ≡ none) × (now again ≡ againFlags (now plan)) ⌝ }
     ensures { λ r. ⌜
         WalkedAs (now (plan .entry)) (now (table .entry)) r (now (rows .exit)) (now (lasting .exit)) (now (table .exit))
         ⌝ }
@@ -190,7 +190,7 @@ fn over_jobs(holdings: &[Set; EACH_JOB]) -> HoldsAnswer
 
 // The two sets of a plan, tested by 2 to 7, and nothing beside them.
 pub fn held_to_end(plan: &[u32]) -> HoldsAnswer
-    ensures { λ r. ⌜ r ≡ holdsBy (fault devices (now (plan .entry))) (now (plan .entry)) ⌝ }
+    ensures { λ r. ⌜ r ≡ holdsBy (fault board (now (plan .entry))) (now (plan .entry)) ⌝ }
 {
     let mut first = [0u32; EACH_JOB];
     let mut starter = [0u32; EACH_JOB];

@@ -11,7 +11,7 @@ use lib.ListN.{length, take, length-map}
 use borrow.Author.Tests.{lt-ltb, le-ltb}
 use Rattle.model.specs.Lists.{over}
 use Rattle.model.specs.Answers.{firstRefusal}
-use Rattle.model.specs.Board.{devices}
+use Rattle.model.specs.Board.{devices, board}
 use Rattle.model.specs.Line.{lineNumber, maxLines}
 use Rattle.model.specs.Text.{spelt}
 use Rattle.model.specs.Handed.{handed}
@@ -22,9 +22,10 @@ use Rattle.model.specs.declared.Refusal.{Refusal}
 use Rattle.model.specs.declared.ReadAnswer.{ReadAnswer}
 use Rattle.model.specs.declared.VerdictAnswer.{VerdictAnswer}
 use Rattle.theory.proofs.Answers.{one-read-answer}
-use Rattle.theory.proofs.WellFormed.{fault-exactly}
+use Rattle.theory.proofs.WellFormed.{fault-exactly, no-fault-exactly}
 use Rattle.theory.proofs.Verdict.{accepted-is-legal}
-use Rattle.theory.proofs.Printed.{legal-length, printed-is, printed-fits}
+use Rattle.theory.proofs.Printed.{morning-length, printed-is, printed-fits}
+use Rattle.theory.proofs.Judged.{steps-few}
 use Rattle.promises.specs.Outcome.{faulty, short, further}
 use Rattle.promises.specs.Text.{ReadsAs}
 use Rattle.promises.specs.Verdict.{OrdersAs, NoVerdict}
@@ -40,19 +41,19 @@ use Rattle.screen.specs.Shows.{ShowsAs}
 
 module _ (text : List ℕ) where
   abbrev spells : List ℕ
-  spells = spelt devices text
+  spells = spelt board text
 
-  by-tests : (o : Option Refusal) → firstRefusal (textFault devices text ∷ noOrder devices spells ∷ []) ≡ o
-      → printedBy o (map lineNumber (handed spells)) (heldAtEnd devices spells) ≡ printed devices text
+  by-tests : (o : Option Refusal) → firstRefusal (textFault board text ∷ noOrder devices spells ∷ []) ≡ o
+      → printedBy o (map lineNumber (handed spells)) (heldAtEnd devices spells) ≡ printed board text
   by-tests o e =
       sym
-      (printed-is devices text
+      (printed-is board text
       ∙ ap (λ (o : Option Refusal). printedBy o (map lineNumber (handed spells)) (heldAtEnd devices spells)) e)
 
 -- ---- too little room
 
 pub prints-none : {text plan order lent : List ℕ} → length lent < screenRoom
-    → PrintsAs text plan order lent 0 plan order lent
+    → PrintsAs board text plan order lent 0 plan order lent
 unfolding screening screenBy
 prints-none {lent} h = record {
   screens = record { counts = rw (lt-ltb (length lent) screenRoom h); leaves = rw (lt-ltb (length lent) screenRoom h) };
@@ -64,14 +65,15 @@ prints-none {lent} h = record {
 -- ---- enough room, and lists of 1,024
 
 module _ (text plan order lent : List ℕ) (long : (length plan ≡ maxLines) × (length order ≡ maxLines))
-    {a : ReadAnswer} {plan′ : List ℕ} (x : ReadsAs text plan a plan′) (room : screenRoom ≤ length lent) {count : ℕ}
+    {a : ReadAnswer} {plan′ : List ℕ} (x : ReadsAs board text plan a plan′) (room : screenRoom ≤ length lent)
+    {count : ℕ}
     {left : List ℕ} where
   -- what is printed was put
-  prints : {bytes order′ : List ℕ} → bytes ≡ printed devices text → order′ ≡ orderAfter a plan′ order
-      → ShowsAs bytes lent count left → PrintsAs text plan order lent count plan′ order′ left
+  prints : {bytes order′ : List ℕ} → bytes ≡ printed board text → order′ ≡ orderAfter board a plan′ order
+      → ShowsAs bytes lent count left → PrintsAs board text plan order lent count plan′ order′ left
   unfolding screening screenBy
   prints e f y =
-      let all = y (omega (arith, printed-fits devices (lit≤ tt) text, ap length e)) in
+      let all = y (omega (arith, printed-fits board (lit≤ tt) text, ap length e)) in
       record {
         screens = record {
           counts = rw (le-ltb (length lent) screenRoom room, ← e) (all .0);
@@ -80,42 +82,42 @@ module _ (text plan order lent : List ℕ) (long : (length plan ≡ maxLines) ×
         idle = λ g. absurd (omega arith);
         reads = λ g. x .leaves;
         orders = λ g.
-            f ∙ ap (λ (b : ReadAnswer). orderAfter b plan′ order) (the-outcome one-read-answer a plan′ x .0);
+            f ∙ ap (λ (b : ReadAnswer). orderAfter board b plan′ order) (the-outcome one-read-answer a plan′ x .0);
       }
 
   -- a fault of the text
   pub prints-fault : {r : Refusal} → a ≡ ReadAnswer.Refused r → ShowsAs (printedRefusal r) lent count left
-      → PrintsAs text plan order lent count plan′ order left
+      → PrintsAs board text plan order lent count plan′ order left
   unfolding firstRefusal printedBy
-  prints-fault {r} q = prints (by-tests text (some r) (rw (read-fault text plan x (long .0) r q))) (rw q)
+  prints-fault {r} q = prints (by-tests text (some r) (rw (read-fault board text plan x (long .0) r q))) (rw q)
 
   -- the verdict on its lines
   module _ {n : ℕ} (q : a ≡ ReadAnswer.Lines n) {v : VerdictAnswer} {order′ : List ℕ}
-      (y : OrdersAs (take n plan′) order v order′) where
+      (y : OrdersAs board (take n plan′) order v order′) where
     -- no order
     pub prints-why : {r : Refusal} → v ≡ VerdictAnswer.Refused r → ShowsAs (printedRefusal r) lent count left
-        → PrintsAs text plan order lent count plan′ order′ left
+        → PrintsAs board text plan order lent count plan′ order′ left
     unfolding firstRefusal printedBy
     prints-why {r} p =
-        let z = rw (front-read text plan x q) at y in
-        prints (go r (refused-exactly (spells text) order v order′ z r .0 p)) (rw q (y .leaves))
+        let z = rw (front-read board text plan x q) at y in
+        prints (go r (refused-exactly board (spells text) order v order′ z r .0 p)) (rw q (y .leaves))
       where
-        go : (r : Refusal) → NoVerdict (spells text) order r → printedRefusal r ≡ printed devices text
+        go : (r : Refusal) → NoVerdict board (spells text) order r → printedRefusal r ≡ printed board text
         go r (faulty s b) =
-            let f = fault-exactly devices (spells text) s .1 b in
-            absurd (Option·none-ne-some s (sym (well-formed-read text plan x q) ∙ f))
-        go r (short s h) = absurd (omega (arith, s .few, long .1))
+            let f = fault-exactly board (spells text) s .1 b in
+            absurd (Option·none-ne-some s (sym (well-formed-read board text plan x q) ∙ f))
+        go r (short s h) = absurd (omega (arith, s .few, long .1, steps-few (spells text)))
         go r (further s w h b) =
-            by-tests text (some s) (rw (no-fault-read text plan x q) (order-refused (spells text) w s .1 b))
+            by-tests text (some s) (rw (no-fault-read board text plan x q) (order-refused board (spells text) w s .1 b))
 
     -- an order
     pub prints-order : {held : ℕ} → v ≡ VerdictAnswer.Held held
         → ShowsAs (printedOrder (take n order′) held) lent count left
-        → PrintsAs text plan order lent count plan′ order′ left
+        → PrintsAs board text plan order lent count plan′ order′ left
     unfolding ordering firstRefusal printedBy
     prints-order {held} p =
-        let z = rw (front-read text plan x q) at y in
-        let d = done-leaves (entry (spells text) order) v order′ z held p in
+        let z = rw (front-read board text plan x q) at y in
+        let d = done-leaves (entry board (spells text) order) v order′ z held p in
         prints (go (noOrder devices (spells text)) refl (d .0 .2) (d .1) (d .2)) (rw q (y .leaves))
       where
         handedOut : List ℕ
@@ -123,11 +125,14 @@ module _ (text plan order lent : List ℕ) (long : (length plan ≡ maxLines) ×
 
         go : (o : Option Refusal) → noOrder devices (spells text) ≡ o → firstRefusal (o ∷ []) ≡ none
             → held ≡ heldAtEnd devices (spells text) → order′ ≡ over (map lineNumber handedOut) order
-            → printedOrder (take n order′) held ≡ printed devices text
+            → printedOrder (take n order′) held ≡ printed board text
         go (some r) e f c l = absurd (Option·none-ne-some r (sym f))
         go none e f c l =
-            let legal = accepted-is-legal devices (spells text) (well-formed-read text plan x q) e in
+            let sound = well-formed-read board text plan x q in
+            let legal = accepted-is-legal board (spells text) sound e in
+            let formed = no-fault-exactly board (spells text) .0 sound in
             let all : n ≡ length (map lineNumber handedOut) =
-            rw length-map (read-counts text plan x q ∙ sym (legal-length (spells text) handedOut legal)) in
+            rw length-map (read-counts board text plan x q ∙ sym
+            (morning-length devices (spells text) handedOut formed legal)) in
             rw (front-of (map lineNumber handedOut) order order′ n all l, c)
-            (by-tests text none (rw (no-fault-read text plan x q, e)))
+            (by-tests text none (rw (no-fault-read board text plan x q, e)))

@@ -6,6 +6,7 @@ use model::VerdictAnswer;
 ghost use Prim.Native.Nat.{_≤_};
 ghost use mathlib.Core.Path.{_≡_};
 ghost use lib.ListN.{length};
+ghost use Rattle.model.specs.Board.{board};
 ghost use Rattle.model.specs.Line.{maxLines};
 ghost use Rattle.model.specs.Printed.{printedOrder};
 ghost use Rattle.promises.specs.Screen.{PrintsAs, ScreensAs};
@@ -33,7 +34,7 @@ fn put_order(out: &mut [u8], order: &[u16], held: u32) -> usize
 // What is printed for a text, with lists of 1,024 lines to work in.
 fn print_in(text: &[u8], plan: &mut [u32], order: &mut [u16], out: &mut [u8]) -> usize
     requires { ⌜ (length (now plan) ≡ maxLines) × (length (now order) ≡ maxLines) ⌝ }
-    ensures { λ n. ⌜ PrintsAs (now (text .entry)) (now (plan .entry)) (now (order .entry)) (now (out .entry)) n
+    ensures { λ n. ⌜ PrintsAs board (now (text .entry)) (now (plan .entry)) (now (order .entry)) (now (out .entry)) n
         (now (plan .exit)) (now (order .exit)) (now (out .exit)) ⌝ }
 {
     if out.len() < ROOM {
@@ -59,7 +60,7 @@ pub fn print(
     order: &mut [u16; MOST_LINES],
     out: &mut [u8],
 ) -> usize
-    ensures { λ n. ⌜ PrintsAs (now (text .entry)) (now (plan .entry)) (now (order .entry)) (now (out .entry)) n
+    ensures { λ n. ⌜ PrintsAs board (now (text .entry)) (now (plan .entry)) (now (order .entry)) (now (out .entry)) n
         (now (plan .exit)) (now (order .exit)) (now (out .exit)) ⌝ }
 {
     print_in(text, plan, order, out)
@@ -68,7 +69,7 @@ pub fn print(
 // The screens' entry: what the program prints for a text, into the lent buffer, and the number of bytes.
 #[no_mangle]
 pub extern "C" fn gimmerskip_order(text: &[u8], out: &mut [u8]) -> usize
-    ensures { λ n. ⌜ ScreensAs (now (text .entry)) (now (out .entry)) n (now (out .exit)) ⌝ }
+    ensures { λ n. ⌜ ScreensAs board (now (text .entry)) (now (out .entry)) n (now (out .exit)) ⌝ }
 {
     let mut plan = [0u32; MOST_LINES];
     let mut order = [0u16; MOST_LINES];

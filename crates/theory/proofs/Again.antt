@@ -9,13 +9,13 @@ use mathlib.Core.Path.{_≡_, sym, _∙_}
 use lib.ListN.{length, getD, take}
 use Rattle.model.specs.Lists.{has}
 use Rattle.model.specs.Sets.{empty, only}
-use Rattle.model.specs.Line.{isTake, at}
+use Rattle.model.specs.Line.{isTake, at, heldFrom}
 use Rattle.model.specs.WellFormed.{Rules}
 use Rattle.model.specs.Mate.{deviceAt, holdsAlready, takesAt}
 use Rattle.model.specs.Claims.{own, table}
 use Rattle.model.specs.Move.{edited, way, fromLast, rewritten}
 use Rattle.theory.proofs.Tests.{clash, test}
-use Rattle.theory.proofs.WellFormed.{take-line}
+use Rattle.theory.proofs.Line.{take-line, take-opens}
 use Rattle.theory.proofs.Edited.{EditOf, edit, same-take, take-kept}
 use Rattle.theory.proofs.Way.{falls-further, way-falls, line-on-way, off-way-stays-off}
 use Rattle.theory.proofs.Move.{rewritten-off, rewritten-is, sets-are}
@@ -34,7 +34,8 @@ all-outermost p none i = go (test (isTake (at p i)))
     go (inr t) = rw t
 
 module _ (p t : List ℕ) (i e : ℕ) (rules : Rules p) (mine : take (length p) t ≡ table p)
-    (taken : isTake (at p i) ≡ true) (small : e < 256) (before : NoneAgain p) (after : NoneAgain (edited p i e)) where
+    (taken : isTake (at p i) ≡ true) (small : e < heldFrom) (before : NoneAgain p)
+    (after : NoneAgain (edited p i e)) where
   -- one own claim alone differs
   own-kept : (k : ℕ) → k ≢ i → own (edited p i e) k ≡ own p k
   unfolding own deviceAt
@@ -46,7 +47,7 @@ module _ (p t : List ℕ) (i e : ℕ) (rules : Rules p) (mine : take (length p) 
       go : (isTake (at p k) ≡ true) ⊎ (isTake (at p k) ≡ false)
           → cond (isTake (at (edited p i e) k)) (only (deviceAt (edited p i e) k)) empty
           ≡ cond (isTake (at p k)) (only (deviceAt p k)) empty
-      go (inl v) = rw (take-kept p (edited p i e) i e taken d k n v)
+      go (inl v) = rw (take-kept p (edited p i e) i e taken d k n (take-opens (at p k) v))
       go (inr v) = rw (same-take p (edited p i e) (d .alike) k, v)
 
   -- The theorem: such a move leaves what rewriting along the way leaves.

@@ -16,7 +16,7 @@ use Rattle.model.specs.declared.Refusal.{Refusal}
 use Rattle.model.specs.declared.Refusal.the-variants.{TextTooLong, Malformed, TooManyLines, JobOutOfSequence}
 use Rattle.model.specs.declared.Refusal.the-variants.{BadStart, NeverStarted, GiveWithoutTake}
 use Rattle.model.specs.declared.Refusal.the-variants.{TwoLasting, LeadsBack, ListTooShort, NotATake}
-use Rattle.model.specs.declared.Refusal.the-variants.{NoSuchDevice, StaleTable, IllegalStep}
+use Rattle.model.specs.declared.Refusal.the-variants.{NoSuchDevice, StaleTable, IllegalStep, HeldTwice, HeldLate}
 use Rattle.model.specs.declared.LineAnswer.{LineAnswer}
 use Rattle.model.specs.declared.ReadAnswer.{ReadAnswer}
 use Rattle.model.specs.declared.WriteAnswer.{WriteAnswer}
@@ -45,6 +45,8 @@ refusalOf number place =
     ∷ some (NoSuchDevice place)
     ∷ some (StaleTable place)
     ∷ some (IllegalStep place)
+    ∷ some (HeldTwice place)
+    ∷ some (HeldLate place)
     ∷ [])
     number none
 
@@ -64,9 +66,11 @@ refusal-back (NotATake asked) = refl
 refusal-back (NoSuchDevice asked) = refl
 refusal-back (StaleTable line) = refl
 refusal-back (IllegalStep position) = refl
+refusal-back (HeldTwice line) = refl
+refusal-back (HeldLate line) = refl
 
--- the numbers are 1 to 15
-pub number-range : (r : Refusal) → (1 ≤ numberOf r) × (numberOf r ≤ 15)
+-- the numbers are 1 to 17
+pub number-range : (r : Refusal) → (1 ≤ numberOf r) × (numberOf r ≤ 17)
 number-range TextTooLong = (omega arith, omega arith)
 number-range (Malformed line) = (omega arith, omega arith)
 number-range TooManyLines = (omega arith, omega arith)
@@ -81,6 +85,8 @@ number-range (NotATake asked) = (omega arith, omega arith)
 number-range (NoSuchDevice asked) = (omega arith, omega arith)
 number-range (StaleTable line) = (omega arith, omega arith)
 number-range (IllegalStep position) = (omega arith, omega arith)
+number-range (HeldTwice line) = (omega arith, omega arith)
+number-range (HeldLate line) = (omega arith, omega arith)
 
 -- a refusal is known by its number and place
 pub one-refusal : (r s : Refusal) → numberOf r ≡ numberOf s → placeOf r ≡ placeOf s → r ≡ s

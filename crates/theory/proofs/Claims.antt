@@ -18,7 +18,7 @@ use Rattle.model.specs.Mate.{deviceAt, holdsAlready, takesAt, takes}
 use Rattle.model.specs.Claims.{successors, own, joined, tableOf, table, beyond}
 use Rattle.theory.specs.Claims.{claim, Reach, here, step, Reached}
 use Rattle.theory.proofs.Tests.{clash, and-split, le-or-lt}
-use Rattle.theory.proofs.WellFormed.{take-line}
+use Rattle.theory.proofs.Line.{take-line}
 use Rattle.theory.proofs.Sets.{member-empty, member-only, in-union, in-left, in-right, in-unionOf, unionOf-in}
 
 -- ---- the table, line by line

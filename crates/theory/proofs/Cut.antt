@@ -8,8 +8,9 @@ use mathlib.Core.Option.{some}
 use mathlib.Core.Path.{_≡_, refl, sym, _∙_}
 use native.Mathlib.Omega.{arith}
 use lib.ListN.{length}
+use Rattle.model.specs.Mate.{heldLines}
 use Rattle.model.specs.Judged.{strayAfter, stray}
-use Rattle.theory.proofs.Lists.{left, left-every, among}
+use Rattle.theory.proofs.Lists.{left, left-all, among}
 use Rattle.theory.proofs.Judged.{may-follow-exactly, entry-refused, entry-goes-on, one-less}
 
 -- 0 and what is past the last line are no line's number
@@ -36,7 +37,7 @@ pub stray-cut : (p a es : List ℕ) (e : ℕ) → NoLine p e → stray p (a ++ (
 unfolding stray
 stray-cut p a es e h =
     same-behind p (e ∷ es) (0 ∷ [])
-    (λ d n. no-line-strays p d n e es h ∙ sym (no-line-strays p d n 0 [] (inl refl))) [] 0 a
+    (λ d n. no-line-strays p d n e es h ∙ sym (no-line-strays p d n 0 [] (inl refl))) (heldLines p) 0 a
 
 -- nothing after more entries than lines are undone
 enough-left : (p done : List ℕ) (n : ℕ) (a es : List ℕ) → left (among done) (length p) < length a
@@ -49,4 +50,5 @@ enough-left p done n (e ∷ a) es h =
 
 pub enough-entries : (p a es : List ℕ) → length p < length a → stray p (a ++ es) ≡ stray p a
 unfolding stray
-enough-entries p a es h = enough-left p [] 0 a es (omega (arith, left-every (length p)))
+enough-entries p a es h =
+    enough-left p (heldLines p) 0 a es (omega (arith, left-all (among (heldLines p)) (length p)))

@@ -1,6 +1,6 @@
 -- Whether a take is outermost needs no stack: in a plan that obeys the rules a give gives back the latest take of its
--- own device, so each device may be counted by itself. Before a line, its job has taken a device so many times more
--- often than it has given it; a take is outermost exactly if that number is 0.
+-- own device, so each device may be counted by itself. Before a line, its job has taken or held a device so many times
+-- more often than it has given it; a take is outermost exactly if that number is 0.
 use Prim.Native.Nat.{ℕ, suc, _-_}
 use mathlib.Core.Bool.{Bool, true, false, cond, not, _&&_, _||_}
 use mathlib.Core.List.{List, [], _∷_, tail}
@@ -9,10 +9,11 @@ use native.Mathlib.Omega.{arith}
 use lib.Dec.{eqb, leb}
 use borrow.Author.Tests.{eqb-true, le-leb}
 use Rattle.model.specs.Lists.{has}
-use Rattle.model.specs.Line.{job, operand, isTake, isGive, at}
+use Rattle.model.specs.Line.{job, opens, isTake, isGive, deviceOf, at}
 use Rattle.model.specs.WellFormed.{before, heldBy, heldThere, isLast, Rules}
 use Rattle.model.specs.Mate.{deviceAt, holdsAlready, takesAt}
 use Rattle.theory.proofs.Tests.{clash}
+use Rattle.theory.proofs.Line.{own-device, give-no-held}
 
 -- how often a device stands in a list
 unfoldable pub times : ℕ → List ℕ → ℕ
@@ -47,7 +48,7 @@ depth p j d i = times d (heldBy j (before p i))
 
 -- what a line of the job, of that device, does to it
 unfoldable pub deeper : ℕ → ℕ → ℕ
-deeper l n = cond (isTake l) (suc n) (cond (isGive l) (n - 1) n)
+deeper l n = cond (opens l) (suc n) (cond (isGive l) (n - 1) n)
 
 pub depth-start : (p : List ℕ) (j d : ℕ) → depth p j d 0 ≡ 0
 unfolding depth times before heldBy
@@ -55,27 +56,28 @@ depth-start p j d = refl
 
 pub depth-step : (p : List ℕ) → Rules p → (j d i : ℕ)
     → depth p j d (suc i)
-    ≡ cond (eqb (job (at p i)) j && eqb d (operand (at p i))) (deeper (at p i) (depth p j d i)) (depth p j d i)
-unfolding depth deeper before heldBy times
-depth-step p rules j d i = go (eqb (job (at p i)) j) (isTake (at p i)) (isGive (at p i)) refl refl refl
+    ≡ cond (eqb (job (at p i)) j && eqb d (deviceAt p i)) (deeper (at p i) (depth p j d i)) (depth p j d i)
+unfolding depth deeper before heldBy times deviceAt
+depth-step p rules j d i = go (eqb (job (at p i)) j) (opens (at p i)) (isGive (at p i)) refl refl refl
   where
     xs : List ℕ
     xs = heldBy j (before p i)
 
-    given : eqb (job (at p i)) j ≡ true → isGive (at p i) ≡ true → isLast (operand (at p i)) xs ≡ true
-    given e g = rw (eqb-true (job (at p i)) j e) at (rules .give i g)
+    given : eqb (job (at p i)) j ≡ true → isGive (at p i) ≡ true → isLast (deviceOf (at p i)) xs ≡ true
+    given e g =
+        rw (own-device (at p i) (give-no-held (at p i) g)) (rw (eqb-true (job (at p i)) j e) at (rules .give i g))
 
-    go : (x y z : Bool) → eqb (job (at p i)) j ≡ x → isTake (at p i) ≡ y → isGive (at p i) ≡ z
+    go : (x y z : Bool) → eqb (job (at p i)) j ≡ x → opens (at p i) ≡ y → isGive (at p i) ≡ z
         → times d (elim x [
           | false ↦ xs
-          | true ↦ elim y [ true ↦ operand (at p i) ∷ xs | false ↦ elim z [ true ↦ tail xs | false ↦ xs ] ]
+          | true ↦ elim y [ true ↦ deviceOf (at p i) ∷ xs | false ↦ elim z [ true ↦ tail xs | false ↦ xs ] ]
         ])
-        ≡ cond (x && eqb d (operand (at p i))) (cond y (suc (times d xs)) (cond z (times d xs - 1) (times d xs)))
+        ≡ cond (x && eqb d (deviceOf (at p i))) (cond y (suc (times d xs)) (cond z (times d xs - 1) (times d xs)))
         (times d xs)
     go false y z e f g = refl
     go true true z e f g = refl
-    go true false true e f g = times-tail d (operand (at p i)) xs (given e g)
-    go true false false e f g = same (eqb d (operand (at p i)))
+    go true false true e f g = times-tail d (deviceOf (at p i)) xs (given e g)
+    go true false false e f g = same (eqb d (deviceOf (at p i)))
       where
         same : (b : Bool) → times d xs ≡ cond b (times d xs) (times d xs)
         same true = refl

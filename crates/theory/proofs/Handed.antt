@@ -1,5 +1,6 @@
--- The order handed out is legal, in a well-formed plan with no device that has two lasting takes and none that leads
--- back to itself. Turn by turn: the lines of a turn may follow, what holds between turns holds again, and each turn
+-- From any state as it is between turns, in which nothing need be done and nothing undone, the turns of the order go
+-- through to the end, in a well-formed plan with no device that two lines keep and none that leads back to itself. Turn
+-- by turn: the lines of a turn may follow, what holds between turns holds again, and each turn
 -- does a line, so the turns that the definition allows are enough.
 use Prim.Native.Nat.{ℕ, zero, suc, _-_, _<_, _≤_}
 use mathlib.Core.Bool.{true, false, cond, not, _&&_}
@@ -12,28 +13,38 @@ use lib.Dec.{eqb}
 use lib.ListN.{length}
 use borrow.Author.Tests.{ne-eqb, not-true}
 use Rattle.model.specs.Lists.{upFrom, any, has, orElse}
-use Rattle.model.specs.Mate.{takesAt, deviceAt, takes, mate, isNone, lastingAt}
+use Rattle.model.specs.Line.{Settings}
+use Rattle.model.specs.Mate.{takesAt, heldAt, deviceAt, takes, grips, mate, isNone, lastingAt}
 use Rattle.model.specs.WellFormed.{WellFormed}
-use Rattle.model.specs.Legal.{precedes, Follow, Legal}
+use Rattle.model.specs.Legal.{precedes, Follow}
 use Rattle.model.specs.Rows.{rows, Leads}
 use Rattle.model.specs.Handed.{undone, goingOn, alone, lastingNext, lastOf, run, runFrom, turn, handedAfter}
-use Rattle.model.specs.Handed.{handed}
 use Rattle.theory.specs.Verdict.{LastsTwice}
 use Rattle.theory.proofs.Tests.{clash, test, and-second}
-use Rattle.theory.proofs.Lists.{has-none, has-left, has-right, has-append, any-none}
+use Rattle.theory.proofs.Lists.{has-left, has-right, has-append, any-none}
 use Rattle.theory.proofs.Lists.{left, left-lt, left-none, left-zero, left-all, among}
 use Rattle.theory.proofs.Claims.{takes-parts}
+use Rattle.theory.proofs.Grips.{grips-takes}
 use Rattle.theory.proofs.Turns.{Between, Going, going, turn-follows, turn-between, after-new}
 use Rattle.theory.proofs.Progress.{has-undone, undone-has, has-standing, Picked, stuck, goes, picked, device-is}
 use Rattle.theory.proofs.Progress.{never-stuck}
 
-follow-append : (p done x y : List ℕ) → Follow p done x → Follow p (done ++ x) y → Follow p done (x ++ y)
+pub follow-append : (p done x y : List ℕ) → Follow p done x → Follow p (done ++ x) y → Follow p done (x ++ y)
 follow-append p done [] y s t = subst (λ (d : List ℕ). Follow p d y) (append-nil done) t
 follow-append p done (i ∷ x) y s t = (
   s .0,
   follow-append p (done ++ (i ∷ [])) x y (s .1)
       (subst (λ (d : List ℕ). Follow p d y) (sym (append-assoc done (i ∷ []) x)) t),
 )
+
+-- what an undone line grips it takes
+pub undone-takes : (p done : List ℕ) → Between p done → (i d : ℕ) → has i done ≡ false → grips p i d ≡ true
+    → takes p i d ≡ true
+undone-takes p done inv i d un g = grips-takes p i d (go (test (heldAt p i))) g
+  where
+    go : (heldAt p i ≡ true) ⊎ (heldAt p i ≡ false) → heldAt p i ≡ false
+    go (inl h) = clash (has i done) (inv .begun i h) un
+    go (inr h) = h
 
 -- after a line chosen: its mate ends the run, or nobody else still wants its device
 pub closes : (p done : List ℕ) (i d : ℕ) → takes p i d ≡ true
@@ -60,10 +71,10 @@ closes p done i d t c = go c
         (not-true (any (λ k. not (eqb k i) && takes p k (deviceAt p i)) (undone p done)) a) x
         (undone-has p done x xn e)))
 
-module _ (D : ℕ) (p : List ℕ) (w : WellFormed D p) (no-two : (d : ℕ) → LastsTwice p d → ⊥)
-    (no-circle : (d : ℕ) → Leads (rows D p) d d → ⊥) where
+module _ (S : Settings) (p : List ℕ) (w : WellFormed S p) (no-two : (d : ℕ) → LastsTwice p d → ⊥)
+    (no-circle : (d : ℕ) → Leads (rows (S .devices) p) d d → ⊥) where
   -- the rest of an order follows what is done, and with it every line is done
-  abbrev Finishes : List ℕ → List ℕ → Type 0
+  abbrev pub Finishes : List ℕ → List ℕ → Type 0
   Finishes done o = Follow p done o × ((k : ℕ) → k < length p → (has k done ≡ true) ⊎ (has k o ≡ true))
 
   finishes : (n : ℕ) (done : List ℕ) → Between p done → left (among done) (length p) ≤ n
@@ -86,7 +97,7 @@ module _ (D : ℕ) (p : List ℕ) (w : WellFormed D p) (no-two : (d : ℕ) → L
             where
               split : (has k done ≡ true) ⊎ (has k done ≡ false) → has k done ≡ true
               split (inl e) = e
-              split (inr e) = absurd (never-stuck D p w no-two no-circle done c k (undone-has p done k h e))
+              split (inr e) = absurd (never-stuck S p w no-two no-circle done c k (undone-has p done k h e))
       go (some i) (goes j s c) ih = (
         follow-append p done x rest (turn-follows p (w .rules) done inv i m un ready g) (later .0),
         λ k h. whole k
@@ -123,10 +134,11 @@ module _ (D : ℕ) (p : List ℕ) (w : WellFormed D p) (no-two : (d : ℕ) → L
           less : left (among next) (length p) < left (among done) (length p)
           less =
               left-lt (among done) (among next) (λ k h. has-left k done x h) i un
-              (after-new p (w .rules) done inv i m un ready g i (omega arith) (g .le)) (length p) (here .0)
+              (after-new p (w .rules) done (inv .closed) i m un ready g i (omega arith) (g .le)) (length p) (here .0)
 
           later : Finishes next rest
-          later = ih next (turn-between p (w .rules) done inv i m un ready g (λ d t. closes p done i d t c))
+          later = ih next (turn-between p (w .rules) done inv i m un ready g
+              (λ d t. closes p done i d (undone-takes p done inv i d un t) c))
               (omega (arith, less))
 
           old : (k : ℕ) → (has k done ≡ true) ⊎ (has k x ≡ true) → (has k done ≡ true) ⊎ (has k (x ++ rest) ≡ true)
@@ -138,17 +150,6 @@ module _ (D : ℕ) (p : List ℕ) (w : WellFormed D p) (no-two : (d : ℕ) → L
           whole k (inl a) = old k (has-append k done x a)
           whole k (inr a) = inr (has-right k x rest a)
 
-  -- The theorem.
-  pub handed-is-legal : Legal p (handed p)
-  unfolding handed
-  handed-is-legal = record { steps = r .0; whole = λ i h. go i (r .1 i h) }
-    where
-      start : Between p []
-      start = record { closed = λ k i h e b. has-none i e; given = λ k d e t. has-none k e }
-
-      r : Finishes [] (handedAfter (length p) p [])
-      r = finishes (length p) [] start (left-all (among []) (length p))
-
-      go : (i : ℕ) → (has i [] ≡ true) ⊎ (has i (handed p) ≡ true) → has i (handed p) ≡ true
-      go i (inl e) = has-none i e
-      go i (inr e) = e
+  -- The theorem: from any state as it is between turns, the turns go through.
+  pub turns-finish : (done : List ℕ) → Between p done → Finishes done (handedAfter (length p) p done)
+  turns-finish done inv = finishes (length p) done inv (left-all (among done) (length p))

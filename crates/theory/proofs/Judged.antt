@@ -1,9 +1,10 @@
 -- An order from elsewhere (02, request 1): the test of a next step is the rule of 01, "Legal orders"; no entry strays
 -- exactly if the entries are a legal order's line numbers, so that any legal order passes and not only the one handed
--- out; and the place found is that of the first entry that goes wrong, past as many entries as lines at most. Last,
--- what this refuses behind another test, whichever it is.
+-- out; and the place found is that of the first entry that goes wrong, past as many entries as the plan has steps at
+-- most. Held lines are done from the beginning (02, request 5). Last, what this refuses behind another test, whichever
+-- it is.
 use Prim.Native.Nat.{ℕ, zero, suc, _+_, _<_, _≤_}
-use mathlib.Core.Bool.{Bool, true, false, not, _&&_, _||_}
+use mathlib.Core.Bool.{Bool, true, false, cond, not, _&&_, _||_}
 use mathlib.Core.List.{List, [], _∷_, _++_, append-nil, append-assoc, map}
 use mathlib.Core.Logic.{_⊎_, inl, inr, _↔_}
 use mathlib.Core.Option.{Option, none, some, Option·some-injective, Option·none-ne-some}
@@ -12,22 +13,23 @@ use native.Mathlib.Omega.{arith}
 use lib.Dec.{eqb, ltb}
 use lib.ListN.{length, length-append, length-map}
 use borrow.Author.Tests.{ltb-true, lt-ltb, eq-eqb, not-true}
-use Rattle.model.specs.Lists.{positions, all, has}
+use Rattle.model.specs.Lists.{upFrom, positions, all, has, those}
 use Rattle.model.specs.Answers.{refuseAt, firstRefusal}
 use Rattle.model.specs.Line.{lineNumber}
-use Rattle.model.specs.Mate.{takesAt, deviceAt, takes}
-use Rattle.model.specs.Legal.{precedes, held, MayFollow, Follow}
+use Rattle.model.specs.Mate.{takesAt, deviceAt, takes, heldAt, heldLines, steps}
+use Rattle.model.specs.Legal.{precedes, held, MayFollow, Follow, Legal}
 use Rattle.model.specs.Judged.{mayFollow, strayAfter, stray}
 use Rattle.model.specs.declared.Refusal.{Refusal}
 use Rattle.model.specs.declared.Refusal.the-variants.{IllegalStep}
 use Rattle.theory.specs.Judged.{LegalEntries, Wrong, stops, strays, StrayAt}
 use Rattle.theory.proofs.Tests.{clash, no-some, test, falsely, and-split, and-both, and-left, and-right}
-use Rattle.theory.proofs.Tests.{and-second, only-if, if-only}
-use Rattle.theory.proofs.Lists.{has-position, position-has, all-at, each-all, not-all, left, left-one}
-use Rattle.theory.proofs.Lists.{left-every, among}
+use Rattle.theory.proofs.Tests.{and-second, only-if, if-only, tests-agree}
+use Rattle.theory.proofs.Lists.{has-left, has-right, has-append, has-position, position-has, all-at, each-all}
+use Rattle.theory.proofs.Lists.{not-all, left, left-one, left-all, left-same, among}
 use Rattle.theory.proofs.Answers.{none-refuses, not-found}
 use Rattle.theory.proofs.Progress.{device-is}
 use Rattle.theory.proofs.LineByLine.{more-new, has-other}
+use Rattle.theory.proofs.Grips.{has-held, held-has}
 
 -- ---- a next step
 
@@ -196,35 +198,117 @@ steps-counted p done (i ∷ o) s =
     rw (sym (append-assoc done (i ∷ []) o))
     (omega (arith, one-less p done i (s .0), steps-counted p (done ++ (i ∷ [])) o (s .1)))
 
+-- what is left to do at the beginning are the steps
+count-last : (f : ℕ → Bool) (i n : ℕ)
+    → length (those f (upFrom i (suc n)))
+    ≡ cond (f (i + n)) (suc (length (those f (upFrom i n)))) (length (those f (upFrom i n)))
+unfolding those upFrom
+count-last f i zero = let z : i + 0 ≡ i = omega arith in rw z (go (f i))
+  where
+    go : (b : Bool) → length {A = ℕ} (elim b [ true ↦ i ∷ [] | false ↦ [] ]) ≡ cond b 1 0
+    go true = refl
+    go false = refl
+count-last f i (suc n) =
+    let z : i + suc n ≡ suc i + n = omega arith in rw z (go (f i) (f (suc i + n)) (count-last f (suc i) n))
+  where
+    go : (a b : Bool)
+        → length (those f (upFrom (suc i) (suc n)))
+        ≡ cond b (suc (length (those f (upFrom (suc i) n)))) (length (those f (upFrom (suc i) n)))
+        → length {A = ℕ} (elim a [
+          | true ↦ i ∷ those f (upFrom (suc i) (suc n))
+          | false ↦ those f (upFrom (suc i) (suc n))
+        ])
+        ≡ cond b
+        (suc (length {A = ℕ} (elim a [
+          | true ↦ i ∷ those f (upFrom (suc i) n)
+          | false ↦ those f (upFrom (suc i) n)
+        ])))
+        (length {A = ℕ} (elim a [ true ↦ i ∷ those f (upFrom (suc i) n) | false ↦ those f (upFrom (suc i) n) ]))
+    go true true ih = ap suc ih
+    go true false ih = ap suc ih
+    go false b ih = ih
+
+left-counted : (f : ℕ → Bool) (n : ℕ) → left f n ≡ length (those (λ k. not (f k)) (upFrom 0 n))
+unfolding left those upFrom
+left-counted f zero = refl
+left-counted f (suc n) =
+    let z : 0 + n ≡ n = omega arith in
+    go (f n) (left-counted f n) (rw z at (count-last (λ k. not (f k)) 0 n))
+  where
+    rest : ℕ
+    rest = length (those (λ k. not (f k)) (upFrom 0 n))
+
+    go : (b : Bool) → left f n ≡ rest
+        → length (those (λ k. not (f k)) (upFrom 0 (suc n))) ≡ cond (not b) (suc rest) rest
+        → cond b (left f n) (suc (left f n)) ≡ length (those (λ k. not (f k)) (upFrom 0 (suc n)))
+    go true ih e = ih ∙ sym e
+    go false ih e = ap suc ih ∙ sym e
+
+pub steps-left : (p : List ℕ) → left (among (heldLines p)) (length p) ≡ length (steps p)
+unfolding steps positions
+steps-left p =
+    left-same (among (heldLines p)) (heldAt p) (length p)
+    (λ k h. tests-agree (has k (heldLines p)) (heldAt p k) (λ e. has-held p k e .1) (held-has p k))
+    ∙ left-counted (heldAt p) (length p)
+
+-- no more than lines
+pub steps-few : (p : List ℕ) → length (steps p) ≤ length p
+steps-few p = omega (arith, steps-left p, left-all (among (heldLines p)) (length p))
+
 -- ---- the whole list
 
+-- every line is done after an order exactly if every step is in it
+module _ (p o : List ℕ) where
+  steps-whole : ((i : ℕ) → i < length p → heldAt p i ≡ false → has i o ≡ true)
+      → (i : ℕ) → i < length p → has i (heldLines p ++ o) ≡ true
+  steps-whole w i h = go (test (heldAt p i))
+    where
+      go : (heldAt p i ≡ true) ⊎ (heldAt p i ≡ false) → has i (heldLines p ++ o) ≡ true
+      go (inl e) = has-left i (heldLines p) o (held-has p i e)
+      go (inr e) = has-right i (heldLines p) o (w i h e)
+
+  whole-steps : ((i : ℕ) → i < length p → has i (heldLines p ++ o) ≡ true)
+      → (i : ℕ) → i < length p → heldAt p i ≡ false → has i o ≡ true
+  whole-steps w i h n = go (has-append i (heldLines p) o (w i h))
+    where
+      go : (has i (heldLines p) ≡ true) ⊎ (has i o ≡ true) → has i o ≡ true
+      go (inl e) = clash (heldAt p i) (has-held p i e .1) n
+      go (inr e) = e
+
+-- after a legal order every line is done
+pub legal-whole : (p o : List ℕ) → Legal p o → (i : ℕ) → i < length p → has i (heldLines p ++ o) ≡ true
+legal-whole p o legal = steps-whole p o (legal .whole)
+
 module _ (p es : List ℕ) where
+  abbrev begun : List ℕ
+  begun = heldLines p
+
   -- a legal order passes, and a first wrong entry is found
   passes : LegalEntries p es → stray p es ≡ none
   unfolding stray
   passes l =
-      ap (strayAfter p [] 0) (l .numbers ∙ sym (append-nil (map lineNumber (l .order))))
-      ∙ steps-pass p [] 0 (l .order) [] (l .legal .steps)
-      ∙ ends-well p (l .order) (0 + length (l .order)) (l .legal .whole)
+      ap (strayAfter p begun 0) (l .numbers ∙ sym (append-nil (map lineNumber (l .order))))
+      ∙ steps-pass p begun 0 (l .order) [] (l .legal .steps)
+      ∙ ends-well p (begun ++ l .order) (0 + length (l .order)) (legal-whole p (l .order) (l .legal))
 
   found : (q : ℕ) → StrayAt p es q → stray p es ≡ some q
   unfolding stray
   found q s =
       let z : suc (0 + length (s .before)) ≡ q = omega (arith, s .counted) in
-      ap (strayAfter p [] 0) (s .entries) ∙ steps-pass p [] 0 (s .before) (s .rest) (s .follow)
-      ∙ wrong-next p (s .before) (0 + length (s .before)) (s .rest) (s .wrong) ∙ ap {B = Option ℕ} some z
+      ap (strayAfter p begun 0) (s .entries) ∙ steps-pass p begun 0 (s .before) (s .rest) (s .follow)
+      ∙ wrong-next p (begun ++ s .before) (0 + length (s .before)) (s .rest) (s .wrong) ∙ ap {B = Option ℕ} some z
 
   -- entries are a legal order's, or go wrong somewhere
   legal-or-astray : LegalEntries p es ⊎ ((q : ℕ) × StrayAt p es q)
-  legal-or-astray = let j = judged p [] es in go (j .before) (j .rest) (j .entries) (j .follow) (j .ends)
+  legal-or-astray = let j = judged p begun es in go (j .before) (j .rest) (j .entries) (j .follow) (j .ends)
     where
-      go : (before rest : List ℕ) → es ≡ map lineNumber before ++ rest → Follow p [] before → Ends p before rest
-          → LegalEntries p es ⊎ ((q : ℕ) × StrayAt p es q)
+      go : (before rest : List ℕ) → es ≡ map lineNumber before ++ rest → Follow p begun before
+          → Ends p (begun ++ before) rest → LegalEntries p es ⊎ ((q : ℕ) × StrayAt p es q)
       go before rest e f (whole h) =
           inl (record {
             order = before;
             numbers = e ∙ append-nil (map lineNumber before);
-            legal = record { steps = f; whole = h };
+            legal = record { steps = f; whole = whole-steps p before h };
           })
       go before rest e f (wrong tail h) =
           inr (
@@ -248,10 +332,10 @@ module _ (p es : List ℕ) where
       to e (inr s) =
           subst (λ (n : ℕ). StrayAt p es n) (Option·some-injective (s .0) q (sym (found (s .0) (s .1)) ∙ e)) (s .1)
 
-  -- it is at most one past as many entries as there are lines, and at most one past the list
+  -- it is at most one past as many entries as there are steps, thus as there are lines, and at most one past the list
   pub stray-bounds : (q : ℕ) → stray p es ≡ some q → (q ≤ suc (length p)) × (q ≤ suc (length es))
   stray-bounds q e = (
-    omega (arith, s .counted, steps-counted p [] (s .before) (s .follow), left-every (length p)),
+    omega (arith, s .counted, steps-counted p begun (s .before) (s .follow), left-all (among begun) (length p)),
     omega (arith, s .counted, simp (length-append, length-map) at (ap length (s .entries))),
   )
     where

@@ -3,28 +3,29 @@
 -- leaves those of the edited plan; so over any list of moves, refused ones among them, they stay the plan's own, and
 -- the quick verdict, which reads them, is the verdict's answer in number, place and count. Else a verdict by kept rows
 -- would be worth nothing. No verdict is supposed: plans with two lasting takes of a device, or with circles, are meant
--- too.
+-- too. It is all for plans of the morning, which the entries that take rows serve; the verdict has one more test, of
+-- held lines, which no such plan fails (02, request 5).
 use Prim.Native.Nat.{ℕ, _+_, _^_, _<_, _≤_}
-use mathlib.Core.Bool.{Bool, true, false, cond}
+use mathlib.Core.Bool.{Bool, true, false, cond, not}
 use mathlib.Core.List.{List, [], _∷_, map}
 use mathlib.Core.Logic.{_⊎_, inl, inr, _≢_, _↔_}
-use mathlib.Core.Option.{Option, none, some}
+use mathlib.Core.Option.{Option, none, some, Option·none-ne-some}
 use mathlib.Core.Path.{_≡_, refl, sym, _∙_, ap}
 use native.Mathlib.Omega.{arith}
 use lib.Dec.{eqb}
 use lib.ListN.{length, getD, take, drop, length-map}
 use lib.Seq.{getD-take, take-at}
 use borrow.Author.Tests.{eqb-true, eq-eqb, ne-eqb, le-ltb}
-use Rattle.model.specs.Lists.{upFrom, over}
+use Rattle.model.specs.Lists.{upFrom, positions, any, over}
 use Rattle.model.specs.Sets.{member, put}
 use Rattle.model.specs.Answers.{refuseIf, firstRefusal, tooShort}
-use Rattle.model.specs.Line.{isTake, at, lineNumber}
+use Rattle.model.specs.Line.{morning, isTake, at, lineNumber, heldFrom}
 use Rattle.model.specs.WellFormed.{Rules, WellFormed, fault}
-use Rattle.model.specs.Mate.{deviceAt}
+use Rattle.model.specs.Mate.{deviceAt, heldAt, steps, lasting, keeps}
 use Rattle.model.specs.Claims.{table}
 use Rattle.model.specs.Rows.{rowOf, rows}
 use Rattle.model.specs.Handed.{handed}
-use Rattle.model.specs.Verdict.{twoLasting, circleOf, circle, noOrder, heldAtEnd}
+use Rattle.model.specs.Verdict.{twoLasting, circleOf, circle, hindered, noOrder, heldAtEnd}
 use Rattle.model.specs.Move.{edited, fromLast, rewritten, changed, askedAt, isTakeOf, moveRefusal}
 use Rattle.model.specs.Entries.{Outcome, Lent, outcome, moving, ordering}
 use Rattle.model.specs.Kept.{lastsAmong, lastsIn, heldToEnd, heldNumber, Beside, besideOf, overAll, roomFor, building}
@@ -39,18 +40,19 @@ use Rattle.theory.specs.Kept.{Own, lessRows, withoutRows, WritesOnly, Ma
 use Rattle.theory.specs.Kept.{movedKept, movedKeptBy, StillOwn}
 use Rattle.theory.proofs.Tests.{test}
 use Rattle.theory.proofs.Lists.{has-upFrom, over-front, over-rest, over-length, over-again, over-own}
-use Rattle.theory.proofs.Lists.{own-room, over-entry}
+use Rattle.theory.proofs.Lists.{own-room, over-entry, those-same, those-length}
 use Rattle.theory.proofs.Answers.{none-refuses, long-enough}
 use Rattle.theory.proofs.Sets.{member-put, put-below}
 use Rattle.theory.proofs.Where.{member-where, where-below, is-where}
 use Rattle.theory.proofs.Claims.{length-table, length-upFrom, getD-upFrom}
-use Rattle.theory.proofs.WellFormed.{no-fault-exactly}
+use Rattle.theory.proofs.WellFormed.{no-fault-exactly, no-held-in-morning}
 use Rattle.theory.proofs.Edited.{EditOf, edit}
 use Rattle.theory.proofs.Move as move
 use Rattle.theory.proofs.Move.{sets-are, TestView, passes, refuses, test-view, asked-take, taken-device, accepts}
 use Rattle.theory.proofs.OnlyIf.{row-is, length-rows}
 use Rattle.theory.proofs.Verdict.{view-by, seen-exactly, accepted-is-legal, held-number}
-use Rattle.theory.proofs.LastingKept.{map-same, row-own, row-stays, lasts-in-same, eqb-turned}
+use Rattle.theory.proofs.Morning.{keeps-is, none-hindered}
+use Rattle.theory.proofs.LastingKept.{map-same, any-same, row-own, row-stays, lasts-in-same, eqb-turned}
 
 -- ---- the set of the devices held to the end
 
@@ -64,7 +66,8 @@ held-below D p = where-below (lastsIn p) D
 
 -- ---- rows and held set of the edited plan
 
-module _ (D : ℕ) (p t : List ℕ) (i e : ℕ) (rules : Rules p) (taken : isTake (at p i) ≡ true) (small : e < 256) where
+module _ (D : ℕ) (p t : List ℕ) (i e : ℕ) (rules : Rules p) (taken : isTake (at p i) ≡ true)
+    (small : e < heldFrom) where
   abbrev q : List ℕ
   q = edited p i e
 
@@ -243,15 +246,15 @@ bit-lent q old new s d a b =
 module _ (D : ℕ) (p : List ℕ) (lent : Beside) (line device : ℕ) where
   -- With room for rows and held set the tests are those of a move,
   pub same-tests : D ≤ length (lent .rows) → 1 ≤ length (lent .held)
-      → keptRefusal D p lent line device ≡ moveRefusal D p (lent .sets) line device
+      → keptRefusal D p lent line device ≡ moveRefusal (morning D) p (lent .sets) line device
   unfolding keptRefusal moveRefusal
   same-tests a b = rw (room-of-table D p lent a b)
 
   -- and so is what becomes of plan and table, whatever the rows are.
   pub as-before : D ≤ length (lent .rows) → 1 ≤ length (lent .held)
-      → withoutRows (movingKept D p lent line device) ≡ moving D p (lent .sets) line device
+      → withoutRows (movingKept D p lent line device) ≡ moving (morning D) p (lent .sets) line device
   unfolding withoutRows lessRows movingKept moving outcome
-  as-before a b = rw (same-tests a b) (go (moveRefusal D p (lent .sets) line device))
+  as-before a b = rw (same-tests a b) (go (moveRefusal (morning D) p (lent .sets) line device))
     where
       go : (x : Option Refusal)
           → withoutRows (tested D p lent (askedAt line) device x) ≡ move.tested p (lent .sets) (askedAt line) device x
@@ -318,7 +321,7 @@ module _ (D : ℕ) (p : List ℕ) (lent : Beside) (line device : ℕ) where
   -- a move that no test refuses had room
   pub room-passed : keptRefusal D p lent line device ≡ none → roomFor D p lent ≡ none
   unfolding keptRefusal
-  room-passed h = none-refuses (move.tests D p (lent .sets) (roomFor D p lent) line device) h 1
+  room-passed h = none-refuses (move.tests (morning D) p (lent .sets) (roomFor D p lent) line device) h 1
 
   -- Only the rows of the devices concerned are written, and in the held set only the bits of the old and the new one.
   pub writes-only : WritesOnly D p lent line device (movingKept D p lent line device .left .beside)
@@ -339,8 +342,8 @@ module _ (D : ℕ) (p : List ℕ) (lent : Beside) (line device : ℕ) where
 
 -- ---- a move from a plan's own table, rows and held set
 
-module _ (D : ℕ) (p : List ℕ) (lent : Beside) (line device : ℕ) (w : WellFormed D p) (small : D ≤ 256)
-    (own : Own D p lent) where
+module _ (D : ℕ) (p : List ℕ) (lent : Beside) (line device : ℕ) (w : WellFormed (morning D) p)
+    (small : D ≤ heldFrom) (own : Own D p lent) where
   -- what is left is the edited plan's, and the rest
   after-own : isTakeOf p line ≡ true → device < D
       → besideAfter D p lent (askedAt line) device ≡ overAll (besideOf D (edited p (askedAt line) device)) lent
@@ -353,7 +356,7 @@ module _ (D : ℕ) (p : List ℕ) (lent : Beside) (line device : ℕ) (w : WellF
       (rows-are D p t i device (w .rules) taken fits (own .ownTable) (lent .rows) (own .ownRows)))
       (ap (λ (s : ℕ). over (keptHeld q (deviceAt p i) device s ∷ []) (lent .held)) first
       ∙ ap (λ (s : ℕ). over (s ∷ []) (lent .held))
-      (held-is D p t i device (w .rules) taken fits (taken-device D p i w taken) b))
+      (held-is D p t i device (w .rules) taken fits (taken-device (morning D) p i w taken) b))
     where
       i : ℕ
       i = askedAt line
@@ -367,7 +370,7 @@ module _ (D : ℕ) (p : List ℕ) (lent : Beside) (line device : ℕ) (w : WellF
       taken : isTake (at p i) ≡ true
       taken = asked-take p line a
 
-      fits : device < 256
+      fits : device < heldFrom
       fits = omega arith
 
       first : getD (lent .held) 0 0 ≡ heldToEnd D p
@@ -379,14 +382,15 @@ module _ (D : ℕ) (p : List ℕ) (lent : Beside) (line device : ℕ) (w : WellF
   unfolding movingKept outcome withoutRows lessRows
   kept-step =
       rw (same-tests D p lent line device (rows-room D p lent own) (held-room D p lent own))
-      (go (moveRefusal D p (lent .sets) line device) (test-view D p (lent .sets) line device w (own .ownTable)))
+      (go (moveRefusal (morning D) p (lent .sets) line device)
+      (test-view (morning D) p (lent .sets) line device w (own .ownTable)))
     where
-      go : (x : Option Refusal) → TestView D p line device x
+      go : (x : Option Refusal) → TestView (morning D) p line device x
           → StepKept D p lent line device (tested D p lent (askedAt line) device x)
       go none (passes a b) =
           accepted
           (record {
-            asBefore = accepts D p (lent .sets) line device w small (own .ownTable) a b;
+            asBefore = accepts (morning D) p (lent .sets) line device w small (own .ownTable) a b;
             afresh = after-own a b;
           })
       go (some r) (refuses x y) =
@@ -398,37 +402,49 @@ module _ (D : ℕ) (p : List ℕ) (lent : Beside) (line device : ℕ) (w : WellF
 
 -- ---- the quick verdict
 
-number-own : (D : ℕ) (p : List ℕ) → fault D p ≡ none → noOrder D p ≡ none → heldNumber D p ≡ heldAtEnd D p
+number-own : (D : ℕ) (p : List ℕ) → fault (morning D) p ≡ none → noOrder D p ≡ none → heldNumber D p ≡ heldAtEnd D p
 unfolding heldNumber lastsIn lastsAmong
-number-own D p f n = sym (held-number D p (accepted-is-legal D p f n))
+number-own D p f n =
+    ap length (those-same (λ d. any (λ i. lasting p i d) (positions p)) (λ d. any (λ i. keeps p i d) (positions p))
+    (upFrom 0 D) (λ d m. any-same (λ i. lasting p i d) (λ i. keeps p i d) (positions p)
+    (λ i. sym (keeps-is p (no-held-in-morning D p (no-fault-exactly (morning D) p .0 f)) i d))))
+    ∙ sym (held-number D p (accepted-is-legal (morning D) p f n))
 
--- by the four tests that both make
-same-answer : {L : Type 0} (f x y : Option Refusal) (m n : ℕ) (new lent : L)
-    → (f ≡ none → firstRefusal (x ∷ y ∷ []) ≡ none → m ≡ n)
+-- no more steps than lines
+few-steps : (p : List ℕ) → length (steps p) ≤ length p
+unfolding steps positions
+few-steps p = omega (arith, those-length (λ i. not (heldAt p i)) (upFrom 0 (length p)), length-upFrom 0 (length p))
+
+-- by the four tests that both make, and one of the verdict's that refuses no plan without a fault
+same-answer : {L : Type 0} (f x y z : Option Refusal) (m n : ℕ) (new lent : L) → (f ≡ none → z ≡ none)
+    → (f ≡ none → firstRefusal (x ∷ y ∷ z ∷ []) ≡ none → m ≡ n)
     → quickBy (firstRefusal (f ∷ none ∷ x ∷ y ∷ [])) m
-    ≡ outcome VerdictAnswer.Refused (firstRefusal (f ∷ none ∷ firstRefusal (x ∷ y ∷ []) ∷ [])) (VerdictAnswer.Held n)
-    new lent .answer
+    ≡ outcome VerdictAnswer.Refused (firstRefusal (f ∷ none ∷ firstRefusal (x ∷ y ∷ z ∷ []) ∷ []))
+    (VerdictAnswer.Held n) new lent .answer
 unfolding quickBy outcome firstRefusal
-same-answer (some r) x y m n new lent h = refl
-same-answer none (some r) y m n new lent h = refl
-same-answer none none (some r) m n new lent h = refl
-same-answer none none none m n new lent h = ap VerdictAnswer.Held (h refl refl)
+same-answer (some r) x y z m n new lent k h = refl
+same-answer none (some r) y z m n new lent k h = refl
+same-answer none none (some r) z m n new lent k h = refl
+same-answer none none none none m n new lent k h = ap VerdictAnswer.Held (h refl refl)
+same-answer none none none (some r) m n new lent k h = absurd (Option·none-ne-some r (sym (k refl)))
 
 -- The theorem: by the plan's own rows the quick verdict is the verdict's answer, in number, place and count.
 pub quick-agrees : (D : ℕ) (p rs order : List ℕ) → take D rs ≡ rows D p → length p ≤ length order
-    → quick D p rs ≡ ordering D p order .answer
+    → quick D p rs ≡ ordering (morning D) p order .answer
 unfolding quick quickRefusal ordering noOrder circle tooShort refuseIf
 quick-agrees D p rs order mine long =
     rw (
       le-ltb (length rs) D (own-room D (rows D p) rs mine (length-rows D p)),
-      le-ltb (length order) (length p) long,
+      le-ltb (length order) (length (steps p)) (omega (arith, few-steps p)),
       mine,
     )
-    (same-answer (fault D p) (twoLasting D p) (circleOf D (rows D p)) (heldNumber D p) (heldAtEnd D p)
-    (over (map lineNumber (handed p)) order) order (number-own D p))
+    (same-answer (fault (morning D) p) (twoLasting D p) (circleOf D (rows D p)) (hindered D p) (heldNumber D p)
+    (heldAtEnd D p) (over (map lineNumber (handed p)) order) order
+    (λ f. none-hindered p (no-held-in-morning D p (no-fault-exactly (morning D) p .0 f)) D)
+    (number-own D p))
 
 -- By any rows it is the statement about the rows as lent: 9 or 10 exactly for its reason, at the lowest device.
-pub quick-exactly : (D : ℕ) (p rs : List ℕ) → fault D p ≡ none → D ≤ length rs → (r : Refusal)
+pub quick-exactly : (D : ℕ) (p rs : List ℕ) → fault (morning D) p ≡ none → D ≤ length rs → (r : Refusal)
     → (quickRefusal D p rs ≡ some r) ↔ NoOrderBy D p (take D rs) r
 unfolding quickRefusal tooShort refuseIf firstRefusal
 quick-exactly D p rs f long =
@@ -439,19 +455,20 @@ quick-exactly D p rs f long =
 -- ---- building, and any list of moves
 
 -- What is built is the plan's own.
-pub built-own : (D : ℕ) (p : List ℕ) (lent : Beside) → firstRefusal (fault D p ∷ roomFor D p lent ∷ []) ≡ none
+pub built-own : (D : ℕ) (p : List ℕ) (lent : Beside) → firstRefusal (fault (morning D) p ∷ roomFor D p lent ∷ []) ≡ none
     → Own D p (building D p lent .left)
 unfolding building outcome
 built-own D p lent h = rw h (own-written D p lent)
 
-module _ (D : ℕ) (small : D ≤ 256) where
-  still-own : (first s : LentBeside) → fault D (s .plan) ≡ none → length (s .plan) ≡ length (first .plan)
+module _ (D : ℕ) (small : D ≤ heldFrom) where
+  still-own : (first s : LentBeside) → fault (morning D) (s .plan) ≡ none → length (s .plan) ≡ length (first .plan)
       → s .beside ≡ overAll (besideOf D (s .plan)) (first .beside) → StillOwn D first s
   still-own first s f n e = record {
     noFault = f;
     long = n;
     afresh = e;
-    next = λ a. kept-step D (s .plan) (s .beside) (a .line) (a .device) (no-fault-exactly D (s .plan) .0 f) small own;
+    next = λ a. kept-step D (s .plan) (s .beside) (a .line) (a .device) (no-fault-exactly (morning D) (s .plan) .0 f)
+        small own;
     verdict = λ order h. quick-agrees D (s .plan) (s .beside .rows) order (own .ownRows) h;
   }
     where
@@ -480,25 +497,25 @@ module _ (D : ℕ) (small : D ≤ 256) where
   own-on first s (a ∷ asks) k = own-on first (movedKept D s a) asks (own-moved first s a k)
 
   -- The theorem: over any list of moves, refused ones among them, table, rows and held set stay the plan's own.
-  pub moves-keep-own : (s : LentBeside) (asks : List Ask) → fault D (s .plan) ≡ none → Own D (s .plan) (s .beside)
-      → StillOwn D s (movedKeptBy D s asks)
+  pub moves-keep-own : (s : LentBeside) (asks : List Ask) → fault (morning D) (s .plan) ≡ none
+      → Own D (s .plan) (s .beside) → StillOwn D s (movedKeptBy D s asks)
   moves-keep-own s asks f own = own-on s s asks (still-own s s f refl (sym (own-stays D (s .plan) (s .beside) own)))
 
 -- The theorem, from building on.
-pub build-and-move : (D : ℕ) → D ≤ 256 → (p : List ℕ) (lent : Beside) (asks : List Ask)
-    → firstRefusal (fault D p ∷ roomFor D p lent ∷ []) ≡ none
+pub build-and-move : (D : ℕ) → D ≤ heldFrom → (p : List ℕ) (lent : Beside) (asks : List Ask)
+    → firstRefusal (fault (morning D) p ∷ roomFor D p lent ∷ []) ≡ none
     → let s : LentBeside = record { plan = p; beside = building D p lent .left } in StillOwn D s (movedKeptBy D s asks)
 build-and-move D small p lent asks h =
     moves-keep-own D small (record { plan = p; beside = building D p lent .left }) asks
-    (none-refuses (fault D p ∷ roomFor D p lent ∷ []) h 0) (built-own D p lent h)
+    (none-refuses (fault (morning D) p ∷ roomFor D p lent ∷ []) h 0) (built-own D p lent h)
 
 -- Of any rows and held set that have room: over any list of moves plan and table are as without them.
 pub moves-as-before : (D : ℕ) (s : LentBeside) (asks : List Ask) → D ≤ length (s .beside .rows)
-    → 1 ≤ length (s .beside .held) → lessRows (movedKeptBy D s asks) ≡ movedBy D (lessRows s) asks
+    → 1 ≤ length (s .beside .held) → lessRows (movedKeptBy D s asks) ≡ movedBy (morning D) (lessRows s) asks
 unfolding movedKeptBy movedKept movedBy moved lessRows withoutRows
 moves-as-before D s [] a b = refl
 moves-as-before D s (x ∷ asks) a b =
     let only = writes-only D (s .plan) (s .beside) (x .line) (x .device) in
     moves-as-before D (movedKept D s x) asks (omega (arith, only .longRows)) (omega (arith, only .longHeld))
-    ∙ ap (λ (o : Outcome MoveAnswer Lent). movedBy D (o .left) asks)
+    ∙ ap (λ (o : Outcome MoveAnswer Lent). movedBy (morning D) (o .left) asks)
     (as-before D (s .plan) (s .beside) (x .line) (x .device) a b)

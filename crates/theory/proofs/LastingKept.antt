@@ -15,7 +15,7 @@ use lib.Seq.{getD-take}
 use borrow.Author.Tests.{eqb-true, eq-eqb, eqb-false}
 use Rattle.model.specs.Lists.{upFrom, positions, any, has}
 use Rattle.model.specs.Sets.{unionOf}
-use Rattle.model.specs.Line.{job, isTake, at}
+use Rattle.model.specs.Line.{job, opens, isTake, deviceOf, at}
 use Rattle.model.specs.WellFormed.{heldThere, Rules}
 use Rattle.model.specs.Mate.{deviceAt, holdsAlready, takes, mateIn, mate, isNone, lasting}
 use Rattle.model.specs.Claims.{table, beyond}
@@ -24,11 +24,12 @@ use Rattle.model.specs.Move.{mayChange, fromLast, rewritten}
 use Rattle.model.specs.Kept.{lastsAmong, lastsIn, concerned}
 use Rattle.theory.proofs.Tests.{clash, test, or-neither, tests-agree}
 use Rattle.theory.proofs.Lists.{has-head, has-tail, has-those, those-same, any-none}
+use Rattle.theory.proofs.Line.{take-opens}
 use Rattle.theory.proofs.Claims.{outermost, makes-take, takes-parts}
 use Rattle.theory.proofs.Successors.{successor-after}
 use Rattle.theory.proofs.Mate.{openTakes, open-is, held-open}
-use Rattle.theory.proofs.Edited.{Alike, EditOf, alike-drop, alike-tail, same-take, same-give, same-open}
-use Rattle.theory.proofs.Edited.{same-successors, take-kept}
+use Rattle.theory.proofs.Edited.{Alike, EditOf, alike-drop, alike-tail, same-opens, same-take}
+use Rattle.theory.proofs.Edited.{same-give, same-open, same-successors, take-kept, new-device}
 use Rattle.theory.proofs.Way.{from-last-same, from-last-off}
 use Rattle.theory.proofs.Move.{beyond-same, rewritten-off}
 
@@ -42,7 +43,7 @@ pub map-same : (f g : ℕ → ℕ) (xs : List ℕ) → ((k : ℕ) → has k xs �
 map-same f g [] h = refl
 map-same f g (x ∷ xs) h = cc (h x (has-head x xs), map-same f g xs (λ k m. h k (has-tail k x xs m)))
 
-any-same : (f g : ℕ → Bool) (xs : List ℕ) → ((k : ℕ) → f k ≡ g k) → any f xs ≡ any g xs
+pub any-same : (f g : ℕ → Bool) (xs : List ℕ) → ((k : ℕ) → f k ≡ g k) → any f xs ≡ any g xs
 unfolding any
 any-same f g [] h = refl
 any-same f g (x ∷ xs) h = rw (h x, any-same f g xs h)
@@ -64,7 +65,7 @@ same-mateIn j zero a (l ∷ ls) (m ∷ ms) al =
     let rest = alike-tail l m ls ms al in
     cc (
       al .jobs 0,
-      same-take (l ∷ ls) (m ∷ ms) al 0,
+      same-opens (l ∷ ls) (m ∷ ms) al 0,
       same-give (l ∷ ls) (m ∷ ms) al 0,
       same-mateIn j 1 (suc a) ls ms rest,
       same-mateIn j 0 (suc a) ls ms rest,
@@ -73,7 +74,7 @@ same-mateIn j (suc d) a (l ∷ ls) (m ∷ ms) al =
     let rest = alike-tail l m ls ms al in
     cc (
       al .jobs 0,
-      same-take (l ∷ ls) (m ∷ ms) al 0,
+      same-opens (l ∷ ls) (m ∷ ms) al 0,
       same-give (l ∷ ls) (m ∷ ms) al 0,
       same-mateIn j (suc (suc d)) (suc a) ls ms rest,
       same-mateIn j (suc d) (suc a) ls ms rest,
@@ -97,20 +98,21 @@ holds-device p k x e = ap (λ (y : ℕ). has y (heldThere p k)) e
 
 module _ (p q : List ℕ) (i e x : ℕ) (t : isTake (at p i) ≡ true) (d : EditOf p i e q)
     (notOld : eqb x (deviceAt p i) ≡ false) (notNew : eqb x e ≡ false) where
-  -- a take names it in both plans or in neither
-  named-same : (u : ℕ) → isTake (at p u) ≡ true → eqb x (deviceAt q u) ≡ eqb x (deviceAt p u)
+  -- a take or a held line names it in both plans or in neither
+  named-same : (u : ℕ) → opens (at p u) ≡ true → eqb x (deviceAt q u) ≡ eqb x (deviceAt p u)
   unfolding deviceAt
   named-same u v = go (test (eqb u i))
     where
       go : (eqb u i ≡ true) ⊎ (eqb u i ≡ false) → eqb x (deviceAt q u) ≡ eqb x (deviceAt p u)
-      go (inl z) = let w = eqb-true u i z in rw (w, d .atTake) (notNew ∙ sym notOld)
-      go (inr z) = rw (take-kept p q i e t d u (eqb-false u i z) v)
+      go (inl z) =
+          let w = eqb-true u i z in rw w (ap (eqb x) (new-device p q i e t d) ∙ notNew ∙ sym notOld)
+      go (inr z) = ap (λ (l : ℕ). eqb x (deviceOf l)) (take-kept p q i e t d u (eqb-false u i z) v)
 
   held-same : (k : ℕ) → has x (heldThere q k) ≡ has x (heldThere p k)
   held-same k =
       rw (held-open q (job (at q k)) k, d .alike .jobs k, same-open p q (d .alike) (job (at p k)) k)
       (has-mapped x (deviceAt q) (deviceAt p) (openTakes p (job (at p k)) k)
-      (λ n u o. named-same u (open-is p (job (at p k)) k n u o .taken))
+      (λ n u o. named-same u (open-is p (job (at p k)) k n u o .opening))
       ∙ ap (has x) (sym (held-open p (job (at p k)) k)))
 
   -- the outermost takes of it are the same
@@ -123,7 +125,8 @@ module _ (p q : List ℕ) (i e x : ℕ) (t : isTake (at p i) ≡ true) (d : Edit
           let b = outermost q k (a .0) in
           let v : isTake (at p k) ≡ true = sym (same-take p q (d .alike) k) ∙ b .0 in
           let n : deviceAt p k ≡ x =
-          sym (eqb-true x (deviceAt p k) (sym (named-same k v) ∙ eq-eqb x (deviceAt q k) (sym (a .1)))) in
+          sym (eqb-true x (deviceAt p k)
+          (sym (named-same k (take-opens (at p k) v)) ∙ eq-eqb x (deviceAt q k) (sym (a .1)))) in
           makes-take p k x v
           (holds-device p k x n ∙ sym (held-same k) ∙ sym (holds-device q k x (a .1)) ∙ b .1) n
 
@@ -132,7 +135,8 @@ module _ (p q : List ℕ) (i e x : ℕ) (t : isTake (at p i) ≡ true) (d : Edit
           let a = takes-parts p k x h in
           let b = outermost p k (a .0) in
           let n : deviceAt q k ≡ x =
-          sym (eqb-true x (deviceAt q k) (named-same k (b .0) ∙ eq-eqb x (deviceAt p k) (sym (a .1)))) in
+          sym (eqb-true x (deviceAt q k)
+          (named-same k (take-opens (at p k) (b .0)) ∙ eq-eqb x (deviceAt p k) (sym (a .1)))) in
           makes-take q k x (same-take p q (d .alike) k ∙ b .0)
           (holds-device q k x n ∙ held-same k ∙ sym (holds-device p k x (a .1)) ∙ b .1) n
 

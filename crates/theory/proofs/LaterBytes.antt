@@ -13,9 +13,10 @@ use lib.ListN.{length, take, length-append}
 use borrow.Author.Tests.{eqb-true}
 use Rattle.model.specs.Lists.{same}
 use Rattle.model.specs.Answers.{refuseAt, firstRefusal}
-use Rattle.model.specs.Line.{maxLines, maxBytes}
+use Rattle.model.specs.Line.{Settings, maxLines, maxBytes}
 use Rattle.model.specs.Text.{newline, number, inFront, linesOf, spelt}
 use Rattle.model.specs.Entries.{textFault}
+use Rattle.model.specs.Mate.{heldLines}
 use Rattle.model.specs.Judged.{mayFollow, strayAfter, stray, partingLine, planPart, entryPart, entryOf, entriesOf}
 use Rattle.model.specs.Judged.{judgedBy, judgeTextRefusal, judgeLine, judgePrinted, judgeRoom}
 use Rattle.model.specs.declared.Refusal.{Refusal}
@@ -190,51 +191,54 @@ kept-entries p done n r ls ks few (gone m l ms e g) h = absurd (omega arith)
 -- ---- the whole text
 
 -- the refusal of a plan's text and entries
-abbrev refusalOf : ℕ → List ℕ → List ℕ → Option Refusal
-refusalOf D plan es = firstRefusal (textFault D plan ∷ refuseAt IllegalStep (stray (spelt D plan) es) ∷ [])
+abbrev refusalOf : Settings → List ℕ → List ℕ → Option Refusal
+refusalOf S plan es = firstRefusal (textFault S plan ∷ refuseAt IllegalStep (stray (spelt S plan) es) ∷ [])
 
-refusal-is : (D : ℕ) (text : List ℕ)
-    → judgeTextRefusal D text ≡ refusalOf D (planPart (linesOf text)) (map entryOf (entryPart (linesOf text)))
+refusal-is : (S : Settings) (text : List ℕ)
+    → judgeTextRefusal S text ≡ refusalOf S (planPart (linesOf text)) (map entryOf (entryPart (linesOf text)))
 unfolding judgeTextRefusal entriesOf
-refusal-is D text = refl
+refusal-is S text = refl
 
-too-long : (D : ℕ) (plan es : List ℕ) → maxBytes < length plan → refusalOf D plan es ≡ some TextTooLong
+too-long : (S : Settings) (plan es : List ℕ) → maxBytes < length plan → refusalOf S plan es ≡ some TextTooLong
 unfolding firstRefusal
-too-long D plan es h = rw (text-fault-exactly D plan TextTooLong .1 (tooLong h))
+too-long S plan es h = rw (text-fault-exactly S plan TextTooLong .1 (tooLong h))
 
 -- entries count only where the plan has no fault, and then it has few lines
-same-strays : (D : ℕ) (plan es fs : List ℕ)
-    → (length plan ≤ maxBytes → length (spelt D plan) ≤ maxLines
-    → stray (spelt D plan) es ≡ stray (spelt D plan) fs)
-    → refusalOf D plan es ≡ refusalOf D plan fs
+same-strays : (S : Settings) (plan es fs : List ℕ)
+    → (length plan ≤ maxBytes → length (spelt S plan) ≤ maxLines
+    → stray (spelt S plan) es ≡ stray (spelt S plan) fs)
+    → refusalOf S plan es ≡ refusalOf S plan fs
 unfolding firstRefusal
-same-strays D plan es fs f = go (textFault D plan) refl
+same-strays S plan es fs f = go (textFault S plan) refl
   where
-    go : (o : Option Refusal) → textFault D plan ≡ o
-        → firstRefusal (o ∷ refuseAt IllegalStep (stray (spelt D plan) es) ∷ [])
-        ≡ firstRefusal (o ∷ refuseAt IllegalStep (stray (spelt D plan) fs) ∷ [])
+    go : (o : Option Refusal) → textFault S plan ≡ o
+        → firstRefusal (o ∷ refuseAt IllegalStep (stray (spelt S plan) es) ∷ [])
+        ≡ firstRefusal (o ∷ refuseAt IllegalStep (stray (spelt S plan) fs) ∷ [])
     go (some r) e = refl
     go none e =
-        let s = no-text-fault D plan .0 e in
+        let s = no-text-fault S plan .0 e in
         ap (λ (x : Option ℕ). firstRefusal (refuseAt IllegalStep x ∷ []))
-        (f (s .0) (no-fault-exactly D (spelt D plan) .0 (s .1) .few))
+        (f (s .0) (no-fault-exactly S (spelt S plan) .0 (s .1) .few))
 
-kept-refusal : (D : ℕ) (ls ks : List (List ℕ)) → Kept judgeRoom ls ks
-    → refusalOf D (planPart ks) (map entryOf (entryPart ks)) ≡ refusalOf D (planPart ls) (map entryOf (entryPart ls))
+kept-refusal : (S : Settings) (ls ks : List (List ℕ)) → Kept judgeRoom ls ks
+    → refusalOf S (planPart ks) (map entryOf (entryPart ks)) ≡ refusalOf S (planPart ls) (map entryOf (entryPart ls))
 unfolding stray
-kept-refusal D ls ks c = go (parts judgeRoom ls ks c)
+kept-refusal S ls ks c = go (parts judgeRoom ls ks c)
   where
+    plan : List ℕ
+    plan = spelt S (planPart ls)
+
     go : Parts judgeRoom ls ks
-        → refusalOf D (planPart ks) (map entryOf (entryPart ks))
-        ≡ refusalOf D (planPart ls) (map entryOf (entryPart ls))
+        → refusalOf S (planPart ks) (map entryOf (entryPart ks))
+        ≡ refusalOf S (planPart ls) (map entryOf (entryPart ls))
     go (filled h g) =
-        too-long D (planPart ks) (map entryOf (entryPart ks)) (omega arith)
-        ∙ sym (too-long D (planPart ls) (map entryOf (entryPart ls)) (omega arith))
+        too-long S (planPart ks) (map entryOf (entryPart ks)) (omega arith)
+        ∙ sym (too-long S (planPart ls) (map entryOf (entryPart ls)) (omega arith))
     go (parted q e d h) =
-        ap (λ (x : List ℕ). refusalOf D x (map entryOf (entryPart ks))) e
-        ∙ same-strays D (planPart ls) (map entryOf (entryPart ks)) (map entryOf (entryPart ls))
-        (λ a b. kept-entries (spelt D (planPart ls)) [] 0 q (entryPart ls) (entryPart ks) b d
-        (omega (arith, left-all (among []) (length (spelt D (planPart ls))))))
+        ap (λ (x : List ℕ). refusalOf S x (map entryOf (entryPart ks))) e
+        ∙ same-strays S (planPart ls) (map entryOf (entryPart ks)) (map entryOf (entryPart ls))
+        (λ a b. kept-entries plan (heldLines plan) 0 q (entryPart ls) (entryPart ks) b d
+        (omega (arith, left-all (among (heldLines plan)) (length plan))))
 
 -- the room is that of the rules
 pub room-is : judgeRoom ≡ 17412
@@ -242,12 +246,14 @@ unfolding partingLine
 room-is = refl
 
 -- The theorem: the first `judgeRoom` bytes of a text decide what is refused, and what is printed.
-pub later-bytes-nothing : (D : ℕ) (text : List ℕ) → judgeTextRefusal D (take judgeRoom text) ≡ judgeTextRefusal D text
-later-bytes-nothing D text =
-    refusal-is D (take judgeRoom text)
-    ∙ kept-refusal D (linesOf text) (linesOf (take judgeRoom text)) (kept-lines judgeRoom text)
-    ∙ sym (refusal-is D text)
+pub later-bytes-nothing : (S : Settings) (text : List ℕ)
+    → judgeTextRefusal S (take judgeRoom text) ≡ judgeTextRefusal S text
+later-bytes-nothing S text =
+    refusal-is S (take judgeRoom text)
+    ∙ kept-refusal S (linesOf text) (linesOf (take judgeRoom text)) (kept-lines judgeRoom text)
+    ∙ sym (refusal-is S text)
 
-pub later-bytes-print-nothing : (D : ℕ) (text : List ℕ) → judgePrinted D (take judgeRoom text) ≡ judgePrinted D text
+pub later-bytes-print-nothing : (S : Settings) (text : List ℕ)
+    → judgePrinted S (take judgeRoom text) ≡ judgePrinted S text
 unfolding judgePrinted
-later-bytes-print-nothing D text = ap (λ (o : Option Refusal). judgeLine (judgedBy o)) (later-bytes-nothing D text)
+later-bytes-print-nothing S text = ap (λ (o : Option Refusal). judgeLine (judgedBy o)) (later-bytes-nothing S text)

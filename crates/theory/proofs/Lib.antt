@@ -17,6 +17,7 @@ pub mod WellFormed
 pub mod Claims
 pub mod Rows
 pub mod Successors
+pub mod Grips
 pub mod Mate
 pub mod Outer
 pub mod Way
@@ -33,9 +34,12 @@ pub mod OnlyIf
 pub mod Turns
 pub mod Progress
 pub mod Handed
+pub mod Segments
+pub mod Chosen
 pub mod LineByLine
 pub mod Steps
 pub mod Verdict
+pub mod Morning
 pub mod Kept
 pub mod Judged
 pub mod Cut

@@ -20,13 +20,13 @@ use Rattle.model.specs.Handed.{handed}
 use Rattle.theory.proofs.Tests.{clash, no-some, test, and-split, le-or-lt}
 use Rattle.theory.proofs.Lists.{has-none, has-head, has-cases, has-left, has-right, has-append, any-none}
 use Rattle.theory.proofs.Lists.{none-any, has-those, Answer, first-answer, first-lowest, first-is-lowest, Least}
-use Rattle.theory.proofs.Lists.{least-answer, left, left-lt, left-none, left-all, among}
+use Rattle.theory.proofs.Lists.{first-those, least-answer, left, left-lt, left-none, left-all, among}
 use Rattle.theory.proofs.Successors.{precedes-reaches}
 use Rattle.theory.proofs.Mate.{none-lasts-between}
 use Rattle.theory.proofs.Turns.{Between, Going, going, turn-follows, turn-between, after-new}
 use Rattle.theory.proofs.Progress.{has-undone, undone-has, has-standing, standing-has, Picked, stuck, goes}
 use Rattle.theory.proofs.Progress.{picked}
-use Rattle.theory.proofs.Handed.{closes}
+use Rattle.theory.proofs.Handed.{closes, undone-takes}
 
 -- the line that (a), otherwise (b), chooses, with u undone
 unfoldable pub chosen : List ℕ → List ℕ → Option ℕ
@@ -140,23 +140,6 @@ stood p done x k s n =
     go b l e (inr q) = s .first b l (not-more b x done e (eqb-false b x q))
 
 -- ---- rule (a) by lines that stand next
-
-first-those : (f g : ℕ → Bool) (xs : List ℕ) → firstOf f (those g xs) ≡ firstOf (λ x. g x && f x) xs
-unfolding firstOf those
-first-those f g [] = refl
-first-those f g (x ∷ xs) = go (g x) (first-those f g xs)
-  where
-    here : (c : Bool) → firstOf f (those g xs) ≡ firstOf (λ x. g x && f x) xs
-        → _≡_ {A = Option ℕ} (elim c [ true ↦ some x | false ↦ firstOf f (those g xs) ])
-        (elim c [ true ↦ some x | false ↦ firstOf (λ x. g x && f x) xs ])
-    here true ih = refl
-    here false ih = ih
-
-    go : (b : Bool) → firstOf f (those g xs) ≡ firstOf (λ x. g x && f x) xs
-        → firstOf f (elim b [ true ↦ x ∷ those g xs | false ↦ those g xs ])
-        ≡ elim (b && f x) [ true ↦ some x | false ↦ firstOf (λ x. g x && f x) xs ]
-    go false ih = ih
-    go true ih = here (f x) ih
 
 -- line k stands next and is no lasting take, as one test
 canGo : List ℕ → List ℕ → ℕ → Bool
@@ -368,13 +351,14 @@ module _ (p : List ℕ) (rules : Rules p) where
 
           between : Between p (done ++ upFrom i (suc last - i))
           between = turn-between p rules done inv i last (here .waiting) (here .first) g
-              (λ d t. closes p done i d t c)
+              (λ d t. closes p done i d (undone-takes p done inv i d (here .waiting) t) c)
 
           less : left (among (done ++ upFrom i (suc last - i))) (length p) < left (among done) (length p)
           less =
               left-lt (among done) (among (done ++ upFrom i (suc last - i)))
               (λ k h. has-left k done (upFrom i (suc last - i)) h) i (here .waiting)
-              (after-new p rules done inv i last (here .waiting) (here .first) g i (omega arith) (g .le)) (length p)
+              (after-new p rules done (inv .closed) i last (here .waiting) (here .first) g i (omega arith) (g .le))
+              (length p)
               (here .line)
 
           rest : RunOf p done m i (suc last - i) → run p i ++ handedAfter n p (done ++ run p i) ≡ linesAfter m p done
@@ -395,11 +379,8 @@ module _ (p : List ℕ) (rules : Rules p) where
               (rw z (let f = one-line p done m i here e b in
               record { turns = f .turns; lines = f .first; enough = f .enough }))
 
-  -- The theorem.
-  pub handed-line-by-line : handed p ≡ linesAfter (length p) p []
-  unfolding handed
-  handed-line-by-line =
-      same-lines (length p) (length p) []
-      (record { closed = λ k i h e b. has-none i e; given = λ k d e t. has-none k e })
-      (left-all (among []) (length p))
-      (left-all (among []) (length p))
+  -- The theorem: so from any state as it is between turns.
+  pub turns-line-by-line : (done : List ℕ) → Between p done
+      → handedAfter (length p) p done ≡ linesAfter (length p) p done
+  turns-line-by-line done inv =
+      same-lines (length p) (length p) done inv (left-all (among done) (length p)) (left-all (among done) (length p))

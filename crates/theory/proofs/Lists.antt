@@ -339,6 +339,18 @@ first-is-lowest f a (suc n) i h g e low =
     go false q (inl t) ih = clash (f a) (rw (eqb-true i a t) at e) q
     go false q (inr t) ih = let ne = eqb-false i a t in ih (omega arith)
 
+-- the first of those that pass is the first that passes both
+pub first-those : (f g : ℕ → Bool) (xs : List ℕ) → firstOf f (those g xs) ≡ firstOf (λ k. g k && f k) xs
+unfolding firstOf those
+first-those f g [] = refl
+first-those f g (x ∷ xs) = go (g x) (first-those f g xs)
+  where
+    go : (b : Bool) → firstOf f (those g xs) ≡ firstOf (λ k. g k && f k) xs
+        → firstOf f (elim b [ true ↦ x ∷ those g xs | false ↦ those g xs ])
+        ≡ elim (b && f x) [ true ↦ some x | false ↦ firstOf (λ k. g k && f k) xs ]
+    go false ih = ih
+    go true ih = ap (λ (o : Option ℕ). elim (f x) [ true ↦ some x | false ↦ o ]) ih
+
 -- the one with the lowest key: of the list, and no other of the list has a lower one; none only of the empty list
 abbrev pub Least : (ℕ → ℕ) → List ℕ → Option ℕ → Type 0
 Least key xs none = xs ≡ []

@@ -8,34 +8,35 @@ use mathlib.Core.Logic.{_⊎_, inl, inr}
 use mathlib.Core.Option.{Option, none, some}
 use mathlib.Core.Path.{_≡_, refl, sym, _∙_, ap}
 use native.Mathlib.Omega.{arith}
-use lib.Dec.{eqb, ltb}
+use lib.Dec.{eqb, leb, ltb}
 use lib.ListN.{length, length-map}
-use borrow.Author.Tests.{not-false, eqb-true, eq-eqb, ltb-true, lt-ltb}
-use Rattle.model.specs.Board.{devices}
+use borrow.Author.Tests.{not-false, eqb-true, eq-eqb, lt-leb, ltb-true, lt-ltb}
+use Rattle.model.specs.Board.{devices, board}
 use Rattle.model.specs.Lists.{upFrom, positions, any, has, those}
 use Rattle.model.specs.Answers.{firstRefusal}
-use Rattle.model.specs.Line.{job, kind, operand, isTake, isGive, isStart, starts, at, lineNumber, maxLines}
+use Rattle.model.specs.Line.{job, kind, operand, opens, isTake, isGive, isStart, starts, at, lineNumber}
+use Rattle.model.specs.Line.{isHeld, heldFrom, maxLines}
 use Rattle.model.specs.Text.{spelt, textOf}
-use Rattle.model.specs.WellFormed.{fault}
-use Rattle.model.specs.Mate.{deviceAt, holdsAlready, takes, mate, isNone, lasting}
+use Rattle.model.specs.WellFormed.{WellFormed, fault}
+use Rattle.model.specs.Mate.{deviceAt, holdsAlready, takes, heldAt, mate, isNone, grips, keeps}
 use Rattle.model.specs.Legal.{givenBack, held, MayFollow, Follow, Legal}
 use Rattle.model.specs.Handed.{handed}
 use Rattle.model.specs.Verdict.{noOrder, heldAtEnd}
 use Rattle.model.specs.Entries.{textFault}
 use Rattle.model.specs.Printed.{printedOrder, printedBy, printed, screenRoom}
 use Rattle.theory.proofs.Tests.{clash, falsely, and-split, and-both, tests-agree, le-or-lt}
-use Rattle.theory.proofs.Lists.{has-upFrom, upFrom-has, position-has, any-found, any-at}
-use Rattle.theory.proofs.Lists.{those-same}
-use Rattle.theory.proofs.Line.{start-parts}
-use Rattle.theory.proofs.WellFormed.{line-any, start-line, give-line, take-line}
+use Rattle.theory.proofs.Lists.{has-upFrom, upFrom-has, position-has, any-found, any-at, any-none, those-same}
+use Rattle.theory.proofs.Line.{start-parts, take-no-held, own-device, give-line, take-line}
+use Rattle.theory.proofs.WellFormed.{line-any, start-line}
 use Rattle.theory.proofs.Claims.{length-upFrom, getD-upFrom, takes-parts, taking, makes-take}
-use Rattle.theory.proofs.WellFormed.{no-fault-exactly}
-use Rattle.theory.proofs.Around.{around}
+use Rattle.theory.proofs.WellFormed.{no-fault-exactly, no-held-in-morning}
 use Rattle.theory.proofs.Successors.{Why, sameJob, starter, why, earlier-precedes}
 use Rattle.theory.proofs.Mate.{pair}
+use Rattle.theory.proofs.Grips.{takes-grips, grips-takes}
+use Rattle.theory.proofs.Morning.{legal-from-nothing}
 use Rattle.theory.proofs.Verdict.{accepted-is-legal, legal-order-exactly, held-number}
 use Rattle.theory.proofs.Text.{written-read}
-use Rattle.theory.proofs.Printed.{legal-length, printed-is}
+use Rattle.theory.proofs.Printed.{morning-length, printed-is}
 
 -- ---- the plan
 
@@ -46,8 +47,9 @@ plan : List ℕ
 unfolding lineThere
 plan = map lineThere (upFrom 0 maxLines)
 
--- What is computed of it: it has no fault, and all lines are of job 1, no give, no start.
-sound : fault devices plan ≡ none
+-- What is computed of it: it has no fault; all lines are of job 1, no give, no start; and none of the first ten takes
+-- again what the job holds.
+sound : fault board plan ≡ none
 unfolding fault plan upFrom
 sound = refl
 
@@ -62,6 +64,10 @@ starts-none = refl
 others-none : any (λ l. not (eqb (job l) 1)) plan ≡ false
 unfolding any job plan upFrom
 others-none = refl
+
+again-none : any (holdsAlready plan) (upFrom 0 10) ≡ false
+unfolding any holdsAlready plan upFrom
+again-none = refl
 
 plan-length : length plan ≡ maxLines
 unfolding plan
@@ -87,10 +93,23 @@ no-start i j t =
     clash (any isStart plan) (line-any isStart plan i (start-line plan i j t) (start-parts (at plan i) j t .0))
     starts-none
 
+well-formed : WellFormed board plan
+well-formed = no-fault-exactly board plan .0 sound
+
+-- nothing is held from the beginning: what grips takes
+unheld : (i : ℕ) → isHeld (at plan i) ≡ false
+unheld i = no-held-in-morning devices plan well-formed i
+
+gripped : (i d : ℕ) → grips plan i d ≡ true → takes plan i d ≡ true
+unfolding heldAt
+gripped i d g = grips-takes plan i d (unheld i) g
+
 -- a take is of the device of its place, and the first ten lines are
-of-take : (i : ℕ) → isTake (at plan i) ≡ true → (i < 10) × (operand (at plan i) ≡ i)
-unfolding lineThere isTake kind operand
-of-take i t = rw e (go (ltb i 10) refl (rw e at t))
+of-take : (i : ℕ) → isTake (at plan i) ≡ true → (i < 10) × (deviceAt plan i ≡ i)
+unfolding lineThere isTake opens kind operand deviceAt
+of-take i t =
+    let r = go (ltb i 10) refl (rw e at t) in
+    (r .0, own-device (at plan i) (take-no-held (at plan i) t) ∙ rw e (r .1))
   where
     e : at plan i ≡ lineThere i
     e = there i (omega (arith, take-line plan i t, plan-length))
@@ -101,25 +120,17 @@ of-take i t = rw e (go (ltb i 10) refl (rw e at t))
     go false q t = clash false t refl
 
 is-take : (i : ℕ) → i < 10 → isTake (at plan i) ≡ true
-unfolding lineThere isTake kind
-is-take i h = rw (there i (omega arith), lt-ltb i 10 h) (eq-eqb ((1280 + i) / 256 % 4) 1 (omega arith))
+unfolding lineThere isTake opens kind operand
+is-take i h =
+    rw (there i (omega arith), lt-ltb i 10 h)
+    (and-both (eqb ((1280 + i) / 256 % 4) 1) (not (leb heldFrom ((1280 + i) % 256)))
+    (eq-eqb ((1280 + i) / 256 % 4) 1 (omega arith)) (rw (lt-leb heldFrom ((1280 + i) % 256) (omega arith))))
 
 -- none of them takes again what the job holds
 first-taken : (i : ℕ) → isTake (at plan i) ≡ true → holdsAlready plan i ≡ false
-unfolding deviceAt
-first-taken i t = falsely (holdsAlready plan i) again
-  where
-    again : holdsAlready plan i ≡ true → ⊥
-    again h =
-        let r = around plan (no-fault-exactly devices plan .0 sound .rules) i t h in
-        let k = r .0 in
-        omega (
-          arith,
-          r .1 .above,
-          of-take i t .1,
-          of-take k (taking plan k (deviceAt plan i) (r .1 .takes)) .1,
-          takes-parts plan k (deviceAt plan i) (r .1 .takes) .1,
-        )
+first-taken i t =
+    any-none (holdsAlready plan) (upFrom 0 10) again-none i
+    (upFrom-has 0 10 i (omega arith) (omega (arith, of-take i t .0)))
 
 -- ---- the order of the line numbers is legal, and no other
 
@@ -134,7 +145,7 @@ up-next i = let z : 0 + i ≡ i = omega arith in rw z at (up-snoc 0 i)
 
 -- after the lines before it, a line may follow
 may-follow : (i : ℕ) → i < maxLines → MayFollow plan (upFrom 0 i) i
-unfolding held deviceAt
+unfolding held
 may-follow i h = record {
   line = omega (arith, plan-length);
   once = falsely (has i (upFrom 0 i)) (λ m. omega (arith, has-upFrom 0 i i m .1));
@@ -147,16 +158,17 @@ may-follow i h = record {
     before-it k (starter s) = absurd (no-start k (job (at plan i)) s)
 
     free : (d : ℕ) → takes plan i d ≡ true
-        → (k : ℕ) × (has k (upFrom 0 i) ≡ true) × ((takes plan k d && not (givenBack plan (upFrom 0 i) k)) ≡ true) → ⊥
+        → (k : ℕ) × (has k (upFrom 0 i) ≡ true) × ((grips plan k d && not (givenBack plan (upFrom 0 i) k)) ≡ true) → ⊥
     free d t r =
-        let b = and-split (takes plan (r .0) d) (not (givenBack plan (upFrom 0 i) (r .0))) (r .2) in
+        let b = and-split (grips plan (r .0) d) (not (givenBack plan (upFrom 0 i) (r .0))) (r .2) in
+        let g = gripped (r .0) d (b .0) in
         omega (
           arith,
           has-upFrom 0 i (r .0) (r .1) .1,
           of-take i (taking plan i d t) .1,
           takes-parts plan i d t .1,
-          of-take (r .0) (taking plan (r .0) d (b .0)) .1,
-          takes-parts plan (r .0) d (b .0) .1,
+          of-take (r .0) (taking plan (r .0) d g) .1,
+          takes-parts plan (r .0) d g .1,
         )
 
 follow : (n i : ℕ) → i + n ≡ maxLines → Follow plan (upFrom 0 i) (upFrom i n)
@@ -166,10 +178,9 @@ follow (suc n) i e = (may-follow i (omega arith), rw (up-next i) (follow n (suc 
 
 by-number : Legal plan (upFrom 0 maxLines)
 unfolding upFrom
-by-number = record {
-  steps = follow maxLines 0 refl;
-  whole = λ i h. upFrom-has 0 maxLines i (omega arith) (omega (arith, plan-length));
-}
+by-number =
+    legal-from-nothing plan unheld (upFrom 0 maxLines) .1
+    (follow maxLines 0 refl, λ i h. upFrom-has 0 maxLines i (omega arith) (omega (arith, plan-length)))
 
 only-so : (o : List ℕ) (i : ℕ) → Follow plan (upFrom 0 i) o → o ≡ upFrom i (length o)
 unfolding upFrom
@@ -190,41 +201,42 @@ only-so (x ∷ o) i f =
 
 no-refusal : noOrder devices plan ≡ none
 no-refusal =
-    legal-order-exactly devices plan sound .0 (upFrom 0 maxLines, by-number)
+    legal-order-exactly board plan sound .0 (upFrom 0 maxLines, by-number)
 
 handed-legal : Legal plan (handed plan)
-handed-legal = accepted-is-legal devices plan sound no-refusal
+handed-legal = accepted-is-legal board plan sound no-refusal
 
 handed-is : handed plan ≡ upFrom 0 maxLines
 unfolding upFrom
 handed-is =
-    only-so (handed plan) 0 (handed-legal .steps)
-    ∙ ap (upFrom 0) (legal-length plan (handed plan) handed-legal ∙ plan-length)
+    only-so (handed plan) 0 (legal-from-nothing plan unheld (handed plan) .0 handed-legal .0)
+    ∙ ap (upFrom 0) (morning-length devices plan (handed plan) well-formed handed-legal ∙ plan-length)
 
 -- ---- ten devices stay held
 
-stays-held : (d : ℕ) → any (λ i. lasting plan i d) (positions plan) ≡ ltb d 10
-unfolding lasting deviceAt isNone
-stays-held d = tests-agree (any (λ i. lasting plan i d) (positions plan)) (ltb d 10) to from
+stays-held : (d : ℕ) → any (λ i. keeps plan i d) (positions plan) ≡ ltb d 10
+unfolding keeps isNone
+stays-held d = tests-agree (any (λ i. keeps plan i d) (positions plan)) (ltb d 10) to from
   where
-    to : any (λ i. lasting plan i d) (positions plan) ≡ true → ltb d 10 ≡ true
+    to : any (λ i. keeps plan i d) (positions plan) ≡ true → ltb d 10 ≡ true
     to h =
-        let r = any-found (λ i. lasting plan i d) (positions plan) h in
-        let a = and-split (takes plan (r .0) d) (isNone (mate plan (r .0))) (r .2) in
-        let t = of-take (r .0) (taking plan (r .0) d (a .0)) in
-        lt-ltb d 10 (omega (arith, t .0, t .1, takes-parts plan (r .0) d (a .0) .1))
+        let r = any-found (λ i. keeps plan i d) (positions plan) h in
+        let a = and-split (grips plan (r .0) d) (isNone (mate plan (r .0))) (r .2) in
+        let g = gripped (r .0) d (a .0) in
+        let t = of-take (r .0) (taking plan (r .0) d g) in
+        lt-ltb d 10 (omega (arith, t .0, t .1, takes-parts plan (r .0) d g .1))
 
     lasts : (m : Option ℕ) → mate plan d ≡ m → isNone m ≡ true
     lasts none e = refl
     lasts (some m) e = absurd (no-give m (pair plan d m e .gives))
 
-    from : ltb d 10 ≡ true → any (λ i. lasting plan i d) (positions plan) ≡ true
+    from : ltb d 10 ≡ true → any (λ i. keeps plan i d) (positions plan) ≡ true
     from h =
         let lt = ltb-true d 10 h in
         let t = is-take d lt in
-        any-at (λ i. lasting plan i d) (positions plan) d (position-has plan d (omega (arith, plan-length)))
-        (and-both (takes plan d d) (isNone (mate plan d))
-        (makes-take plan d d t (first-taken d t) (of-take d t .1))
+        any-at (λ i. keeps plan i d) (positions plan) d (position-has plan d (omega (arith, plan-length)))
+        (and-both (grips plan d d) (isNone (mate plan d))
+        (takes-grips plan d d (makes-take plan d d t (first-taken d t) (of-take d t .1)))
         (lasts (mate plan d) refl))
 
 ten-held : heldAtEnd devices plan ≡ 10
@@ -232,7 +244,7 @@ unfolding those upFrom
 ten-held =
     held-number devices plan handed-legal
     ∙ ap length
-    (those-same (λ d. any (λ i. lasting plan i d) (positions plan)) (λ d. ltb d 10) (upFrom 0 devices)
+    (those-same (λ d. any (λ i. keeps plan i d) (positions plan)) (λ d. ltb d 10) (upFrom 0 devices)
     (λ d h. stays-held d))
 
 -- ---- what is printed
@@ -242,12 +254,12 @@ unfolding printedOrder upFrom lineNumber
 counted = refl
 
 -- The theorem: a text's print has as many bytes as the screens' room.
-pub longest : (text : List ℕ) × (length (printed devices text) ≡ screenRoom)
+pub longest : (text : List ℕ) × (length (printed board text) ≡ screenRoom)
 unfolding printedBy firstRefusal
 longest = (textOf plan, ap length print ∙ counted)
   where
-    w : (spelt devices (textOf plan) ≡ plan) × (textFault devices (textOf plan) ≡ none)
-    w = written-read devices plan sound
+    w : (spelt board (textOf plan) ≡ plan) × (textFault board (textOf plan) ≡ none)
+    w = written-read board plan sound
 
-    print : printed devices (textOf plan) ≡ printedOrder (map lineNumber (upFrom 0 maxLines)) 10
-    print = printed-is devices (textOf plan) ∙ rw (w .0, w .1, no-refusal, handed-is, ten-held)
+    print : printed board (textOf plan) ≡ printedOrder (map lineNumber (upFrom 0 maxLines)) 10
+    print = printed-is board (textOf plan) ∙ rw (w .0, w .1, no-refusal, handed-is, ten-held)

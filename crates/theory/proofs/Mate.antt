@@ -13,14 +13,14 @@ use lib.ListN.{length, drop, length-drop, drop-of-length-le, getElem?}
 use lib.Seq.{getD-drop, drop-drop, drop-cons}
 use borrow.Author.Tests.{eqb-true, eq-eqb, eqb-false, ne-eqb}
 use Rattle.model.specs.Lists.{has}
-use Rattle.model.specs.Line.{job, isTake, isGive, operand, at}
-use Rattle.model.specs.Mate.{deviceAt, holdsAlready, takesAt, takes, mateIn, mate, isNone, lastingAt}
+use Rattle.model.specs.Line.{job, opens, isTake, isGive, operand, deviceOf, at}
+use Rattle.model.specs.Mate.{deviceAt, holdsAlready, takesAt, takes, grips, mateIn, mate, isNone, lastingAt}
 use Rattle.model.specs.WellFormed.{before, heldBy, isLast, Rules}
 use Rattle.theory.proofs.Tests.{clash, no-some, test, and-left, and-right, le-or-lt}
 use Rattle.theory.proofs.Lists.{has-head, has-tail}
-use Rattle.theory.proofs.Line.{take-no-give}
-use Rattle.theory.proofs.WellFormed.{take-line, give-line}
+use Rattle.theory.proofs.Line.{take-opens, opens-no-give, own-device, give-no-held, take-line, give-line}
 use Rattle.theory.proofs.Claims.{outermost, takes-parts}
+use Rattle.theory.proofs.Grips.{grips-parts}
 use Rattle.theory.proofs.Successors.{jobs-grow}
 
 -- ---- the search for a mate
@@ -28,18 +28,18 @@ use Rattle.theory.proofs.Successors.{jobs-grow}
 -- what a line does to the search
 pub data Seen (j l : ℕ) (ls : List ℕ) : Type 0 where
   foreign : (job l ≡ j → ⊥) → ((d a : ℕ) → mateIn j d a (l ∷ ls) ≡ none) → Seen j l ls
-  deeper : job l ≡ j → isTake l ≡ true → ((d a : ℕ) → mateIn j d a (l ∷ ls) ≡ mateIn j (suc d) (suc a) ls)
+  deeper : job l ≡ j → opens l ≡ true → ((d a : ℕ) → mateIn j d a (l ∷ ls) ≡ mateIn j (suc d) (suc a) ls)
       → Seen j l ls
-  level : job l ≡ j → isTake l ≡ false → isGive l ≡ false
+  level : job l ≡ j → opens l ≡ false → isGive l ≡ false
       → ((d a : ℕ) → mateIn j d a (l ∷ ls) ≡ mateIn j d (suc a) ls) → Seen j l ls
-  back : job l ≡ j → isTake l ≡ false → isGive l ≡ true → ((a : ℕ) → mateIn j 0 a (l ∷ ls) ≡ some a)
+  back : job l ≡ j → opens l ≡ false → isGive l ≡ true → ((a : ℕ) → mateIn j 0 a (l ∷ ls) ≡ some a)
       → ((d a : ℕ) → mateIn j (suc d) a (l ∷ ls) ≡ mateIn j d (suc a) ls) → Seen j l ls
 
 pub seen : (j l : ℕ) (ls : List ℕ) → Seen j l ls
 unfolding mateIn
-seen j l ls = go (eqb (job l) j) (isTake l) (isGive l) refl refl refl
+seen j l ls = go (eqb (job l) j) (opens l) (isGive l) refl refl refl
   where
-    go : (x y z : Bool) → eqb (job l) j ≡ x → isTake l ≡ y → isGive l ≡ z → Seen j l ls
+    go : (x y z : Bool) → eqb (job l) j ≡ x → opens l ≡ y → isGive l ≡ z → Seen j l ls
     go false y z e f g = foreign (eqb-false (job l) j e) (λ d a. rw (e, mateIn))
     go true true z e f g = deeper (eqb-true (job l) j e) f (λ d a. rw (e, f, mateIn))
     go true false false e f g = level (eqb-true (job l) j e) f g (λ d a. rw (e, f, g, mateIn))
@@ -88,10 +88,10 @@ record Span (j a : ℕ) (ls : List ℕ) (m : ℕ) : Type 0 where
   inside : m < a + length ls
   sameJob : (o : ℕ) → a + o ≤ m → job (at ls o) ≡ j
   ends : (o : ℕ) → a + o ≡ m → isGive (at ls o) ≡ true
-  inner : (o k : ℕ) → k ≡ a + o → k < m → isTake (at ls o) ≡ true → Sooner j 0 (suc k) (drop (suc o) ls) m
+  inner : (o k : ℕ) → k ≡ a + o → k < m → opens (at ls o) ≡ true → Sooner j 0 (suc k) (drop (suc o) ls) m
 
 one-more : (j a l : ℕ) (ls : List ℕ) (m : ℕ) → suc a ≤ m → Span j (suc a) ls m → job l ≡ j
-    → (isTake l ≡ true → Sooner j 0 (suc a) ls m) → Span j a (l ∷ ls) m
+    → (opens l ≡ true → Sooner j 0 (suc a) ls m) → Span j a (l ∷ ls) m
 one-more j a l ls m lt s q f =
     record { inside = omega (arith, s .inside); sameJob = sameJob′; ends = ends′; inner = inner′ }
   where
@@ -103,7 +103,7 @@ one-more j a l ls m lt s q f =
     ends′ zero h = absurd (omega arith)
     ends′ (suc o) h = s .ends o (omega arith)
 
-    inner′ : (o k : ℕ) → k ≡ a + o → k < m → isTake (at (l ∷ ls) o) ≡ true
+    inner′ : (o k : ℕ) → k ≡ a + o → k < m → opens (at (l ∷ ls) o) ≡ true
         → Sooner j 0 (suc k) (drop (suc o) (l ∷ ls)) m
     inner′ zero k e h t = let z : k ≡ a = omega arith in rw z (f t)
     inner′ (suc o) k e h t = s .inner o k (omega arith) h t
@@ -114,7 +114,7 @@ span j d a [] m h = no-some h
 span j d a (l ∷ ls) m h = go d h (seen j l ls) (λ e g. span j e (suc a) ls m g)
   where
     -- the search goes on past the line
-    past : (e : ℕ) → mateIn j e (suc a) ls ≡ some m → job l ≡ j → (isTake l ≡ true → Sooner j 0 (suc a) ls m)
+    past : (e : ℕ) → mateIn j e (suc a) ls ≡ some m → job l ≡ j → (opens l ≡ true → Sooner j 0 (suc a) ls m)
         → ((e : ℕ) → mateIn j e (suc a) ls ≡ some m → Span j (suc a) ls m) → Span j a (l ∷ ls) m
     past e g q f ih = one-more j a l ls m (mate-below j e (suc a) ls m g) (ih e g) q f
 
@@ -125,8 +125,8 @@ span j d a (l ∷ ls) m h = go d h (seen j l ls) (λ e g. span j e (suc a) ls m 
     go d h (deeper q t e) ih =
         let g : mateIn j (suc d) (suc a) ls ≡ some m = sym (e d a) ∙ h in
         past (suc d) g q (λ u. shallower j 0 (suc d) (suc a) ls m (omega arith) g) ih
-    go d h (level q t n e) ih = past d (sym (e d a) ∙ h) q (λ u. clash (isTake l) u t) ih
-    go (suc d) h (back q t g z e) ih = past d (sym (e d a) ∙ h) q (λ u. clash (isTake l) u t) ih
+    go d h (level q t n e) ih = past d (sym (e d a) ∙ h) q (λ u. clash (opens l) u t) ih
+    go (suc d) h (back q t g z e) ih = past d (sym (e d a) ∙ h) q (λ u. clash (opens l) u t) ih
     go zero h (back q t g z e) ih = let eq : a ≡ m = Option·some-injective a m (sym (z a) ∙ h) in record {
       inside = omega arith;
       sameJob = sameJob′ eq;
@@ -150,7 +150,7 @@ pub record Pair (p : List ℕ) (i m : ℕ) : Type 0 where
   pub inPlan : m < length p
   pub sameJob : (k : ℕ) → i ≤ k → k ≤ m → job (at p k) ≡ job (at p i)
   pub gives : isGive (at p m) ≡ true
-  pub mates : (k : ℕ) → i < k → k ≤ m → isTake (at p k) ≡ true → (n : ℕ) × (mate p k ≡ some n) × (n < m) × (k < n)
+  pub mates : (k : ℕ) → i < k → k ≤ m → opens (at p k) ≡ true → (n : ℕ) × (mate p k ≡ some n) × (n < m) × (k < n)
 
 pub pair : (p : List ℕ) (i m : ℕ) → mate p i ≡ some m → Pair p i m
 unfolding mate
@@ -192,18 +192,18 @@ pair p i m h =
         let q : suc i + suc (k - suc i) ≡ suc k = omega arith in
         drop-drop (suc (k - suc i)) (suc i) p ∙ ap (λ (n : ℕ). drop n p) q
 
-    at-take : (k : ℕ) → i < k → k < m → isTake (at p k) ≡ true → (n : ℕ) × (mate p k ≡ some n) × (n < m) × (k < n)
+    at-take : (k : ℕ) → i < k → k < m → opens (at p k) ≡ true → (n : ℕ) × (mate p k ≡ some n) × (n < m) × (k < n)
     at-take k lt le t =
         let r = s .inner (k - suc i) k (omega arith) le (rw (there k lt) t) in
         let f : mateIn (job (at p k)) 0 (suc k) (drop (suc k) p) ≡ some (r .by) =
         rw (sameJob′ k (omega arith) (omega arith), ← rest k lt) (r .found) in
         (r .by, f, r .sooner, mate-below (job (at p k)) 0 (suc k) (drop (suc k) p) (r .by) f)
 
-    mates′ : (k : ℕ) → i < k → k ≤ m → isTake (at p k) ≡ true → (n : ℕ) × (mate p k ≡ some n) × (n < m) × (k < n)
+    mates′ : (k : ℕ) → i < k → k ≤ m → opens (at p k) ≡ true → (n : ℕ) × (mate p k ≡ some n) × (n < m) × (k < n)
     mates′ k lt le t = go (test (eqb k m))
       where
         go : (eqb k m ≡ true) ⊎ (eqb k m ≡ false) → (n : ℕ) × (mate p k ≡ some n) × (n < m) × (k < n)
-        go (inl e) = clash (isGive (at p m)) gives′ (take-no-give (at p m) (rw (eqb-true k m e) at t))
+        go (inl e) = clash (isGive (at p m)) gives′ (opens-no-give (at p m) (rw (eqb-true k m e) at t))
         go (inr e) = let ne = eqb-false k m e in at-take k lt (omega arith) t
 
 -- no lasting take stands between a take and its give
@@ -213,7 +213,7 @@ none-lasts-between p i m k h a b = go (test (takesAt p k))
   where
     go : (takesAt p k ≡ true) ⊎ (takesAt p k ≡ false) → (takesAt p k && isNone (mate p k)) ≡ false
     go (inl t) =
-        let r = pair p i m h .mates k a b (outermost p k t .0) in
+        let r = pair p i m h .mates k a b (take-opens (at p k) (outermost p k t .0)) in
         and-right (takesAt p k) (isNone (mate p k)) (ap isNone (r .1))
     go (inr t) = and-left (takesAt p k) (isNone (mate p k)) t
 
@@ -225,7 +225,7 @@ openTakes p j zero = []
 openTakes p j (suc i) =
     elim (eqb (job (at p i)) j) [
       | false ↦ openTakes p j i
-      | true ↦ elim (isTake (at p i)) [
+      | true ↦ elim (opens (at p i)) [
         | true ↦ i ∷ openTakes p j i
         | false ↦ elim (isGive (at p i)) [ true ↦ tail (openTakes p j i) | false ↦ openTakes p j i ]
       ]
@@ -239,13 +239,13 @@ map-tail f (x ∷ xs) = refl
 pub held-open : (p : List ℕ) (j i : ℕ) → heldBy j (before p i) ≡ map (deviceAt p) (openTakes p j i)
 unfolding heldBy before openTakes deviceAt
 held-open p j zero = refl
-held-open p j (suc i) = go (eqb (job (at p i)) j) (isTake (at p i)) (isGive (at p i)) (held-open p j i)
+held-open p j (suc i) = go (eqb (job (at p i)) j) (opens (at p i)) (isGive (at p i)) (held-open p j i)
   where
     go : (x y z : Bool) → heldBy j (before p i) ≡ map (deviceAt p) (openTakes p j i)
         → elim x [
           | false ↦ heldBy j (before p i)
           | true ↦ elim y [
-            | true ↦ operand (at p i) ∷ heldBy j (before p i)
+            | true ↦ deviceOf (at p i) ∷ heldBy j (before p i)
             | false ↦ elim z [ true ↦ tail (heldBy j (before p i)) | false ↦ heldBy j (before p i) ]
           ]
         ]
@@ -258,22 +258,22 @@ held-open p j (suc i) = go (eqb (job (at p i)) j) (isTake (at p i)) (isGive (at 
           ]
         ])
     go false y z ih = ih
-    go true true z ih = ap {B = List ℕ} (λ xs. operand (at p i) ∷ xs) ih
+    go true true z ih = ap {B = List ℕ} (λ xs. deviceOf (at p i) ∷ xs) ih
     go true false false ih = ih
     go true false true ih = ap tail ih ∙ map-tail (deviceAt p) (openTakes p j i)
 
 -- the open takes after line i, by what the line is
-open-take : (p : List ℕ) (j i : ℕ) → job (at p i) ≡ j → isTake (at p i) ≡ true
+open-take : (p : List ℕ) (j i : ℕ) → job (at p i) ≡ j → opens (at p i) ≡ true
     → openTakes p j (suc i) ≡ i ∷ openTakes p j i
 unfolding openTakes
 open-take p j i e t = rw (eq-eqb (job (at p i)) j e, t, openTakes)
 
-pub open-give : (p : List ℕ) (j i : ℕ) → job (at p i) ≡ j → isTake (at p i) ≡ false → isGive (at p i) ≡ true
+pub open-give : (p : List ℕ) (j i : ℕ) → job (at p i) ≡ j → opens (at p i) ≡ false → isGive (at p i) ≡ true
     → openTakes p j (suc i) ≡ tail (openTakes p j i)
 unfolding openTakes
 open-give p j i e t g = rw (eq-eqb (job (at p i)) j e, t, g, openTakes)
 
-open-level : (p : List ℕ) (j i : ℕ) → job (at p i) ≡ j → isTake (at p i) ≡ false → isGive (at p i) ≡ false
+open-level : (p : List ℕ) (j i : ℕ) → job (at p i) ≡ j → opens (at p i) ≡ false → isGive (at p i) ≡ false
     → openTakes p j (suc i) ≡ openTakes p j i
 unfolding openTakes
 open-level p j i e t g = rw (eq-eqb (job (at p i)) j e, t, g, openTakes)
@@ -283,15 +283,15 @@ unfolding openTakes
 open-foreign p j i n = rw (ne-eqb (job (at p i)) j n, openTakes)
 
 -- what a line does to the open takes
-pub data Opens (p : List ℕ) (j i : ℕ) : Type 0 where
-  pushes : job (at p i) ≡ j → isTake (at p i) ≡ true → openTakes p j (suc i) ≡ i ∷ openTakes p j i → Opens p j i
-  pops : openTakes p j (suc i) ≡ tail (openTakes p j i) → Opens p j i
-  stays : openTakes p j (suc i) ≡ openTakes p j i → Opens p j i
+pub data Stacked (p : List ℕ) (j i : ℕ) : Type 0 where
+  pushes : job (at p i) ≡ j → opens (at p i) ≡ true → openTakes p j (suc i) ≡ i ∷ openTakes p j i → Stacked p j i
+  pops : openTakes p j (suc i) ≡ tail (openTakes p j i) → Stacked p j i
+  stays : openTakes p j (suc i) ≡ openTakes p j i → Stacked p j i
 
-pub opens : (p : List ℕ) (j i : ℕ) → Opens p j i
-opens p j i = go (seen j (at p i) [])
+pub stacked : (p : List ℕ) (j i : ℕ) → Stacked p j i
+stacked p j i = go (seen j (at p i) [])
   where
-    go : Seen j (at p i) [] → Opens p j i
+    go : Seen j (at p i) [] → Stacked p j i
     go (foreign n q) = stays (open-foreign p j i n)
     go (deeper e t q) = pushes e t (open-take p j i e t)
     go (level e t g q) = stays (open-level p j i e t g)
@@ -306,10 +306,10 @@ drop-tail [] zero = refl
 drop-tail [] (suc n) = refl
 drop-tail (x ∷ xs) n = refl
 
--- a take that lies n deep before line k is a take of the job and stands before it; what lies below it in the stack is
--- what was open before it
+-- what lies n deep before line k is a take or a held line of the job and stands before it; what lies below it in the
+-- stack is what was open before it
 pub record Open (p : List ℕ) (j k n t : ℕ) : Type 0 where
-  pub taken : isTake (at p t) ≡ true
+  pub opening : opens (at p t) ≡ true
   pub ofJob : job (at p t) ≡ j
   pub above : t < k
   pub below : openTakes p j t ≡ drop (suc n) (openTakes p j k)
@@ -317,14 +317,14 @@ pub record Open (p : List ℕ) (j k n t : ℕ) : Type 0 where
 pub open-is : (p : List ℕ) (j k n t : ℕ) → getElem? (openTakes p j k) n ≡ some t → Open p j k n t
 unfolding openTakes
 open-is p j zero n t h = no-some h
-open-is p j (suc k) n t h = go n h (opens p j k) (λ n. open-is p j k n t)
+open-is p j (suc k) n t h = go n h (stacked p j k) (λ n. open-is p j k n t)
   where
     still : (m n : ℕ) → Open p j k m t → drop (suc m) (openTakes p j k) ≡ drop (suc n) (openTakes p j (suc k))
         → Open p j (suc k) n t
     still m n o e =
-        record { taken = o .taken; ofJob = o .ofJob; above = omega (arith, o .above); below = o .below ∙ e }
+        record { opening = o .opening; ofJob = o .ofJob; above = omega (arith, o .above); below = o .below ∙ e }
 
-    go : (n : ℕ) → getElem? (openTakes p j (suc k)) n ≡ some t → Opens p j k
+    go : (n : ℕ) → getElem? (openTakes p j (suc k)) n ≡ some t → Stacked p j k
         → ((n : ℕ) → getElem? (openTakes p j k) n ≡ some t → Open p j k n t) → Open p j (suc k) n t
     go n h (stays q) ih = still n n (ih n (rw q at h)) (rw q)
     go n h (pops q) ih =
@@ -333,7 +333,7 @@ open-is p j (suc k) n t h = go n h (opens p j k) (λ n. open-is p j k n t)
     go (suc n) h (pushes e u q) ih = still n (suc n) (ih n (rw q at h)) (rw q)
     go zero h (pushes e u q) ih =
         let z : k ≡ t = Option·some-injective k t (rw q at h) in
-        record { taken = rw z at u; ofJob = rw z at e; above = omega arith; below = rw (q, ← z) }
+        record { opening = rw z at u; ofJob = rw z at e; above = omega arith; below = rw (q, ← z) }
 
 -- a take that lies n deep before line k, and whose mate by that depth is m, is the latest open take before m
 latest : (f : ℕ) (p : List ℕ) (j n k t m : ℕ) → length p ≤ k + f → getElem? (openTakes p j k) n ≡ some t
@@ -363,7 +363,7 @@ latest (suc f) p j n k t m le o h =
     ends (inr x) ih = go n o (sym (ap (mateIn j n k) (drop-cons p k 0 x)) ∙ h) (seen j (at p k) (drop (suc k) p)) ih
 
 -- a take is the latest open take before its mate
-pub take-open-at-mate : (p : List ℕ) (i m : ℕ) → isTake (at p i) ≡ true → mate p i ≡ some m
+pub take-open-at-mate : (p : List ℕ) (i m : ℕ) → opens (at p i) ≡ true → mate p i ≡ some m
     → getElem? (openTakes p (job (at p i)) m) 0 ≡ some i
 unfolding mate
 take-open-at-mate p i m t h =
@@ -393,11 +393,12 @@ module _ (p : List ℕ) (rules : Rules p) where
   give-of-open m g = rw (held-open p (job (at p m)) m) at (rules .give m g)
 
   -- a mate names its take's device
-  pub mate-names-device : (i m : ℕ) → isTake (at p i) ≡ true → mate p i ≡ some m → deviceAt p m ≡ deviceAt p i
+  pub mate-names-device : (i m : ℕ) → opens (at p i) ≡ true → mate p i ≡ some m → deviceAt p m ≡ deviceAt p i
   unfolding deviceAt
   mate-names-device i m t h =
       let r = pair p i m h in
-      last-device p (openTakes p (job (at p i)) m) (operand (at p m)) i (take-open-at-mate p i m t h)
+      own-device (at p m) (give-no-held (at p m) (r .gives))
+      ∙ last-device p (openTakes p (job (at p i)) m) (operand (at p m)) i (take-open-at-mate p i m t h)
       (rw (r .sameJob m (omega (arith, r .below)) (omega arith)) at (give-of-open m (r .gives)))
 
   -- before the first line of a job nothing is open
@@ -467,12 +468,12 @@ module _ (p : List ℕ) (rules : Rules p) where
 
       found : Seen (job (at p m)) (at p m) (drop (suc m) p) → mateIn (job (at p m)) 0 m (drop m p) ≡ some m
       found (foreign x q) = absurd (x refl)
-      found (deeper e u q) = clash (isGive (at p m)) g (take-no-give (at p m) u)
+      found (deeper e u q) = clash (isGive (at p m)) g (opens-no-give (at p m) u)
       found (level e u v q) = clash (isGive (at p m)) g v
       found (back e u v z q) = ap (mateIn (job (at p m)) 0 m) (drop-cons p m 0 inPlan) ∙ z m
 
-  -- further down, and at the plan's end, a take has its mate behind it, or is open there
-  pub mated-or-open : (n i k j : ℕ) → k ≡ suc i + n → k ≤ length p → isTake (at p i) ≡ true → job (at p i) ≡ j
+  -- further down, and at the plan's end, what is taken or held has its mate behind it, or is open there
+  pub mated-or-open : (n i k j : ℕ) → k ≡ suc i + n → k ≤ length p → opens (at p i) ≡ true → job (at p i) ≡ j
       → ((m : ℕ) × (mate p i ≡ some m) × (m < k)) ⊎ ((o : ℕ) × (getElem? (openTakes p j k) o ≡ some i))
   mated-or-open zero i k j e h t a = let z : k ≡ suc i = omega arith in inr (0, rw (z, open-take p j i a t))
   mated-or-open (suc n) i k j e h t a = rw z (go (mated-or-open n i x j refl (omega arith) t a))
@@ -502,21 +503,20 @@ module _ (p : List ℕ) (rules : Rules p) where
       go (inl r) = inl (r .0, r .1, omega (arith, r .2))
       go (inr r) = deep (r .0) (r .1) (seen j (at p x) (drop (suc x) p))
 
-  -- where a job takes a device again as an outermost take, it has given it back between
-  pub given-between : (i k d : ℕ) → takes p i d ≡ true → takes p k d ≡ true → job (at p i) ≡ job (at p k) → i < k
+  -- where a job takes a device as an outermost take, it has given back between what it took or held of it before
+  pub given-between : (i k d : ℕ) → grips p i d ≡ true → takes p k d ≡ true → job (at p i) ≡ job (at p k) → i < k
       → (m : ℕ) × (mate p i ≡ some m) × (m < k)
   unfolding holdsAlready
-  given-between i k d ti tk e lt =
-      go (mated-or-open (k - suc i) i k (job (at p k)) (omega arith) (omega (arith, take-line p k (ok .0))) (oi .0) e)
+  given-between i k d gi tk e lt =
+      go
+      (mated-or-open (k - suc i) i k (job (at p k)) (omega arith) (omega (arith, take-line p k (ok .0)))
+      (gi′ .0) e)
     where
-      si : (takesAt p i ≡ true) × (deviceAt p i ≡ d)
-      si = takes-parts p i d ti
+      gi′ : (opens (at p i) ≡ true) × (deviceAt p i ≡ d)
+      gi′ = grips-parts p i d gi
 
       sk : (takesAt p k ≡ true) × (deviceAt p k ≡ d)
       sk = takes-parts p k d tk
-
-      oi : (isTake (at p i) ≡ true) × (holdsAlready p i ≡ false)
-      oi = outermost p i (si .0)
 
       ok : (isTake (at p k) ≡ true) × (holdsAlready p k ≡ false)
       ok = outermost p k (sk .0)
@@ -526,6 +526,6 @@ module _ (p : List ℕ) (rules : Rules p) where
       go (inl r) = r
       go (inr r) =
           clash (holdsAlready p k)
-          (rw (held-open p (job (at p k)) k, sk .1 ∙ sym (si .1))
+          (rw (held-open p (job (at p k)) k, sk .1 ∙ sym (gi′ .1))
           (mapped-has (deviceAt p) (openTakes p (job (at p k)) k) (r .0) i (r .1)))
           (ok .1)

@@ -1,8 +1,9 @@
 -- A move from a plan without a fault and its own table gives the edited plan and the table that would be worked out
 -- afresh, with the count of the places that changed; nothing changes but on the way and under the take, and 14 refuses
 -- no such move. So over any list of moves, refused ones among them, plan and table stay right; else no table kept by
--- moves could be trusted. Of any plan and table: 9 and 10 refuse no move, and one to the device that the take has
--- changes nothing.
+-- moves could be trusted. It is so for plans of the morning and for plans taken up at midday, with up to 128 devices; a
+-- held line stays as it is, for it is no take. Of any plan and table: 9 and 10 refuse no move, and one to the device
+-- that the take has changes nothing.
 use Prim.Native.Nat.{ℕ, zero, suc, _+_, _<_, _≤_}
 use mathlib.Core.Bool.{Bool, true, false, cond, not}
 use mathlib.Core.List.{List, [], _∷_, _++_}
@@ -18,7 +19,7 @@ use borrow.Author.Tests.{eqb-true, eq-eqb, eqb-false, leb-true, leb-false, le-lt
 use Rattle.model.specs.Lists.{upFrom, positions, has, those, firstOf}
 use Rattle.model.specs.Sets.{union, unionOf}
 use Rattle.model.specs.Answers.{numberOf, refuseIf, refuseAt, firstRefusal, tooShort}
-use Rattle.model.specs.Line.{isTake, isGive, at, lineNumber}
+use Rattle.model.specs.Line.{Settings, opens, isHeld, isTake, isGive, at, lineNumber, heldFrom}
 use Rattle.model.specs.WellFormed.{Rules, WellFormed, fault}
 use Rattle.model.specs.Mate.{deviceAt}
 use Rattle.model.specs.Claims.{successors, own, joined, table, beyond}
@@ -34,10 +35,11 @@ use Rattle.theory.proofs.Tests.{clash, test, or-left, or-neither}
 use Rattle.theory.proofs.Lists.{has-none, has-head, has-tail, has-cases, none-exactly}
 use Rattle.theory.proofs.Lists.{has-right, first-split, split-first}
 use Rattle.theory.proofs.Answers.{all-tests, also, first-each, none-refuses, not-refused, not-found}
-use Rattle.theory.proofs.Line.{device-line}
+use Rattle.theory.proofs.Line.{device-line, take-opens, take-no-held}
 use Rattle.theory.specs.Claims.{claim}
 use Rattle.theory.proofs.Claims.{claim-is, length-table}
-use Rattle.theory.proofs.WellFormed.{take-line, FaultView, broken, fault-view, broken-number, no-fault-exactly}
+use Rattle.theory.proofs.Line.{take-line}
+use Rattle.theory.proofs.WellFormed.{FaultView, broken, fault-view, broken-number, no-fault-exactly}
 use Rattle.theory.proofs.Successors.{successor-after}
 use Rattle.theory.proofs.Edited.{Alike, edit, edited-same, same-successors, own-elsewhere, edited-well-formed}
 use Rattle.theory.specs.Move.{Falls, ends, falls}
@@ -231,7 +233,8 @@ module _ (p q t : List ℕ) (mine : take (length p) t ≡ table p) (alike : Alik
           (λ k h. sets-joined k (omega (arith, alike .long))))
 
 -- the sets that a move leaves
-pub sets-are : (p t : List ℕ) (i e : ℕ) → Rules p → take (length p) t ≡ table p → isTake (at p i) ≡ true → e < 256
+pub sets-are : (p t : List ℕ) (i e : ℕ) → Rules p → take (length p) t ≡ table p → isTake (at p i) ≡ true
+    → e < heldFrom
     → rewritten (edited p i e) t (fromLast p i) ≡ table (edited p i e) ++ drop (length p) t
 sets-are p t i e rules mine taken small =
     rewritten-is p (edited p i e) t mine (edit p i e taken small .alike) (fromLast p i)
@@ -240,9 +243,9 @@ sets-are p t i e rules mine taken small =
 
 -- ---- the tests of a move
 
-pub data TestView (D : ℕ) (p : List ℕ) (line device : ℕ) : Option Refusal → Type 0 where
-  passes : isTakeOf p line ≡ true → device < D → TestView D p line device none
-  refuses : (r : Refusal) → Refused D p line device r → TestView D p line device (some r)
+pub data TestView (S : Settings) (p : List ℕ) (line device : ℕ) : Option Refusal → Type 0 where
+  passes : isTakeOf p line ≡ true → device < S .devices → TestView S p line device none
+  refuses : (r : Refusal) → Refused S p line device r → TestView S p line device (some r)
 
 pub asked-take : (p : List ℕ) (line : ℕ) → isTakeOf p line ≡ true → isTake (at p (askedAt line)) ≡ true
 unfolding isTakeOf askedAt
@@ -250,10 +253,12 @@ asked-take p zero h = clash false h refl
 asked-take p (suc i) h = h
 
 -- the device of a take is one of the board's
-pub taken-device : (D : ℕ) (p : List ℕ) (i : ℕ) → WellFormed D p → isTake (at p i) ≡ true → deviceAt p i < D
+pub taken-device : (S : Settings) (p : List ℕ) (i : ℕ) → WellFormed S p → isTake (at p i) ≡ true
+    → deviceAt p i < S .devices
 unfolding deviceAt
-taken-device D p i w t =
-    device-line D (at p i) (w .lines i (take-line p i t)) (or-left (isTake (at p i)) (isGive (at p i)) t)
+taken-device S p i w t =
+    device-line S (at p i) (w .lines i (take-line p i t))
+    (or-left (opens (at p i)) (isGive (at p i)) (take-opens (at p i) t))
 
 -- the tests that are left, by their outcomes
 refusedBy : ℕ → ℕ → Bool → Bool → Option ℕ → Option Refusal
@@ -264,35 +269,50 @@ refusedBy line device isTake′ noDevice old =
     ∷ refuseAt (λ k. StaleTable (lineNumber k)) old
     ∷ [])
 
-module _ (D : ℕ) (p t : List ℕ) (line device : ℕ) (w : WellFormed D p) (mine : take (length p) t ≡ table p) where
-  tests-left : moveRefusal D p t line device
-      ≡ refusedBy line device (isTakeOf p line) (leb D device) (firstOf (stale p t) (mayChange p (askedAt line)))
+module _ (S : Settings) (p t : List ℕ) (line device : ℕ) (w : WellFormed S p) (mine : take (length p) t ≡ table p) where
+  tests-left : moveRefusal S p t line device
+      ≡ refusedBy line device (isTakeOf p line) (leb (S .devices) device)
+      (firstOf (stale p t) (mayChange p (askedAt line)))
   unfolding moveRefusal refusedBy firstRefusal tooShort refuseIf
-  tests-left = rw (no-fault-exactly D p .1 w, le-ltb (length t) (length p) (own-long p t mine))
+  tests-left = rw (no-fault-exactly S p .1 w, le-ltb (length t) (length p) (own-long p t mine))
 
-  -- 14 refuses no such move, nor do 2 to 7 and 11
-  pub test-view : TestView D p line device (moveRefusal D p t line device)
+  -- 14 refuses no such move, nor do 2 to 7, 11, 16 and 17
+  pub test-view : TestView S p line device (moveRefusal S p t line device)
   unfolding refusedBy firstRefusal refuseIf refuseAt
-  test-view = rw tests-left (go (isTakeOf p line) (leb D device) refl refl)
+  test-view = rw tests-left (go (isTakeOf p line) (leb (S .devices) device) refl refl)
     where
       i : ℕ
       i = askedAt line
 
-      go : (x y : Bool) → isTakeOf p line ≡ x → leb D device ≡ y
-          → TestView D p line device (refusedBy line device x y (firstOf (stale p t) (mayChange p i)))
+      go : (x y : Bool) → isTakeOf p line ≡ x → leb (S .devices) device ≡ y
+          → TestView S p line device (refusedBy line device x y (firstOf (stale p t) (mayChange p i)))
       go false y a b = refuses (NotATake line) (notATake a)
-      go true true a b = refuses (NoSuchDevice device) (noSuchDevice a (leb-true D device b))
+      go true true a b = refuses (NoSuchDevice device) (noSuchDevice a (leb-true (S .devices) device b))
       go true false a b =
-          rw (none-stale p t mine i (take-line p i (asked-take p line a))) (passes a (leb-false D device b))
+          rw (none-stale p t mine i (take-line p i (asked-take p line a))) (passes a (leb-false (S .devices) device b))
+
+  -- a held line is not moved: 12
+  pub held-refused : isHeld (at p (askedAt line)) ≡ true → moveRefusal S p t line device ≡ some (NotATake line)
+  held-refused h = go (moveRefusal S p t line device) test-view
+    where
+      no-take : isTakeOf p line ≡ true → {A : Type 0} → A
+      no-take a =
+          let i : ℕ = askedAt line in
+          clash (isHeld (at p i)) h (take-no-held (at p i) (asked-take p line a))
+
+      go : (x : Option Refusal) → TestView S p line device x → x ≡ some (NotATake line)
+      go none (passes a b) = no-take a
+      go (some r) (refuses s (notATake a)) = refl
+      go (some r) (refuses s (noSuchDevice a b)) = no-take a
 
 -- ---- the tests of any move
 
-abbrev pub tests : ℕ → List ℕ → List ℕ → Option Refusal → ℕ → ℕ → List (Option Refusal)
-tests D p t room line device =
-    fault D p
+abbrev pub tests : Settings → List ℕ → List ℕ → Option Refusal → ℕ → ℕ → List (Option Refusal)
+tests S p t room line device =
+    fault S p
     ∷ room
     ∷ refuseIf (not (isTakeOf p line)) (NotATake line)
-    ∷ refuseIf (leb D device) (NoSuchDevice device)
+    ∷ refuseIf (leb (S .devices) device) (NoSuchDevice device)
     ∷ refuseAt (λ k. StaleTable (lineNumber k)) (firstOf (stale p t) (mayChange p (askedAt line)))
     ∷ []
 
@@ -311,34 +331,39 @@ unfolding refuseAt
 stale-no-verdict none = tt
 stale-no-verdict (some k) = (λ e. omega arith, λ e. omega arith)
 
-fault-no-verdict : (D : ℕ) (p : List ℕ) → NoVerdict (fault D p)
-fault-no-verdict D p = go (fault D p) (fault-view D p)
+fault-no-verdict : (S : Settings) (p : List ℕ) → NoVerdict (fault S p)
+fault-no-verdict S p = go (fault S p) (fault-view S p)
   where
-    go : (x : Option Refusal) → FaultView D p x → NoVerdict x
+    go : (x : Option Refusal) → FaultView S p x → NoVerdict x
     go none v = tt
-    go (some r) (broken s h) = let n = broken-number D p s h in (λ e. omega arith, λ e. omega arith)
+    go (some r) (broken s h) = either s (broken-number S p s h)
+      where
+        either : (s : Refusal) → (numberOf s ≤ 7) ⊎ ((16 ≤ numberOf s) × (numberOf s ≤ 17))
+            → (numberOf s ≢ 9) × (numberOf s ≢ 10)
+        either s (inl n) = (λ e. omega arith, λ e. omega arith)
+        either s (inr n) = (λ e. omega (arith, n .0), λ e. omega (arith, n .0))
 
-module _ (D : ℕ) (p t : List ℕ) (line device : ℕ) where
+module _ (S : Settings) (p t : List ℕ) (line device : ℕ) where
   -- 9 and 10 are verdicts, and refuse no move
-  pub no-verdict-refuses : (r : Refusal) → moveRefusal D p t line device ≡ some r
+  pub no-verdict-refuses : (r : Refusal) → moveRefusal S p t line device ≡ some r
       → (numberOf r ≢ 9) × (numberOf r ≢ 10)
   unfolding moveRefusal tooShort
   no-verdict-refuses r h =
       subst NoVerdict h
-      (first-each NoVerdict (tests D p t (tooShort (length t) (length p)) line device) tt
-      (also (fault-no-verdict D p)
+      (first-each NoVerdict (tests S p t (tooShort (length t) (length p)) line device) tt
+      (also (fault-no-verdict S p)
       (also
       (if-no-verdict (ltb (length t) (length p)) (ListTooShort (length p)) (λ e. omega arith, λ e. omega arith))
       (also (if-no-verdict (not (isTakeOf p line)) (NotATake line) (λ e. omega arith, λ e. omega arith))
-      (also (if-no-verdict (leb D device) (NoSuchDevice device) (λ e. omega arith, λ e. omega arith))
+      (also (if-no-verdict (leb (S .devices) device) (NoSuchDevice device) (λ e. omega arith, λ e. omega arith))
       (also (stale-no-verdict (firstOf (stale p t) (mayChange p (askedAt line)))) all-tests))))))
 
   -- where none refuses: the plan has no fault, the line is a take, no line that may change is stale
-  pub tests-passed : moveRefusal D p t line device ≡ none
-      → (fault D p ≡ none) × (isTakeOf p line ≡ true) × (firstOf (stale p t) (mayChange p (askedAt line)) ≡ none)
+  pub tests-passed : moveRefusal S p t line device ≡ none
+      → (fault S p ≡ none) × (isTakeOf p line ≡ true) × (firstOf (stale p t) (mayChange p (askedAt line)) ≡ none)
   unfolding moveRefusal
   tests-passed h =
-      let e = none-refuses (tests D p t (tooShort (length t) (length p)) line device) h in (
+      let e = none-refuses (tests S p t (tooShort (length t) (length p)) line device) h in (
         e 0,
         not-refused (isTakeOf p line) (NotATake line) (e 2),
         not-found (λ k. StaleTable (lineNumber k)) (firstOf (stale p t) (mayChange p (askedAt line))) (e 4),
@@ -407,14 +432,15 @@ tested p t i device x =
     outcome MoveAnswer.Refused x (MoveAnswer.Changed (changed p t sets))
     (record { plan = plan; sets = sets }) (record { plan = p; sets = t })
 
-module _ (D : ℕ) (p t : List ℕ) (line device : ℕ) (w : WellFormed D p) (small : D ≤ 256)
+module _ (S : Settings) (p t : List ℕ) (line device : ℕ) (w : WellFormed S p) (small : S .devices ≤ heldFrom)
     (mine : take (length p) t ≡ table p) where
-  pub accepts : isTakeOf p line ≡ true → device < D → Accepted D p t line device (tested p t (askedAt line) device none)
+  pub accepts : isTakeOf p line ≡ true → device < S .devices
+      → Accepted S p t line device (tested p t (askedAt line) device none)
   unfolding outcome
   accepts a b = record {
     plan = refl;
     long = n;
-    noFault = no-fault-exactly D q .1 (edited-well-formed D p i device w taken b small);
+    noFault = no-fault-exactly S q .1 (edited-well-formed S p i device w taken b small);
     afresh = new;
     room = length-rewritten q t (fromLast p i);
     elsewhere = λ k m. rewritten-off q t (fromLast p i) k (from-last-same p (w .rules) i k ∙ m);
@@ -438,22 +464,22 @@ module _ (D : ℕ) (p t : List ℕ) (line device : ℕ) (w : WellFormed D p) (sm
       new = sets-are p t i device (w .rules) mine taken (omega arith)
 
   -- from a plan without a fault and its own table: a move that no test refuses
-  pub move-accepted : moveRefusal D p t line device ≡ none → Accepted D p t line device (moving D p t line device)
+  pub move-accepted : moveRefusal S p t line device ≡ none → Accepted S p t line device (moving S p t line device)
   unfolding moving
-  move-accepted h = go (moveRefusal D p t line device) h (test-view D p t line device w mine)
+  move-accepted h = go (moveRefusal S p t line device) h (test-view S p t line device w mine)
     where
-      go : (x : Option Refusal) → x ≡ none → TestView D p line device x
-          → Accepted D p t line device (tested p t (askedAt line) device x)
+      go : (x : Option Refusal) → x ≡ none → TestView S p line device x
+          → Accepted S p t line device (tested p t (askedAt line) device x)
       go none e (passes a b) = accepts a b
       go (some r) e v = absurd (Option·none-ne-some r (sym e))
 
   -- and any move
-  pub move-step : Step D p t line device (moving D p t line device)
+  pub move-step : Step S p t line device (moving S p t line device)
   unfolding moving outcome
-  move-step = go (moveRefusal D p t line device) (test-view D p t line device w mine)
+  move-step = go (moveRefusal S p t line device) (test-view S p t line device w mine)
     where
-      go : (x : Option Refusal) → TestView D p line device x
-          → Step D p t line device (tested p t (askedAt line) device x)
+      go : (x : Option Refusal) → TestView S p line device x
+          → Step S p t line device (tested p t (askedAt line) device x)
       go none (passes a b) = accepted (accepts a b)
       go (some r) (refuses x y) =
           refused (record { refusal = x; reason = y; answer = refl; plan = refl; sets = refl })
@@ -479,17 +505,17 @@ none-changed p t = ap length (go (positions p))
     go [] = refl
     go (i ∷ is) = rw (eq-eqb (getD t i 0) (getD t i 0) refl, those) (go is)
 
-module _ (D : ℕ) (p t : List ℕ) (line device : ℕ) (present : deviceAt p (askedAt line) ≡ device) where
+module _ (S : Settings) (p t : List ℕ) (line device : ℕ) (present : deviceAt p (askedAt line) ≡ device) where
   same-plan : Rules p → isTakeOf p line ≡ true → edited p (askedAt line) device ≡ p
   same-plan rules a = rw (← present) (edited-same p rules (askedAt line) (asked-take p line a))
 
   -- where no test refuses, it changes nothing
-  pub same-device-stays : moveRefusal D p t line device ≡ none
-      → moving D p t line device ≡ record { answer = MoveAnswer.Changed 0; left = record { plan = p; sets = t } }
+  pub same-device-stays : moveRefusal S p t line device ≡ none
+      → moving S p t line device ≡ record { answer = MoveAnswer.Changed 0; left = record { plan = p; sets = t } }
   unfolding moving outcome
   same-device-stays h =
-      let v = tests-passed D p t line device h in
-      let rules = no-fault-exactly D p .0 (v .0) .rules in
+      let v = tests-passed S p t line device h in
+      let rules = no-fault-exactly S p .0 (v .0) .rules in
       let f = none-exactly (stale p t) (mayChange p i) .0 (v .2) in
       rw (
         h,
@@ -503,37 +529,37 @@ module _ (D : ℕ) (p t : List ℕ) (line device : ℕ) (present : deviceAt p (a
       i = askedAt line
 
   -- and none does, from a plan without a fault and its own table, where the line is a take
-  pub same-device-passes : WellFormed D p → take (length p) t ≡ table p → isTakeOf p line ≡ true
-      → moveRefusal D p t line device ≡ none
-  same-device-passes w mine a = go (moveRefusal D p t line device) (test-view D p t line device w mine)
+  pub same-device-passes : WellFormed S p → take (length p) t ≡ table p → isTakeOf p line ≡ true
+      → moveRefusal S p t line device ≡ none
+  same-device-passes w mine a = go (moveRefusal S p t line device) (test-view S p t line device w mine)
     where
       taken : isTake (at p (askedAt line)) ≡ true
       taken = asked-take p line a
 
-      onBoard : device < D
-      onBoard = rw (← present) (taken-device D p (askedAt line) w taken)
+      onBoard : device < S .devices
+      onBoard = rw (← present) (taken-device S p (askedAt line) w taken)
 
-      go : (x : Option Refusal) → TestView D p line device x → x ≡ none
+      go : (x : Option Refusal) → TestView S p line device x → x ≡ none
       go none v = refl
       go (some r) (refuses s (notATake b)) = clash (isTakeOf p line) a b
       go (some r) (refuses s (noSuchDevice b h)) = absurd (omega (arith, onBoard))
 
 -- ---- a list of moves
 
-pub moved-last : (D : ℕ) (s : Lent) (asks : List Ask) (a : Ask)
-    → movedBy D s (asks ++ (a ∷ [])) ≡ moved D (movedBy D s asks) a
+pub moved-last : (S : Settings) (s : Lent) (asks : List Ask) (a : Ask)
+    → movedBy S s (asks ++ (a ∷ [])) ≡ moved S (movedBy S s asks) a
 unfolding movedBy
-moved-last D s [] a = refl
-moved-last D s (b ∷ asks) a = moved-last D (moved D s b) asks a
+moved-last S s [] a = refl
+moved-last S s (b ∷ asks) a = moved-last S (moved S s b) asks a
 
-module _ (D : ℕ) (small : D ≤ 256) where
-  kept : (first s : Lent) → fault D (s .plan) ≡ none → length (s .plan) ≡ length (first .plan)
-      → s .sets ≡ table (s .plan) ++ drop (length (first .plan)) (first .sets) → Kept D first s
+module _ (S : Settings) (small : S .devices ≤ heldFrom) where
+  kept : (first s : Lent) → fault S (s .plan) ≡ none → length (s .plan) ≡ length (first .plan)
+      → s .sets ≡ table (s .plan) ++ drop (length (first .plan)) (first .sets) → Kept S first s
   kept first s f n e = record {
     noFault = f;
     long = n;
     afresh = e;
-    next = λ a. move-step D (s .plan) (s .sets) (a .line) (a .device) (no-fault-exactly D (s .plan) .0 f) small mine;
+    next = λ a. move-step S (s .plan) (s .sets) (a .line) (a .device) (no-fault-exactly S (s .plan) .0 f) small mine;
   }
     where
       mine : take (length (s .plan)) (s .sets) ≡ table (s .plan)
@@ -541,12 +567,12 @@ module _ (D : ℕ) (small : D ≤ 256) where
           let n : ℕ = length (s .plan) in
           rw e (take-at (table (s .plan)) (drop (length (first .plan)) (first .sets)) n (length-table (s .plan)))
 
-  kept-moved : (first s : Lent) (a : Ask) → Kept D first s → Kept D first (moved D s a)
+  kept-moved : (first s : Lent) (a : Ask) → Kept S first s → Kept S first (moved S s a)
   unfolding moved
   kept-moved first s a k = go (k .next a)
     where
       o : Outcome MoveAnswer Lent
-      o = moving D (s .plan) (s .sets) (a .line) (a .device)
+      o = moving S (s .plan) (s .sets) (a .line) (a .device)
 
       rest : drop (length (s .plan)) (s .sets) ≡ drop (length (first .plan)) (first .sets)
       rest =
@@ -554,18 +580,18 @@ module _ (D : ℕ) (small : D ≤ 256) where
           rw (k .afresh)
           (drop-at (table (s .plan)) (drop (length (first .plan)) (first .sets)) n (length-table (s .plan)))
 
-      go : Step D (s .plan) (s .sets) (a .line) (a .device) o → Kept D first (moved D s a)
+      go : Step S (s .plan) (s .sets) (a .line) (a .device) o → Kept S first (moved S s a)
       go (refused u) =
-          kept first (moved D s a) (rw (u .plan) (k .noFault)) (rw (u .plan) (k .long))
+          kept first (moved S s a) (rw (u .plan) (k .noFault)) (rw (u .plan) (k .long))
           (rw (u .plan, u .sets) (k .afresh))
-      go (accepted c) = kept first (moved D s a) (c .noFault) (c .long ∙ k .long) (rw rest at (c .afresh))
+      go (accepted c) = kept first (moved S s a) (c .noFault) (c .long ∙ k .long) (rw rest at (c .afresh))
 
-  keeps-on : (first s : Lent) (asks : List Ask) → Kept D first s → Kept D first (movedBy D s asks)
+  keeps-on : (first s : Lent) (asks : List Ask) → Kept S first s → Kept S first (movedBy S s asks)
   unfolding movedBy
   keeps-on first s [] k = k
-  keeps-on first s (a ∷ asks) k = keeps-on first (moved D s a) asks (kept-moved first s a k)
+  keeps-on first s (a ∷ asks) k = keeps-on first (moved S s a) asks (kept-moved first s a k)
 
   -- The theorem: over any list of moves, refused ones among them, plan and table stay right.
-  pub moves-keep : (s : Lent) (asks : List Ask) → fault D (s .plan) ≡ none
-      → take (length (s .plan)) (s .sets) ≡ table (s .plan) → Kept D s (movedBy D s asks)
+  pub moves-keep : (s : Lent) (asks : List Ask) → fault S (s .plan) ≡ none
+      → take (length (s .plan)) (s .sets) ≡ table (s .plan) → Kept S s (movedBy S s asks)
   moves-keep s asks f e = keeps-on s s asks (kept s s f refl (whole (s .plan) (s .sets) e))

@@ -13,7 +13,7 @@ use lib.Dec.{eqb, leb, ltb}
 use lib.ListN.{length, getD, take, drop}
 use lib.Seq.{take-all, take-suc, take-add, take-append-seam, length-take-le, getD-drop}
 use borrow.Author.Tests.{eq-eqb, ne-eqb, eqb-true, eqb-false}
-use Rattle.model.specs.Line.{lineNumber, maxLines, maxBytes}
+use Rattle.model.specs.Line.{Settings, lineNumber, maxLines, maxBytes}
 use Rattle.model.specs.Lists.{those}
 use Rattle.model.specs.Text.{newline, inFront, linesOf, packedLine, handedLine, nextLine, cursorAfter, cursorAt}
 use Rattle.model.specs.Text.{fieldsOf, fromFields, newlinesBefore, cursorFrom, lineFrom}
@@ -87,10 +87,10 @@ before-other text i h e =
     ∙ rw (no-newline (getD text i 0) [] (ne-eqb (getD text i 0) newline e)) (omega arith))
 
 -- the line at an offset, after so many lines as newlines stand before it
-pub from-count : (D : ℕ) (text : List ℕ) (offset lines : ℕ) → lines ≡ newlinesBefore text offset
-    → nextLine D text (record { offset = offset; lines = lines }) ≡ lineFrom D text offset
+pub from-count : (S : Settings) (text : List ℕ) (offset lines : ℕ) → lines ≡ newlinesBefore text offset
+    → nextLine S text (record { offset = offset; lines = lines }) ≡ lineFrom S text offset
 unfolding lineFrom cursorFrom
-from-count D text offset lines e = rw e
+from-count S text offset lines e = rw e
 
 -- ---- a line that is handed out has one newline
 
@@ -112,11 +112,11 @@ first-ends (b ∷ s) = go (isNewline b) refl (linesOf s) (first-ends s)
     go false e ((x ∷ l) ∷ ls) h = λ z. no-newline b (x ∷ l) e ∙ h z
 
 -- a line that has a packed number ends in a newline
-packed-ends : (D : ℕ) (l : List ℕ) (n : ℕ) → packedLine D l ≡ some n → getLastD l 0 ≡ newline
+packed-ends : (S : Settings) (l : List ℕ) (n : ℕ) → packedLine S l ≡ some n → getLastD l 0 ≡ newline
 unfolding packedLine
-packed-ends D l n e = go (isNewline (getLastD l 0)) refl e
+packed-ends S l n e = go (isNewline (getLastD l 0)) refl e
   where
-    go : (t : Bool) → isNewline (getLastD l 0) ≡ t → cond t (fromFields D (fieldsOf (dropLast l))) none ≡ some n
+    go : (t : Bool) → isNewline (getLastD l 0) ≡ t → cond t (fromFields S (fieldsOf (dropLast l))) none ≡ some n
         → getLastD l 0 ≡ newline
     go true h q = eqb-true (getLastD l 0) newline h
     go false h q = no-some q
@@ -201,16 +201,16 @@ StandsAt text o (LineAnswer.Line n next) =
 StandsAt text o (LineAnswer.Refused r) = Unit {0}
 StandsAt text o LineAnswer.End = Unit {0}
 
-module _ (D : ℕ) (text : List ℕ) (o : ℕ) where
+module _ (S : Settings) (text : List ℕ) (o : ℕ) where
   abbrev here : Cursor
   here = cursorFrom text o
 
-  handed-stands : (ls : List (List ℕ)) → linesOf (drop o text) ≡ ls → StandsAt text o (handedLine D here ls)
+  handed-stands : (ls : List (List ℕ)) → linesOf (drop o text) ≡ ls → StandsAt text o (handedLine S here ls)
   unfolding handedLine cursorFrom
   handed-stands [] e = tt
-  handed-stands (l ∷ ls) e = go (leb maxLines (here .lines)) (packedLine D l) refl
+  handed-stands (l ∷ ls) e = go (leb maxLines (here .lines)) (packedLine S l) refl
     where
-      go : (many : Bool) (p : Option ℕ) → packedLine D l ≡ p
+      go : (many : Bool) (p : Option ℕ) → packedLine S l ≡ p
           → StandsAt text o (cond many (LineAnswer.Refused TooManyLines)
           (elim p [
             | none ↦ LineAnswer.Refused (Malformed (lineNumber (here .lines)))
@@ -220,16 +220,16 @@ module _ (D : ℕ) (text : List ℕ) (o : ℕ) where
       go false none q = tt
       go false (some n) q = (
         ap (λ (m : ℕ). record { offset = o + length l; lines = m })
-            (sym (before-past text o l ls e (packed-ends D l n q))),
-        past-newline text o l ls e (packed-ends D l n q),
+            (sym (before-past text o l ls e (packed-ends S l n q))),
+        past-newline text o l ls e (packed-ends S l n q),
       )
 
-  next-stands : StandsAt text o (nextLine D text here)
+  next-stands : StandsAt text o (nextLine S text here)
   unfolding nextLine cursorFrom
   next-stands = go (ltb maxBytes (length text)) (handed-stands (linesOf (drop o text)) refl)
     where
-      go : (long : Bool) → StandsAt text o (handedLine D here (linesOf (drop o text)))
-          → StandsAt text o (cond long (LineAnswer.Refused TextTooLong) (handedLine D here (linesOf (drop o text))))
+      go : (long : Bool) → StandsAt text o (handedLine S here (linesOf (drop o text)))
+          → StandsAt text o (cond long (LineAnswer.Refused TextTooLong) (handedLine S here (linesOf (drop o text))))
       go true h = tt
       go false h = h
 
@@ -241,23 +241,24 @@ module _ (D : ℕ) (text : List ℕ) (o : ℕ) where
   after-stands LineAnswer.End h = refl
 
 -- wherever the reader with a cursor stands, its cursor is the one at its offset
-pub cursor-from : (D : ℕ) (text : List ℕ) (n : ℕ) → cursorAt D text n ≡ cursorFrom text (cursorAt D text n .offset)
+pub cursor-from : (S : Settings) (text : List ℕ) (n : ℕ)
+    → cursorAt S text n ≡ cursorFrom text (cursorAt S text n .offset)
 unfolding cursorAt cursorFrom
-cursor-from D text zero = refl
-cursor-from D text (suc n) =
-    let o : ℕ = cursorAt D text n .offset in
+cursor-from S text zero = refl
+cursor-from S text (suc n) =
+    let o : ℕ = cursorAt S text n .offset in
     subst
-    (λ (c : Cursor). cursorAfter c (nextLine D text c)
-    ≡ cursorFrom text (cursorAfter c (nextLine D text c) .offset))
-    (sym (cursor-from D text n)) (after-stands D text o (nextLine D text (here D text o)) (next-stands D text o))
+    (λ (c : Cursor). cursorAfter c (nextLine S text c)
+    ≡ cursorFrom text (cursorAfter c (nextLine S text c) .offset))
+    (sym (cursor-from S text n)) (after-stands S text o (nextLine S text (here S text o)) (next-stands S text o))
 
 -- so the reader of an offset alone hands out there what it hands out
-pub same-line : (D : ℕ) (text : List ℕ) (n : ℕ)
-    → lineFrom D text (cursorAt D text n .offset) ≡ nextLine D text (cursorAt D text n)
+pub same-line : (S : Settings) (text : List ℕ) (n : ℕ)
+    → lineFrom S text (cursorAt S text n .offset) ≡ nextLine S text (cursorAt S text n)
 unfolding lineFrom
-same-line D text n = ap (nextLine D text) (sym (cursor-from D text n))
+same-line S text n = ap (nextLine S text) (sym (cursor-from S text n))
 
 -- and past a line that it hands out stands the place just past the line's newline
-pub from-stands : (D : ℕ) (text : List ℕ) (o : ℕ) → StandsAt text o (lineFrom D text o)
+pub from-stands : (S : Settings) (text : List ℕ) (o : ℕ) → StandsAt text o (lineFrom S text o)
 unfolding lineFrom
-from-stands D text o = next-stands D text o
+from-stands S text o = next-stands S text o

@@ -11,11 +11,12 @@ use lib.Dec.{eqb}
 use lib.ListN.{length}
 use borrow.Author.Tests.{eqb-true, eqb-false}
 use Rattle.model.specs.Lists.{has}
-use Rattle.model.specs.Mate.{takes, mate, isNone, lasting}
+use Rattle.model.specs.Mate.{takes, mate, isNone, lasting, heldAt, heldLines, grips, keeps}
 use Rattle.model.specs.Legal.{precedes, doneAt, givenBack, held, MayFollow, Follow, Legal}
-use Rattle.theory.proofs.Tests.{clash, and-split, and-both, le-or-lt}
+use Rattle.theory.proofs.Tests.{clash, test, and-split, and-both, le-or-lt}
 use Rattle.theory.proofs.Lists.{has-none, has-head, has-cases, has-left, has-right, has-append, any-at}
 use Rattle.theory.proofs.Claims.{takes-line}
+use Rattle.theory.proofs.Grips.{grips-line, takes-grips, takes-no-held, has-held, held-has}
 
 -- the place of line i in an order
 pub place : List ℕ → ℕ → ℕ
@@ -109,23 +110,58 @@ lasting-parts p i d l = let s = and-split (takes p i d) (isNone (mate p i)) l in
     go none e = refl
     go (some m) e = clash false e refl
 
-pub still-held : (p done : List ℕ) (i d : ℕ) → takes p i d ≡ true → mate p i ≡ none → has i done ≡ true
+pub keeps-parts : (p : List ℕ) (i d : ℕ) → keeps p i d ≡ true → (grips p i d ≡ true) × (mate p i ≡ none)
+unfolding keeps isNone
+keeps-parts p i d l = let s = and-split (grips p i d) (isNone (mate p i)) l in (s .0, go (mate p i) (s .1))
+  where
+    go : (o : Option ℕ) → isNone o ≡ true → o ≡ none
+    go none e = refl
+    go (some m) e = clash false e refl
+
+pub keeps-lasting : (p : List ℕ) (i d : ℕ) → takes p i d ≡ true → keeps p i d ≡ true → lasting p i d ≡ true
+unfolding keeps lasting
+keeps-lasting p i d t k =
+    and-both (takes p i d) (isNone (mate p i)) t (and-split (grips p i d) (isNone (mate p i)) k .1)
+
+pub keeps-line : (p : List ℕ) (i d : ℕ) → keeps p i d ≡ true → i < length p
+keeps-line p i d l = grips-line p i d (keeps-parts p i d l .0)
+
+-- what has no mate keeps its device
+pub mateless-keeps : (p : List ℕ) (i d : ℕ) → grips p i d ≡ true → mate p i ≡ none → keeps p i d ≡ true
+unfolding keeps isNone
+mateless-keeps p i d g e = and-both (grips p i d) (isNone (mate p i)) g (ap isNone e)
+
+-- a lasting take keeps its device
+pub lasting-keeps : (p : List ℕ) (i d : ℕ) → lasting p i d ≡ true → keeps p i d ≡ true
+unfolding keeps lasting
+lasting-keeps p i d l =
+    let s = and-split (takes p i d) (isNone (mate p i)) l in
+    and-both (grips p i d) (isNone (mate p i)) (takes-grips p i d (s .0)) (s .1)
+
+pub still-held : (p done : List ℕ) (i d : ℕ) → grips p i d ≡ true → mate p i ≡ none → has i done ≡ true
     → held p done d ≡ true
 unfolding held givenBack doneAt
 still-held p done i d t m h =
-    any-at (λ k. takes p k d && not (givenBack p done k)) done i h
-    (and-both (takes p i d) (not (givenBack p done i)) t (ap (λ (o : Option ℕ). not (doneAt done o)) m))
+    any-at (λ k. grips p k d && not (givenBack p done k)) done i h
+    (and-both (grips p i d) (not (givenBack p done i)) t (ap (λ (o : Option ℕ). not (doneAt done o)) m))
 
+-- a held line is done from the beginning; a step has a place
 module _ (p o : List ℕ) (legal : Legal p o) where
-  at-time : (i : ℕ) → i < length p → When p [] o i
-  at-time i h = when p [] o i (legal .steps) (legal .whole i h)
+  pub at-time : (i : ℕ) → i < length p → heldAt p i ≡ false → When p (heldLines p) o i
+  at-time i h n = when p (heldLines p) o i (legal .steps) (legal .whole i h n)
 
-  pub stands-before : (k i : ℕ) → k < length p → i < length p → precedes p k i ≡ true → place o k < place o i
-  stands-before k i hk hi b = go (at-time i hi .from k (at-time i hi .follows .after k hk b))
+  -- what is done when step i comes is held, or came before
+  pub earlier : (k i : ℕ) (hi : i < length p) (n : heldAt p i ≡ false) → heldAt p k ≡ false
+      → has k (at-time i hi n .then) ≡ true → place o k < place o i
+  earlier k i hi n f h = go (at-time i hi n .from k h)
     where
-      go : (has k [] ≡ true) ⊎ (place o k < place o i) → place o k < place o i
-      go (inl e) = has-none k e
+      go : (has k (heldLines p) ≡ true) ⊎ (place o k < place o i) → place o k < place o i
+      go (inl e) = clash (heldAt p k) (has-held p k e .1) f
       go (inr e) = e
+
+  pub stands-before : (k i : ℕ) → k < length p → i < length p → heldAt p k ≡ false → heldAt p i ≡ false
+      → precedes p k i ≡ true → place o k < place o i
+  stands-before k i hk hi f n b = earlier k i hi n f (at-time i hi n .follows .after k hk b)
 
   pub lasting-is-last : (i k d : ℕ) → lasting p i d ≡ true → takes p k d ≡ true → k ≢ i → place o k < place o i
   lasting-is-last i k d l t n = go (le-or-lt (place o i) (place o k))
@@ -139,14 +175,35 @@ module _ (p o : List ℕ) (legal : Legal p o) where
       hk : k < length p
       hk = takes-line p k d t
 
-      w : When p [] o k
-      w = at-time k hk
+      w : When p (heldLines p) o k
+      w = at-time k hk (takes-no-held p k d t)
 
       apart : place o i ≡ place o k → ⊥
-      apart e = n (sym (one-place o i k (legal .whole i hi) (legal .whole k hk) e))
+      apart e = n (sym (one-place o i k (legal .whole i hi (takes-no-held p i d (s .0)))
+          (legal .whole k hk (takes-no-held p k d t)) e))
 
       go : (place o i ≤ place o k) ⊎ (place o k < place o i) → place o k < place o i
       go (inr e) = e
       go (inl e) =
           clash (held p (w .then) d)
-          (still-held p (w .then) i d (s .0) (s .1) (w .into i (omega (arith, apart)))) (w .follows .free d t)
+          (still-held p (w .then) i d (takes-grips p i d (s .0)) (s .1) (w .into i (omega (arith, apart))))
+          (w .follows .free d t)
+
+  -- nobody takes what a held line keeps
+  pub kept-untaken : (h k d : ℕ) → heldAt p h ≡ true → keeps p h d ≡ true → takes p k d ≡ true → ⊥
+  kept-untaken h k d a l t =
+      let w = at-time k (takes-line p k d t) (takes-no-held p k d t) in
+      let s = keeps-parts p h d l in
+      clash (held p (w .then) d)
+      (still-held p (w .then) h d (s .0) (s .1) (w .keeps h (held-has p h a))) (w .follows .free d t)
+
+-- no held line is in a legal order
+pub steps-only : (p o : List ℕ) → Legal p o → (i : ℕ) → has i o ≡ true → heldAt p i ≡ false
+steps-only p o legal i h = go (test (heldAt p i))
+  where
+    w : When p (heldLines p) o i
+    w = when p (heldLines p) o i (legal .steps) h
+
+    go : (heldAt p i ≡ true) ⊎ (heldAt p i ≡ false) → heldAt p i ≡ false
+    go (inl e) = clash (has i (w .then)) (w .keeps i (held-has p i e)) (w .follows .once)
+    go (inr e) = e

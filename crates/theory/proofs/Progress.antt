@@ -7,15 +7,15 @@ use mathlib.Core.Bool.{Bool, true, false, not, _&&_}
 use mathlib.Core.List.{List, [], _∷_}
 use mathlib.Core.Logic.{_⊎_, inl, inr, _≢_}
 use mathlib.Core.Option.{Option, none, some}
-use mathlib.Core.Path.{_≡_, refl, sym, _∙_}
+use mathlib.Core.Path.{_≡_, refl, sym, _∙_, subst}
 use native.Mathlib.Omega.{arith}
 use lib.Dec.{eqb}
 use lib.ListN.{length, getD}
 use borrow.Author.Tests.{eq-eqb, eqb-false, not-true, not-false}
 use Rattle.model.specs.Lists.{any, has, those, firstOf, leastBy, orElse, positions}
 use Rattle.model.specs.Sets.{member}
-use Rattle.model.specs.Line.{isTake, isGive, at}
-use Rattle.model.specs.Mate.{takesAt, deviceAt, takes, mate, isNone, lastingAt, lasting}
+use Rattle.model.specs.Line.{Settings, isGive, opens, at}
+use Rattle.model.specs.Mate.{takesAt, deviceAt, takes, grips, mate, isNone, lastingAt, lasting}
 use Rattle.model.specs.WellFormed.{WellFormed}
 use Rattle.model.specs.Legal.{precedes}
 use Rattle.model.specs.Claims.{table, beyond}
@@ -28,11 +28,12 @@ use Rattle.theory.proofs.Lists.{those-has}
 use Rattle.theory.proofs.Lists.{any-found, Answer, first-answer, Least, least-answer}
 use Rattle.theory.proofs.Lists.{left, left-lt, left-none, among}
 use Rattle.theory.specs.Claims.{Reach, here, step}
-use Rattle.theory.proofs.Claims.{reached-claimed, beyond-in, takes-parts, taking, takes-line}
+use Rattle.theory.proofs.Claims.{reached-claimed, beyond-in, takes-parts}
 use Rattle.theory.proofs.Successors.{precedes-reaches}
 use Rattle.theory.proofs.OnlyIf.{row-in}
-use Rattle.theory.proofs.Places.{lasting-parts}
+use Rattle.theory.proofs.Places.{lasting-parts, lasting-keeps}
 use Rattle.theory.proofs.Line.{device-line}
+use Rattle.theory.proofs.Grips.{takes-grips, grips-line, grips-parts}
 
 -- ---- undone and standing lines
 
@@ -110,12 +111,15 @@ pub device-is : (p : List ℕ) (i d : ℕ) → takes p i d ≡ true → deviceAt
 device-is p i d t = takes-parts p i d t .1
 
 -- which the board has
-pub device-below : (D : ℕ) (p : List ℕ) → WellFormed D p → (i d : ℕ) → takes p i d ≡ true → d < D
+pub grips-below : (S : Settings) (p : List ℕ) → WellFormed S p → (i d : ℕ) → grips p i d ≡ true → d < S .devices
 unfolding deviceAt
-device-below D p w i d t =
-    rw (device-is p i d t) at
-    (device-line D (at p i) (w .lines i (takes-line p i d t))
-    (or-left (isTake (at p i)) (isGive (at p i)) (taking p i d t)))
+grips-below S p w i d g =
+    let r = grips-parts p i d g in
+    subst (λ (x : ℕ). x < S .devices) (r .1)
+    (device-line S (at p i) (w .lines i (grips-line p i d g)) (or-left (opens (at p i)) (isGive (at p i)) (r .0)))
+
+pub device-below : (S : Settings) (p : List ℕ) → WellFormed S p → (i d : ℕ) → takes p i d ≡ true → d < S .devices
+device-below S p w i d t = grips-below S p w i d (takes-grips p i d t)
 
 -- a take reached from a line is its own, or claimed past it
 past-reach : (p : List ℕ) (i k d : ℕ) → Reach p i k → takes p k d ≡ true
@@ -127,8 +131,8 @@ join : (p : List ℕ) (i b k : ℕ) → Reach p i b → Reach p b k → Reach p 
 join p i b k (here a) r = r
 join p i b k (step a o c h q) r = step a o k h (join p (suc a + o) c k q r)
 
-module _ (D : ℕ) (p : List ℕ) (w : WellFormed D p) (no-two : (d : ℕ) → LastsTwice p d → ⊥)
-    (no-circle : (d : ℕ) → Leads (rows D p) d d → ⊥) (done : List ℕ) where
+module _ (S : Settings) (p : List ℕ) (w : WellFormed S p) (no-two : (d : ℕ) → LastsTwice p d → ⊥)
+    (no-circle : (d : ℕ) → Leads (rows (S .devices) p) d d → ⊥) (done : List ℕ) where
   abbrev u : List ℕ
   u = undone p done
 
@@ -153,8 +157,8 @@ module _ (D : ℕ) (p : List ℕ) (w : WellFormed D p) (no-two : (d : ℕ) → L
     lasts : (i : ℕ) → Stands i → lasting p i (deviceAt p i) ≡ true
     lasts i s = lasting-own p i (waits i s .0)
 
-    on-board : (i : ℕ) → Stands i → deviceAt p i < D
-    on-board i s = device-below D p w i (deviceAt p i) (lasting-parts p i (deviceAt p i) (lasts i s) .0)
+    on-board : (i : ℕ) → Stands i → deviceAt p i < S .devices
+    on-board i s = device-below S p w i (deviceAt p i) (lasting-parts p i (deviceAt p i) (lasts i s) .0)
 
     -- another undone take of its device
     other : (i : ℕ) → Stands i → (k : ℕ) × (has k u ≡ true) × (k ≢ i) × (takes p k (deviceAt p i) ≡ true)
@@ -167,7 +171,7 @@ module _ (D : ℕ) (p : List ℕ) (w : WellFormed D p) (no-two : (d : ℕ) → L
 
     -- a standing device is in the row of a standing device
     behind : (i : ℕ) → Stands i
-        → (j : ℕ) × Stands j × (member (getD (rows D p) (deviceAt p j) 0) (deviceAt p i) ≡ true)
+        → (j : ℕ) × Stands j × (member (getD (rows (S .devices) p) (deviceAt p j) 0) (deviceAt p i) ≡ true)
     behind i s =
         let k = other i s in
         let b = from-standing (suc (k .0)) (k .0) (omega arith) (k .1) in
@@ -175,8 +179,8 @@ module _ (D : ℕ) (p : List ℕ) (w : WellFormed D p) (no-two : (d : ℕ) → L
       where
         go : (j : ℕ) → Stands j → (k : ℕ) → k ≢ i → takes p k (deviceAt p i) ≡ true
             → (j ≡ k) ⊎ (member (beyond p (table p) j) (deviceAt p i) ≡ true)
-            → member (getD (rows D p) (deviceAt p j) 0) (deviceAt p i) ≡ true
-        go j t k n h (inr m) = row-in D p (deviceAt p j) (deviceAt p i) j (on-board j t) (lasts j t) m
+            → member (getD (rows (S .devices) p) (deviceAt p j) 0) (deviceAt p i) ≡ true
+        go j t k n h (inr m) = row-in (S .devices) p (deviceAt p j) (deviceAt p i) j (on-board j t) (lasts j t) m
         go j t k n h (inl e) =
             let same : deviceAt p j ≡ deviceAt p i = device-is p j (deviceAt p i) (rw e h) in
             absurd
@@ -185,49 +189,50 @@ module _ (D : ℕ) (p : List ℕ) (w : WellFormed D p) (no-two : (d : ℕ) → L
               i = i;
               k = j;
               apart = λ q. n (sym e ∙ sym q);
-              i-lasts = lasts i s;
-              k-lasts =
-                  rw same at (lasts j t);
+              i-lasts = lasting-keeps p i (deviceAt p i) (lasts i s);
+              k-lasts = lasting-keeps p j (deviceAt p i) (rw same at (lasts j t));
             }))
 
     -- every device seen is that of line i, or is led to from it
     abbrev LedFrom : List ℕ → ℕ → Type 0
-    LedFrom seen i = (e : ℕ) → has e seen ≡ true → (e ≡ deviceAt p i) ⊎ Leads (rows D p) (deviceAt p i) e
+    LedFrom seen i = (e : ℕ) → has e seen ≡ true → (e ≡ deviceAt p i) ⊎ Leads (rows (S .devices) p) (deviceAt p i) e
 
-    led : (i j : ℕ) (seen : List ℕ) → LedFrom seen i → member (getD (rows D p) (deviceAt p j) 0) (deviceAt p i) ≡ true
-        → (e : ℕ) → has e seen ≡ true → Leads (rows D p) (deviceAt p j) e
+    led : (i j : ℕ) (seen : List ℕ) → LedFrom seen i → member (getD (rows (S .devices) p) (deviceAt p j) 0)
+        (deviceAt p i) ≡ true
+        → (e : ℕ) → has e seen ≡ true → Leads (rows (S .devices) p) (deviceAt p j) e
     led i j seen f m e h = go (f e h)
       where
-        go : (e ≡ deviceAt p i) ⊎ Leads (rows D p) (deviceAt p i) e → Leads (rows D p) (deviceAt p j) e
+        go : (e ≡ deviceAt p i) ⊎ Leads (rows (S .devices) p) (deviceAt p i) e → Leads (rows (S .devices) p)
+            (deviceAt p j) e
         go (inl q) = once (deviceAt p j) e (rw q m)
         go (inr q) = more (deviceAt p j) (deviceAt p i) e m q
 
     -- going back from device to device, each new, n at most are left
-    round : (n : ℕ) (seen : List ℕ) (i : ℕ) → Stands i → left (among seen) D ≤ n → LedFrom seen i → ⊥
+    round : (n : ℕ) (seen : List ℕ) (i : ℕ) → Stands i → left (among seen) (S .devices) ≤ n → LedFrom seen i → ⊥
     round zero seen i s le f =
         let b = behind i s in
         no-circle (deviceAt p (b .0))
         (led i (b .0) seen f (b .2) (deviceAt p (b .0))
-        (left-none (among seen) D le (deviceAt p (b .0)) (on-board (b .0) (b .1))))
+        (left-none (among seen) (S .devices) le (deviceAt p (b .0)) (on-board (b .0) (b .1))))
     round (suc n) seen i s le f =
         let b = behind i s in
         go (b .0) (b .1) (led i (b .0) seen f (b .2)) (test (has (deviceAt p (b .0)) seen)) (round n)
       where
-        go : (j : ℕ) → Stands j → ((e : ℕ) → has e seen ≡ true → Leads (rows D p) (deviceAt p j) e)
+        go : (j : ℕ) → Stands j → ((e : ℕ) → has e seen ≡ true → Leads (rows (S .devices) p) (deviceAt p j) e)
             → (has (deviceAt p j) seen ≡ true) ⊎ (has (deviceAt p j) seen ≡ false)
-            → ((seen : List ℕ) (i : ℕ) → Stands i → left (among seen) D ≤ n → LedFrom seen i → ⊥) → ⊥
+            → ((seen : List ℕ) (i : ℕ) → Stands i → left (among seen) (S .devices) ≤ n → LedFrom seen i → ⊥) → ⊥
         go j t l (inl e) ih = no-circle (deviceAt p j) (l (deviceAt p j) e)
         go j t l (inr e) ih =
             ih (deviceAt p j ∷ seen) j t (omega (arith, fewer)) (λ x h. split x (has-cases x (deviceAt p j) seen h))
           where
-            fewer : left (among (deviceAt p j ∷ seen)) D < left (among seen) D
+            fewer : left (among (deviceAt p j ∷ seen)) (S .devices) < left (among seen) (S .devices)
             fewer =
                 left-lt (among seen) (among (deviceAt p j ∷ seen)) (λ k h. has-tail k (deviceAt p j) seen h)
                 (deviceAt p j) e
-                (has-head (deviceAt p j) seen) D (on-board j t)
+                (has-head (deviceAt p j) seen) (S .devices) (on-board j t)
 
             split : (x : ℕ) → (x ≡ deviceAt p j) ⊎ (has x seen ≡ true)
-                → (x ≡ deviceAt p j) ⊎ Leads (rows D p) (deviceAt p j) x
+                → (x ≡ deviceAt p j) ⊎ Leads (rows (S .devices) p) (deviceAt p j) x
             split x (inl q) = inl q
             split x (inr q) = inr (l x q)
 
@@ -235,4 +240,4 @@ module _ (D : ℕ) (p : List ℕ) (w : WellFormed D p) (no-two : (d : ℕ) → L
     pub never-stuck : (k : ℕ) → has k u ≡ true → ⊥
     never-stuck k h =
         let b = from-standing (suc k) k (omega arith) h in
-        round (left (among []) D) [] (b .0) (b .1) (omega arith) (λ e m. has-none e m)
+        round (left (among []) (S .devices)) [] (b .0) (b .1) (omega arith) (λ e m. has-none e m)

@@ -17,26 +17,27 @@ use lib.ListN.{length, drop, getElem?, drop-of-length-le}
 use lib.Seq.{drop-cons}
 use borrow.Author.Tests.{eqb-true, eq-eqb, not-true, not-false}
 use Rattle.model.specs.Lists.{has}
-use Rattle.model.specs.Line.{job, operand, isTake, isGive, at}
+use Rattle.model.specs.Line.{job, operand, opens, isHeld, isTake, isGive, deviceOf, holds, at, heldFrom}
 use Rattle.model.specs.WellFormed.{before, heldBy, heldThere, isLast, Rules}
 use Rattle.model.specs.Mate.{deviceAt, holdsAlready, mateIn, mate}
 use Rattle.model.specs.Move.{edited, until, under}
 use Rattle.theory.specs.Outer.{holdsBeneath, freesAt, againAt, plain, plainAt}
 use Rattle.theory.specs.Remarked.{names, againAfter, openAfter}
-use Rattle.theory.proofs.Tests.{clash, test, falsely, and-split, and-right, or-right, le-or-lt, tests-agree}
-use Rattle.theory.proofs.Tests.{leb-agree, or-false, and-true}
-use Rattle.theory.proofs.Held.{held-take, held-give, held-other, none-held}
-use Rattle.theory.proofs.Line.{take-no-give}
-use Rattle.theory.proofs.WellFormed.{take-line, give-line}
+use Rattle.theory.proofs.Tests.{clash, test, falsely, and-split, and-both, and-right, or-right, le-or-lt}
+use Rattle.theory.proofs.Tests.{tests-agree, leb-agree, or-false, and-true}
+use Rattle.theory.proofs.Held.{held-opened, held-give, held-other, none-held}
+use Rattle.theory.proofs.Line.{take-opens, held-opens, opens-either, opens-no-give, take-no-give, take-no-held}
+use Rattle.theory.proofs.Line.{give-no-held, own-device, take-line, give-line}
 use Rattle.theory.proofs.Lists.{has-head}
 use Rattle.theory.proofs.Claims.{outermost}
 use Rattle.theory.proofs.Successors.{jobs-grow}
 use Rattle.theory.proofs.Mate.{Seen, foreign, deeper, level, back, seen, pair, open-is, open-mates, mate-below}
 use Rattle.theory.proofs.Mate.{openTakes, Open}
-use Rattle.theory.proofs.Outer.{held-after-mate, plain-take, plain-give}
+use Rattle.theory.proofs.Outer.{opens-line, held-after-mate, plain-take, plain-give}
 use Rattle.theory.proofs.Way.{has-under, under-has, until-in-plan}
 use Rattle.theory.proofs.Depth.{times, has-times, times-tail}
-use Rattle.theory.proofs.Edited.{Alike, alike-drop, alike-tail, same-take, same-give, EditOf, edit, held-kept}
+use Rattle.theory.proofs.Edited.{Alike, alike-drop, alike-tail, same-opens, same-take, same-give}
+use Rattle.theory.proofs.Edited.{EditOf, edit, held-kept, new-device}
 
 -- ---- what is taken and not given back after a take
 
@@ -44,8 +45,8 @@ use Rattle.theory.proofs.Edited.{Alike, alike-drop, alike-tail, same-ta
 unfoldable pub since : List ℕ → ℕ → ℕ → List ℕ
 since p i zero = []
 since p i (suc n) =
-    elim (isTake (at p (suc i + n))) [
-      | true ↦ operand (at p (suc i + n)) ∷ since p i n
+    elim (opens (at p (suc i + n))) [
+      | true ↦ deviceOf (at p (suc i + n)) ∷ since p i n
       | false ↦ elim (isGive (at p (suc i + n))) [ true ↦ tail (since p i n) | false ↦ since p i n ]
     ]
 
@@ -78,27 +79,27 @@ within-less p i n w =
     record { sameJob = λ k a b. w .sameJob k a (omega arith); unmated = λ m e. omega (arith, w .unmated m e) }
 
 -- what a line does to it
-since-take : (p : List ℕ) (i n : ℕ) → isTake (at p (suc i + n)) ≡ true
-    → since p i (suc n) ≡ operand (at p (suc i + n)) ∷ since p i n
+since-opened : (p : List ℕ) (i n : ℕ) → opens (at p (suc i + n)) ≡ true
+    → since p i (suc n) ≡ deviceOf (at p (suc i + n)) ∷ since p i n
 unfolding since
-since-take p i n t = rw (t, since)
+since-opened p i n t = rw (t, since)
 
-since-give : (p : List ℕ) (i n : ℕ) → isTake (at p (suc i + n)) ≡ false → isGive (at p (suc i + n)) ≡ true
+since-give : (p : List ℕ) (i n : ℕ) → opens (at p (suc i + n)) ≡ false → isGive (at p (suc i + n)) ≡ true
     → since p i (suc n) ≡ tail (since p i n)
 unfolding since
 since-give p i n t g = rw (t, g, since)
 
-since-other : (p : List ℕ) (i n : ℕ) → isTake (at p (suc i + n)) ≡ false → isGive (at p (suc i + n)) ≡ false
+since-other : (p : List ℕ) (i n : ℕ) → opens (at p (suc i + n)) ≡ false → isGive (at p (suc i + n)) ≡ false
     → since p i (suc n) ≡ since p i n
 unfolding since
 since-other p i n t g = rw (t, g, since)
 
-module _ (p : List ℕ) (i : ℕ) (taken : isTake (at p i) ≡ true) where
+module _ (p : List ℕ) (i : ℕ) (taken : opens (at p i) ≡ true) where
   abbrev j : ℕ
   j = job (at p i)
 
   abbrev rest : List ℕ
-  rest = operand (at p i) ∷ heldThere p i
+  rest = deviceAt p i ∷ heldThere p i
 
   -- what is held after the n lines, and how deep the search for the mate is there
   record After (n : ℕ) : Type 0 where
@@ -106,10 +107,10 @@ module _ (p : List ℕ) (i : ℕ) (taken : isTake (at p i) ≡ true) where
     found : mate p i ≡ mateIn j (length (since p i n)) (suc i + n) (drop (suc i + n) p)
 
   after-none : After 0
-  unfolding since before mate
+  unfolding since before mate deviceAt
   after-none =
       let z : suc i + 0 ≡ suc i = omega arith in
-      record { holds = rw z (held-take j (at p i) (before p i) refl taken); found = rw z }
+      record { holds = rw z (held-opened j (at p i) (before p i) refl taken); found = rw z }
 
   module _ (n : ℕ) (w : Within p i (suc n)) (a : After n) where
     abbrev k : ℕ
@@ -132,13 +133,13 @@ module _ (p : List ℕ) (i : ℕ) (taken : isTake (at p i) ≡ true) where
         go : (xs : List ℕ) → since p i n ≡ xs → Seen j (at p k) (drop (suc k) p) → 1 ≤ length xs
         go (x ∷ xs) o v = omega arith
         go [] o (foreign x q) = absurd (x (w .sameJob k (omega arith) (omega arith)))
-        go [] o (deeper e t q) = clash (isGive (at p k)) g (take-no-give (at p k) t)
+        go [] o (deeper e t q) = clash (isGive (at p k)) g (opens-no-give (at p k) t)
         go [] o (level e t f q) = clash (isGive (at p k)) g f
         go [] o (back e t f z q) =
             absurd (omega (arith, w .unmated k ((rw o at (reads (give-line p k g))) ∙ z k)))
 
     -- the stack after a give
-    after-give : (xs : List ℕ) → since p i n ≡ xs → 1 ≤ length xs → job (at p k) ≡ j → isTake (at p k) ≡ false
+    after-give : (xs : List ℕ) → since p i n ≡ xs → 1 ≤ length xs → job (at p k) ≡ j → opens (at p k) ≡ false
         → isGive (at p k) ≡ true
         → ((d : ℕ) → mateIn j (suc d) k (at p k ∷ drop (suc k) p) ≡ mateIn j d (suc k) (drop (suc k) p))
         → After (suc n)
@@ -153,9 +154,9 @@ module _ (p : List ℕ) (i : ℕ) (taken : isTake (at p i) ≡ true) where
     unfolding mateIn
     after-step (foreign x q) = absurd (x (w .sameJob k (omega arith) (omega arith)))
     after-step (deeper e t q) =
-        after (operand (at p k) ∷ since p i n) (since-take p i n t)
-        (held-take j (at p k) (before p k) e t ∙ ap {B = List ℕ} (λ xs. operand (at p k) ∷ xs) (a .holds))
-        (reads (take-line p k t) ∙ q (length (since p i n)) k)
+        after (deviceOf (at p k) ∷ since p i n) (since-opened p i n t)
+        (held-opened j (at p k) (before p k) e t ∙ ap {B = List ℕ} (λ xs. deviceOf (at p k) ∷ xs) (a .holds))
+        (reads (opens-line p k t) ∙ q (length (since p i n)) k)
     after-step (level e t g q) =
         after (since p i n) (since-other p i n t g) (held-other j (at p k) (before p k) t g ∙ a .holds)
         (further (le-or-lt (length p) k))
@@ -176,7 +177,7 @@ module _ (p : List ℕ) (i : ℕ) (taken : isTake (at p i) ≡ true) where
   -- The theorem: after the take and before its mate its job holds what was taken since, over the take's device and what
   -- it held before.
   pub held-since : (n : ℕ) → Within p i n
-      → heldBy (job (at p i)) (before p (suc i + n)) ≡ since p i n ++ (operand (at p i) ∷ heldThere p i)
+      → heldBy (job (at p i)) (before p (suc i + n)) ≡ since p i n ++ (deviceAt p i ∷ heldThere p i)
   held-since n w = after-lines n w .holds
 
   -- and a give there gives back one of what was taken since
@@ -201,6 +202,24 @@ verb l = go (isTake l) (isGive l) refl refl
 
 give-no-take : (l : ℕ) → isGive l ≡ true → isTake l ≡ false
 give-no-take l g = falsely (isTake l) (λ t. clash (isGive l) g (take-no-give l t))
+
+give-no-opens : (l : ℕ) → isGive l ≡ true → opens l ≡ false
+give-no-opens l g = falsely (opens l) (λ t. clash (isGive l) g (opens-no-give l t))
+
+-- what is neither a take nor held opens nothing
+no-opens : (l : ℕ) → isTake l ≡ false → isHeld l ≡ false → opens l ≡ false
+no-opens l t h = falsely (opens l) (λ u. go (opens-either l u))
+  where
+    go : (isTake l ≡ true) ⊎ (isHeld l ≡ true) → ⊥
+    go (inl e) = clash (isTake l) e t
+    go (inr e) = clash (isHeld l) e h
+
+-- takes and gives have their operand for their device
+take-device : (l : ℕ) → isTake l ≡ true → deviceOf l ≡ operand l
+take-device l t = own-device l (take-no-held l t)
+
+give-device : (l : ℕ) → isGive l ≡ true → deviceOf l ≡ operand l
+give-device l g = own-device l (give-no-held l g)
 
 -- the stack is asked for the device at a take, and beneath its first at a give
 module _ (p : List ℕ) (k : ℕ) where
@@ -228,7 +247,7 @@ same-mateIn j zero a (l ∷ ls) (m ∷ ms) h =
     let r = alike-tail l m ls ms h in
     cc (
       h .jobs 0,
-      same-take (l ∷ ls) (m ∷ ms) h 0,
+      same-opens (l ∷ ls) (m ∷ ms) h 0,
       same-give (l ∷ ls) (m ∷ ms) h 0,
       same-mateIn j 1 (suc a) ls ms r,
       same-mateIn j 0 (suc a) ls ms r,
@@ -237,7 +256,7 @@ same-mateIn j (suc n) a (l ∷ ls) (m ∷ ms) h =
     let r = alike-tail l m ls ms h in
     cc (
       h .jobs 0,
-      same-take (l ∷ ls) (m ∷ ms) h 0,
+      same-opens (l ∷ ls) (m ∷ ms) h 0,
       same-give (l ∷ ls) (m ∷ ms) h 0,
       same-mateIn j (suc (suc n)) (suc a) ls ms r,
       same-mateIn j (suc n) (suc a) ls ms r,
@@ -250,7 +269,7 @@ unfolding mate
 same-mate p q a i =
     rw (a .jobs i) (same-mateIn (job (at p i)) 0 (suc i) (drop (suc i) p) (drop (suc i) q) (alike-drop (suc i) p q a))
 
-module _ (p : List ℕ) (i e : ℕ) (taken : isTake (at p i) ≡ true) (small : e < 256) where
+module _ (p : List ℕ) (i e : ℕ) (taken : isTake (at p i) ≡ true) (small : e < heldFrom) where
   abbrev q : List ℕ
   q = edited p i e
 
@@ -267,15 +286,16 @@ module _ (p : List ℕ) (i e : ℕ) (taken : isTake (at p i) ≡ true) (small : 
 
   -- The theorem: the moved take takes again exactly if its job holds the new device before it,
   pub again-at-take : againAt (edited p i e) i ≡ has e (heldThere p i)
-  unfolding deviceAt
-  again-at-take = again-take q i takes-still ∙ rw (edits .atTake, held-at-take)
+  again-at-take = again-take q i takes-still ∙ rw (new-device p q i e taken edits, held-at-take)
 
   -- and so does its mate, which gives it back.
   pub again-at-mate : (m : ℕ) → mate p i ≡ some m → againAt (edited p i e) m ≡ has e (heldThere p i)
   unfolding deviceAt
   again-at-mate m h =
+      let named : deviceAt q m ≡ e = give-device (at q m) (gives .1) ∙ edits .atMate m h in
+      let opened = take-opens (at q i) takes-still in
       again-give q m (gives .0) (gives .1)
-      ∙ rw (edits .atMate m h, held-after-mate q i m takes-still (same-mate p q (edits .alike) i ∙ h), held-at-take)
+      ∙ rw (named, held-after-mate q i m opened (same-mate p q (edits .alike) i ∙ h), held-at-take)
     where
       gives : (isTake (at q m) ≡ false) × (isGive (at q m) ≡ true)
       gives =
@@ -377,9 +397,9 @@ since-same p q i (suc n) h =
 -- what the job of a line under the take holds before it
 stack-under : (p : List ℕ) (i n : ℕ) → isTake (at p i) ≡ true → Within p i (suc n)
     → heldThere p (suc i + n) ≡ since p i n ++ (deviceAt p i ∷ heldThere p i)
-unfolding deviceAt
 stack-under p i n t w =
-    rw (w .sameJob (suc i + n) (omega arith) (omega arith)) (held-since p i t n (within-less p i n w))
+    rw (w .sameJob (suc i + n) (omega arith) (omega arith))
+    (held-since p i (take-opens (at p i) t) n (within-less p i n w))
 
 -- How many takes of the moved take's device are open under it after n lines: counted where the edit makes them
 -- outermost (`fresh`), and never more than the lines.
@@ -444,10 +464,17 @@ times-beneath d (x ∷ xs) h =
     rw h (leb-agree 2 (suc (times d xs)) 1 (times d xs) (λ a. omega arith) (λ a. omega arith) ∙ sym (has-times d xs))
 
 module _ (p : List ℕ) (rules : Rules p) (i n : ℕ) (taken : isTake (at p i) ≡ true) (w : Within p i (suc n)) where
+  -- no line under the take is held: a held line has only held ones before it in its job
+  none-held-under : isHeld (at p (suc i + n)) ≡ false
+  none-held-under = falsely (isHeld (at p (suc i + n))) (λ h. clash (isHeld (at p i))
+      (rules .heldFirst (suc i + n) i (omega arith) h (sym (w .sameJob (suc i + n) (omega arith) (omega arith))))
+      (take-no-held (at p i) taken))
+
   -- a give under the take names what was taken last since
   gives-last : isGive (at p (suc i + n)) ≡ true → isLast (operand (at p (suc i + n))) (since p i n) ≡ true
   gives-last g =
-      last-front (operand (at p (suc i + n))) (since p i n) (deviceAt p i ∷ heldThere p i) (give-since p i taken n w g)
+      last-front (operand (at p (suc i + n))) (since p i n) (deviceAt p i ∷ heldThere p i)
+      (give-since p i (take-opens (at p i) taken) n w g)
       (rw (stack-under p i n taken w) at (rules .give (suc i + n) g))
 
   module _ (fresh : Bool) (deep : ℕ) (opened : Opened p i fresh n deep) where
@@ -469,18 +496,19 @@ module _ (p : List ℕ) (rules : Rules p) (i n : ℕ) (taken : isTake (at p i) �
         go : Verb l → Opened p i fresh (suc n) (openAfter l d fresh deep)
         go (aTake t g) =
             by (cond (fresh && eqb (operand l) d) (suc deep) deep) (operand l ∷ since p i n)
-            (count-take l d fresh deep t) (since-take p i n t)
+            (count-take l d fresh deep t)
+            (since-opened p i n (take-opens l t) ∙ ap (λ (x : ℕ). x ∷ since p i n) (take-device l t))
             (λ h. rw (h, opened .counts h, eqb-swap (operand l) d))
             (either-below (fresh && eqb (operand l) d) (suc deep) deep (suc n) (omega arith) (omega arith))
         go (aGive t g) =
             by (cond (fresh && eqb (operand l) d) (deep - 1) deep) (tail (since p i n))
-            (count-give l d fresh deep t g) (since-give p i n t g)
+            (count-give l d fresh deep t g) (since-give p i n (give-no-opens l g) g)
             (λ h. rw (h, opened .counts h, eqb-swap (operand l) d)
             (sym (times-tail d (operand l) (since p i n) (gives-last g))))
             (either-below (fresh && eqb (operand l) d) (deep - 1) deep (suc n) (omega arith) (omega arith))
         go (neither t g) =
-            by deep (since p i n) (count-other l d fresh deep t g) (since-other p i n t g) (λ h. opened .counts h)
-            (omega arith)
+            by deep (since p i n) (count-other l d fresh deep t g)
+            (since-other p i n (no-opens l t none-held-under) g) (λ h. opened .counts h) (omega arith)
 
     -- and at a give of it there is one, so that nothing is taken from 0.
     pub opened-some : (fresh && names (at p (suc i + n)) (deviceAt p i)) ≡ true → isTake (at p (suc i + n)) ≡ false
@@ -495,7 +523,7 @@ module _ (p : List ℕ) (rules : Rules p) (i n : ℕ) (taken : isTake (at p i) �
         rw (eqb-true (operand l) (deviceAt p i) (v .1)) at (gives-last g) in
         omega (arith, opened .counts (u .0), times-some (deviceAt p i) (since p i n) o)
 
-module _ (p : List ℕ) (i e n : ℕ) (taken : isTake (at p i) ≡ true) (small : e < 256) (w : Within p i (suc n)) where
+module _ (p : List ℕ) (i e n : ℕ) (taken : isTake (at p i) ≡ true) (small : e < heldFrom) (w : Within p i (suc n)) where
   -- the lines under the take are as they were
   same-under : (k : ℕ) → i < k → k ≤ suc i + n → at (edited p i e) k ≡ at p k
   same-under k a b = edits p i e taken small .elsewhere k (omega arith) (λ h. omega (arith, w .unmated k h))
@@ -510,16 +538,15 @@ module _ (p : List ℕ) (i e n : ℕ) (taken : isTake (at p i) ≡ true) (small 
 
   -- and the stack before them has the new device in the place of the old one
   stack-edited : heldThere (edited p i e) (suc i + n) ≡ since p i n ++ (e ∷ heldThere p i)
-  unfolding deviceAt
   stack-edited =
       stack-under (edited p i e) i n (takes-still p i e taken small) within-edited
       ∙ rw (
         since-same p (edited p i e) i n (λ k a b. same-under k a (omega arith)),
-        edits p i e taken small .atTake,
+        new-device p (edited p i e) i e taken (edits p i e taken small),
         held-at-take p i e taken small,
       )
 
-module _ (p : List ℕ) (rules : Rules p) (i e : ℕ) (taken : isTake (at p i) ≡ true) (small : e < 256) (fresh : Bool)
+module _ (p : List ℕ) (rules : Rules p) (i e : ℕ) (taken : isTake (at p i) ≡ true) (small : e < heldFrom) (fresh : Bool)
     (isFresh : fresh ≡ (not (againAt p i) && not (eqb (deviceAt p i) e))) (n deep : ℕ) (w : Within p i (suc n))
     (opened : Opened p i fresh n deep) where
   isFresh′ : fresh ≡ (not (has (deviceAt p i) (heldThere p i)) && not (eqb (deviceAt p i) e))
@@ -537,11 +564,12 @@ module _ (p : List ℕ) (rules : Rules p) (i e : ℕ) (taken : isTake (at p i) �
   under-take : isTake (at p (suc i + n)) ≡ true → WorkedOut
   unfolding deviceAt
   under-take t =
-      again-take (edited p i e) (suc i + n) (rw here t) ∙ rw (stack-edited p i e n taken small w, here)
+      again-take (edited p i e) (suc i + n) (rw here t)
+      ∙ rw (stack-edited p i e n taken small w, ap deviceOf here ∙ take-device (at p (suc i + n)) t)
       (other-device x d e (since p i n) (heldThere p i) fresh (leb 1 deep) isFresh′
       (λ f z. rw (opened .counts f, z) (sym (has-times d (since p i n))))
       ∙ sym (mark-take (at p (suc i + n)) d fresh deep (againAt p (suc i + n)) e t
-      ∙ rw (again-take p (suc i + n) t, stack-under p i n taken w)))
+      ∙ rw (again-take p (suc i + n) t, stack-under p i n taken w, take-device (at p (suc i + n)) t)))
     where
       x : ℕ
       x = operand (at p (suc i + n))
@@ -553,13 +581,18 @@ module _ (p : List ℕ) (rules : Rules p) (i e : ℕ) (taken : isTake (at p i) �
   unfolding deviceAt
   under-give t g =
       again-give (edited p i e) (suc i + n) (rw here t) (rw here g)
-      ∙ rw (stack-edited p i e n taken small w, here, tail-front (since p i n) (e ∷ heldThere p i) some-since)
+      ∙ rw (
+        stack-edited p i e n taken small w,
+        ap deviceOf here ∙ give-device (at p (suc i + n)) g,
+        tail-front (since p i n) (e ∷ heldThere p i) some-since,
+      )
       (other-device x d e (tail (since p i n)) (heldThere p i) fresh (leb 2 deep) isFresh′
       (λ f z. rw (opened .counts f, z) (times-beneath d (since p i n) (rw z at (gives-last p rules i n taken w g))))
       ∙ sym (mark-give (at p (suc i + n)) d fresh deep (againAt p (suc i + n)) e t g
       ∙ rw (
         again-give p (suc i + n) t g,
         stack-under p i n taken w,
+        give-device (at p (suc i + n)) g,
         tail-front (since p i n) (d ∷ heldThere p i) some-since,
       )))
     where
@@ -570,7 +603,7 @@ module _ (p : List ℕ) (rules : Rules p) (i e : ℕ) (taken : isTake (at p i) �
       d = deviceAt p i
 
       some-since : 1 ≤ length (since p i n)
-      some-since = give-since p i taken n w g
+      some-since = give-since p i (take-opens (at p i) taken) n w g
 
   -- The theorem: a line under the moved take takes again in the edited plan, or gives such a take back, as is worked
   -- out from its mark in the plan and from how many takes of the old device are open under the moved one.
@@ -610,15 +643,33 @@ module _ (p : List ℕ) (j x n : ℕ) (ofJob : job (at p n) ≡ j) (named : oper
   unfolding before
   holds-taken t =
       let u = outermost p n (sym (plain-take p n) ∙ t) .0 in
-      rw (held-take j (at p n) (before p n) ofJob u, named) (has-head x (heldBy j (before p n)))
+      rw (held-opened j (at p n) (before p n) ofJob (take-opens (at p n) u), take-device (at p n) u, named)
+      (has-head x (heldBy j (before p n)))
 
   -- after a give of x that counts it does not
   pub holds-given : isGive (plainAt p n) ≡ true → has x (heldBy j (before p (suc n))) ≡ false
   unfolding before freesAt holdsBeneath deviceAt
   holds-given g =
       let f = and-split (isGive (at p n)) (not (holdsBeneath p n)) (sym (plain-give p n) ∙ g) in
-      rw (held-give j (at p n) (before p n) ofJob (give-no-take (at p n) (f .0)) (f .0), ← named, ← ofJob)
+      rw (
+        held-give j (at p n) (before p n) ofJob (give-no-opens (at p n) (f .0)) (f .0),
+        ← named,
+        ← give-device (at p n) (f .0),
+        ← ofJob,
+      )
       (not-true (holdsBeneath p n) (f .1))
+
+-- after a held line of x its job holds it
+pub holds-held : (p : List ℕ) (j x n : ℕ) → job (at p n) ≡ j → holds (at p n) x ≡ true
+    → has x (heldBy j (before p (suc n))) ≡ true
+unfolding before holds
+holds-held p j x n ofJob h =
+    let s = and-split (isHeld (at p n)) (eqb (deviceOf (at p n)) x) h in
+    rw (
+      held-opened j (at p n) (before p n) ofJob (held-opens (at p n) (s .0)),
+      eqb-true (deviceOf (at p n)) x (s .1),
+    )
+    (has-head x (heldBy j (before p n)))
 
 -- one more of what is held already, or of another device
 has-over : (x y : ℕ) (ys : List ℕ) → (y ≡ x → has y ys ≡ true) → has x (y ∷ ys) ≡ has x ys
@@ -629,7 +680,8 @@ has-over x y ys h = go (test (eqb x y))
     go (inl e) = let z = eqb-true x y e in rw z (has-head y ys ∙ sym (h (sym z)))
     go (inr e) = rw e
 
-module _ (p : List ℕ) (rules : Rules p) (j x n : ℕ) (ofJob : job (at p n) ≡ j) (h : names (plainAt p n) x ≡ false) where
+module _ (p : List ℕ) (rules : Rules p) (j x n : ℕ) (ofJob : job (at p n) ≡ j)
+    (h : names (plainAt p n) x ≡ false) where
   -- a line that names x and does not count takes again, or gives such a take back
   marked : names (at p n) x ≡ true → againAt p n ≡ true
   unfolding plain
@@ -639,24 +691,39 @@ module _ (p : List ℕ) (rules : Rules p) (j x n : ℕ) (ofJob : job (at p n) �
       go (inl r) = r
       go (inr r) = clash (names (at p n) x) y (rw r at h)
 
-  -- After any other line of the job, one that does not count as a take or give of x, the job holds x exactly if it held
-  -- it before.
-  pub holds-still : has x (heldBy j (before p (suc n))) ≡ has x (heldBy j (before p n))
-  unfolding before names deviceAt
-  holds-still = rw (← ofJob) (go (verb (at p n)))
+  -- After any other line of the job, one that does not count as a take or give of x and is no held line of it, the job
+  -- holds x exactly if it held it before.
+  pub holds-still : holds (at p n) x ≡ false → has x (heldBy j (before p (suc n))) ≡ has x (heldBy j (before p n))
+  unfolding before names holds deviceAt
+  holds-still unheld = rw (← ofJob) (go (verb l))
     where
-      o : ℕ
-      o = operand (at p n)
+      l : ℕ
+      l = at p n
 
       xs : List ℕ
       xs = heldThere p n
 
-      go : Verb (at p n) → has x (heldBy (job (at p n)) (at p n ∷ before p n)) ≡ has x xs
+      -- one more device
+      over : opens l ≡ true → (deviceOf l ≡ x → has (deviceOf l) xs ≡ true)
+          → has x (heldBy (job l) (l ∷ before p n)) ≡ has x xs
+      over t f = ap (has x) (held-opened (job l) l (before p n) refl t) ∙ has-over x (deviceOf l) xs f
+
+      other : isTake l ≡ false → isGive l ≡ false → (isHeld l ≡ true) ⊎ (isHeld l ≡ false)
+          → has x (heldBy (job l) (l ∷ before p n)) ≡ has x xs
+      other t g (inl e) =
+          over (held-opens l e)
+          (λ z. clash (isHeld l && eqb (deviceOf l) x)
+          (and-both (isHeld l) (eqb (deviceOf l) x) e (eq-eqb (deviceOf l) x z)) unheld)
+      other t g (inr e) = ap (has x) (held-other (job l) l (before p n) (no-opens l t e) g)
+
+      go : Verb l → has x (heldBy (job l) (l ∷ before p n)) ≡ has x xs
       go (aTake t g) =
-          rw (held-take (job (at p n)) (at p n) (before p n) refl t)
-          (has-over x o xs (λ z. sym (again-take p n t) ∙ marked (rw (t, eq-eqb o x z))))
+          over (take-opens l t)
+          (λ z. sym (again-take p n t) ∙ marked (rw (t, eq-eqb (operand l) x (sym (take-device l t) ∙ z))))
       go (aGive t g) =
-          rw (held-give (job (at p n)) (at p n) (before p n) refl t g)
-          (sym (has-over x o (tail xs) (λ z. sym (again-give p n t g) ∙ marked (rw (t, g, eq-eqb o x z))))
-          ∙ ap (has x) (sym (last-first o xs (rules .give n g))))
-      go (neither t g) = rw (held-other (job (at p n)) (at p n) (before p n) t g)
+          ap (has x) (held-give (job l) l (before p n) refl (give-no-opens l g) g)
+          ∙ sym (has-over x (operand l) (tail xs)
+          (λ z. ap (λ (y : ℕ). has y (tail xs)) (sym (give-device l g)) ∙ sym (again-give p n t g)
+          ∙ marked (rw (t, g, eq-eqb (operand l) x z))))
+          ∙ ap (has x) (sym (last-first (operand l) xs (rules .give n g)))
+      go (neither t g) = other t g (test (isHeld l))

@@ -1,7 +1,7 @@
--- What one step of an order changes (01, "Legal orders"): which devices are held after it. At most one take of a device
--- is done and not given back, for a take may follow only where its device is not held. So an outermost take makes its
--- device held, an outermost give makes it free, and every other device stays as it was.
-use Prim.Native.Nat.{ℕ, _<_}
+-- What one step of an order changes (01, "Legal orders"): which devices are held after it. At most one line holds a
+-- device: no two held lines name one, and a take may follow only where its device is not held. So an outermost take
+-- makes its device held, an outermost give makes it free, and every other device stays as it was.
+use Prim.Native.Nat.{ℕ, _<_, _≤_}
 use mathlib.Core.Bool.{Bool, true, false, cond, not, _&&_, _||_}
 use mathlib.Core.List.{List, [], _∷_, _++_}
 use mathlib.Core.Logic.{_⊎_, inl, inr}
@@ -12,52 +12,69 @@ use lib.Dec.{eqb}
 use lib.ListN.{length}
 use borrow.Author.Tests.{eqb-true, eq-eqb, not-true}
 use Rattle.model.specs.Lists.{has}
-use Rattle.model.specs.Line.{job, isGive, operand, at}
-use Rattle.model.specs.Mate.{takesAt, deviceAt, takes, mate}
+use Rattle.model.specs.Line.{job, isGive, operand, holds, at}
+use Rattle.model.specs.Mate.{takesAt, deviceAt, takes, heldAt, heldLines, grips, mate}
 use Rattle.model.specs.WellFormed.{Rules}
 use Rattle.model.specs.Legal.{givenBack, held, MayFollow}
 use Rattle.theory.specs.Outer.{freesAt}
-use Rattle.theory.proofs.Tests.{clash, falsely, tests-agree, or-left, or-right, and-split, and-both}
-use Rattle.theory.proofs.Lists.{has-none, any-found, any-at}
-use Rattle.theory.proofs.Line.{take-no-give}
+use Rattle.theory.proofs.Tests.{clash, falsely, tests-agree, or-left, or-right, and-split, and-both, le-or-lt}
+use Rattle.theory.proofs.Lists.{any-found, any-at}
+use Rattle.theory.proofs.Line.{opens-no-give, own-device}
 use Rattle.theory.proofs.Successors.{earlier-precedes}
-use Rattle.theory.proofs.Claims.{takes-parts, taking}
+use Rattle.theory.proofs.Claims.{takes-parts}
+use Rattle.theory.proofs.Grips.{takes-grips, Grips, byTake, byHeld, gripping, takes-no-held, grips-opens}
+use Rattle.theory.proofs.Grips.{grips-parts}
+use Rattle.theory.proofs.Grips.{grips-takes, has-held}
 use Rattle.theory.proofs.Mate.{pair, mate-names-device}
 use Rattle.theory.proofs.Outer.{outer-together, frees-gives, freed-take}
 use Rattle.theory.proofs.Turns.{given-parts, given-back, still-given}
 use Rattle.theory.proofs.LineByLine.{more-old, more-new, more-only}
 
--- line k took device d and did not give it back
+-- line k took or held device d, and it was not given back
 pub record Holds (p done : List ℕ) (k d : ℕ) : Type 0 where
   pub isDone : has k done ≡ true
-  pub took : takes p k d ≡ true
+  pub took : grips p k d ≡ true
   pub kept : givenBack p done k ≡ false
 
 pub held-found : (p done : List ℕ) (d : ℕ) → held p done d ≡ true → (k : ℕ) × Holds p done k d
 unfolding held
 held-found p done d h =
-    let r = any-found (λ k. takes p k d && not (givenBack p done k)) done h in
-    let s = and-split (takes p (r .0) d) (not (givenBack p done (r .0))) (r .2) in
+    let r = any-found (λ k. grips p k d && not (givenBack p done k)) done h in
+    let s = and-split (grips p (r .0) d) (not (givenBack p done (r .0))) (r .2) in
     (r .0, record { isDone = r .1; took = s .0; kept = not-true (givenBack p done (r .0)) (s .1) })
 
 pub held-at : (p done : List ℕ) (k d : ℕ) → Holds p done k d → held p done d ≡ true
 unfolding held
 held-at p done k d h =
-    any-at (λ k. takes p k d && not (givenBack p done k)) done k (h .isDone)
-    (and-both (takes p k d) (not (givenBack p done k)) (h .took) (rw (h .kept)))
+    any-at (λ k. grips p k d && not (givenBack p done k)) done k (h .isDone)
+    (and-both (grips p k d) (not (givenBack p done k)) (h .took) (rw (h .kept)))
 
 -- at most one line holds a device
 abbrev pub HeldOnce : List ℕ → List ℕ → Type 0
 HeldOnce p done = (k t d : ℕ) → Holds p done k d → Holds p done t d → k ≡ t
 
-pub held-once-first : (p : List ℕ) → HeldOnce p []
-held-once-first p k t d h g = has-none k (h .isDone)
+-- at first each device is held by one held line, if by any
+pub held-once-first : (p : List ℕ) → Rules p → HeldOnce p (heldLines p)
+held-once-first p rules k t d h g = go (le-or-lt k t) (le-or-lt t k)
+  where
+    names : (i : ℕ) → Holds p (heldLines p) i d → holds (at p i) d ≡ true
+    names i a = by (gripping p i d (a .took))
+      where
+        by : Grips p i d → holds (at p i) d ≡ true
+        by (byTake u) = clash (heldAt p i) (has-held p i (a .isDone) .1) (takes-no-held p i d u)
+        by (byHeld u e) = e
+
+    go : (k ≤ t) ⊎ (t < k) → (t ≤ k) ⊎ (k < t) → k ≡ t
+    go (inl a) (inl b) = omega (arith, a, b)
+    go (inl a) (inr b) = clash (holds (at p k) d) (names k h) (rules .heldOnce t k d b (names t g))
+    go (inr a) b = clash (holds (at p t) d) (names t g) (rules .heldOnce k t d a (names k h))
 
 -- the line at x is an outermost take or give of device d
 unfoldable pub handles : List ℕ → ℕ → ℕ → Bool
 handles p x d = (takesAt p x || freesAt p x) && eqb (operand (at p x)) d
 
-module _ (p : List ℕ) (rules : Rules p) (done : List ℕ) (x : ℕ) (may : MayFollow p done x) where
+module _ (p : List ℕ) (rules : Rules p) (done : List ℕ) (x : ℕ) (may : MayFollow p done x)
+    (step : heldAt p x ≡ false) where
   abbrev next : List ℕ
   next = done ++ (x ∷ [])
 
@@ -82,6 +99,10 @@ module _ (p : List ℕ) (rules : Rules p) (done : List ℕ) (x : ℕ) (may : May
       go (inl e) = inl (record { isDone = e; took = h .took; kept = kept-before k (h .kept) })
       go (inr q) = inr q
 
+  -- a step is no held line, so that what it holds it takes
+  taken-step : (d : ℕ) → grips p x d ≡ true → takes p x d ≡ true
+  taken-step d g = grips-takes p x d step g
+
   pub held-once-on : HeldOnce p done → HeldOnce p next
   held-once-on one k t d h g = go (holds-before k d h) (holds-before t d g)
     where
@@ -91,25 +112,29 @@ module _ (p : List ℕ) (rules : Rules p) (done : List ℕ) (x : ℕ) (may : May
       go : Holds p done k d ⊎ (k ≡ x) → Holds p done t d ⊎ (t ≡ x) → k ≡ t
       go (inl a) (inl b) = one k t d a b
       go (inr a) (inr b) = a ∙ sym b
-      go (inl a) (inr b) = free k a (rw b at (g .took))
-      go (inr a) (inl b) = free t b (rw a at (h .took))
+      go (inl a) (inr b) = free k a (taken-step d (rw b at (g .took)))
+      go (inr a) (inl b) = free t b (taken-step d (rw a at (h .took)))
+
+  own : deviceAt p x ≡ operand (at p x)
+  unfolding deviceAt heldAt
+  own = own-device (at p x) step
 
   handles-take : (d : ℕ) → takes p x d ≡ true → handles p x d ≡ true
-  unfolding handles deviceAt
+  unfolding handles
   handles-take d t =
       let s = takes-parts p x d t in
       and-both (takesAt p x || freesAt p x) (eqb (operand (at p x)) d) (or-left (takesAt p x) (freesAt p x) (s .0))
-      (eq-eqb (operand (at p x)) d (s .1))
+      (eq-eqb (operand (at p x)) d (sym own ∙ s .1))
 
-  -- a take that line x gives back is of its device
-  handles-give : (k d : ℕ) → takes p k d ≡ true → mate p k ≡ some x → handles p x d ≡ true
-  unfolding handles deviceAt
+  -- what line x gives back is of its device
+  handles-give : (k d : ℕ) → grips p k d ≡ true → mate p k ≡ some x → handles p x d ≡ true
+  unfolding handles grips
   handles-give k d t e =
-      let s = takes-parts p k d t in
-      let u = taking p k d t in
+      let s = and-split (takesAt p k || heldAt p k) (eqb (deviceAt p k) d) t in
+      let u = grips-parts p k d t in
       and-both (takesAt p x || freesAt p x) (eqb (operand (at p x)) d)
-      (or-right (takesAt p x) (freesAt p x) (outer-together p rules k x u e ∙ s .0))
-      (eq-eqb (operand (at p x)) d (mate-names-device p rules k x u e ∙ s .1))
+      (or-right (takesAt p x) (freesAt p x) (outer-together p rules k x (u .0) e ∙ s .0))
+      (eq-eqb (operand (at p x)) d (sym own ∙ (mate-names-device p rules k x (u .0) e ∙ u .1)))
 
   -- a device that line x does not handle is held as it was
   held-same : (d : ℕ) → handles p x d ≡ false → held p next d ≡ held p done d
@@ -120,7 +145,7 @@ module _ (p : List ℕ) (rules : Rules p) (done : List ℕ) (x : ℕ) (may : May
         where
           go : (k : ℕ) → Holds p next k d → Holds p done k d ⊎ (k ≡ x) → held p done d ≡ true
           go k g (inl b) = held-at p done k d b
-          go k g (inr q) = clash (handles p x d) (handles-take d (rw q at (g .took))) n
+          go k g (inr q) = clash (handles p x d) (handles-take d (taken-step d (rw q at (g .took)))) n
 
       from : held p done d ≡ true → held p next d ≡ true
       from h =
@@ -139,7 +164,12 @@ module _ (p : List ℕ) (rules : Rules p) (done : List ℕ) (x : ℕ) (may : May
   held-taken : ((i : ℕ) → i < length p → x < i → job (at p x) ≡ job (at p i) → has i done ≡ false) → (d : ℕ)
       → takes p x d ≡ true → held p next d ≡ true
   held-taken later d t =
-      held-at p next x d (record { isDone = more-new x done; took = t; kept = falsely (givenBack p next x) no })
+      held-at p next x d (record {
+        isDone = more-new x done;
+        took = takes-grips p x d t;
+        kept = falsely
+            (givenBack p next x) no;
+      })
     where
       no : givenBack p next x ≡ true → ⊥
       no g =
@@ -152,9 +182,9 @@ module _ (p : List ℕ) (rules : Rules p) (done : List ℕ) (x : ℕ) (may : May
           go m l lt e (inl h) = clash (has m done) h (later m l lt e)
           go m l lt e (inr h) = omega arith
 
-  -- the take that an outermost give gives back held its device
+  -- what an outermost give gives back held its device
   held-given : freesAt p x ≡ true → (t : ℕ) × Holds p done t (operand (at p x)) × (mate p t ≡ some x)
-  unfolding takes deviceAt
+  unfolding grips
   held-given g =
       let r = freed-take p rules x g in
       let t = r .0 in
@@ -163,8 +193,8 @@ module _ (p : List ℕ) (rules : Rules p) (done : List ℕ) (x : ℕ) (may : May
         t,
         record {
           isDone = may .after t (omega (arith, q .below, may .line)) before;
-          took = and-both (takesAt p t) (eqb (operand (at p t)) (operand (at p x))) (r .1)
-              (eq-eqb (operand (at p t)) (operand (at p x)) (sym (mate-names-device p rules t x (r .2) (r .3))));
+          took = and-both (takesAt p t || heldAt p t) (eqb (deviceAt p t) (operand (at p x))) (r .1)
+              (eq-eqb (deviceAt p t) (operand (at p x)) (sym (mate-names-device p rules t x (r .2) (r .3)) ∙ own));
           kept = falsely (givenBack p done t) (still t (r .3));
         },
         r .3,
@@ -188,7 +218,7 @@ module _ (p : List ℕ) (rules : Rules p) (done : List ℕ) (x : ℕ) (may : May
           go : (k : ℕ) → Holds p next k (operand (at p x)) → Holds p done k (operand (at p x)) ⊎ (k ≡ x) → ⊥
           go k b (inr q) =
               clash (isGive (at p x)) (frees-gives p x g)
-              (take-no-give (at p x) (taking p x (operand (at p x)) (rw q at (b .took))))
+              (opens-no-give (at p x) (grips-opens p x (operand (at p x)) (rw q at (b .took))))
           go k b (inl a) =
               let t = held-given g in
               let z = one k (t .0) (operand (at p x)) a (t .1) in
@@ -198,13 +228,13 @@ module _ (p : List ℕ) (rules : Rules p) (done : List ℕ) (x : ℕ) (may : May
   pub held-step : HeldOnce p done
       → ((i : ℕ) → i < length p → x < i → job (at p x) ≡ job (at p i) → has i done ≡ false) → (d : ℕ)
       → held p next d ≡ cond (handles p x d) (not (held p done d)) (held p done d)
-  unfolding handles takes deviceAt
+  unfolding handles takes
   held-step one later d = go (takesAt p x) (freesAt p x) (eqb (operand (at p x)) d) refl refl refl
     where
       go : (a b c : Bool) → takesAt p x ≡ a → freesAt p x ≡ b → eqb (operand (at p x)) d ≡ c
           → held p next d ≡ cond ((a || b) && c) (not (held p done d)) (held p done d)
       go true b true e f q =
-          let t = and-both (takesAt p x) (eqb (operand (at p x)) d) e q in
+          let t = and-both (takesAt p x) (eqb (deviceAt p x) d) e (rw own q) in
           held-taken later d t ∙ sym (ap not (may .free d t))
       go false true true e f q =
           let z = eqb-true (operand (at p x)) d q in

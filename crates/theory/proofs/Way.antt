@@ -1,31 +1,31 @@
--- The way of a line: it begins with the line and falls to line 1, and with a line it has all that come before that one.
--- So a line off the way has no successor on it. The lines that a move may change are the way of the moved take and the
--- lines under it; together they are the way of the last of these, so that what holds of a way holds of them, and a
--- move, which rewrites their sets from the last one back, leaves the rest right.
+-- The way of a line: it begins with the line and falls to the first line of a running job, which in a plan of the
+-- morning is line 1; and with a line it has all that come before that one. So a line off the way has no successor on
+-- it. The lines that a move may change are the way of the moved take and the lines under it; together they are the way
+-- of the last of these, so that what holds of a way holds of them, and a move, which rewrites their sets from the last
+-- one back, leaves the rest right.
 use Prim.Native.Nat.{ℕ, zero, suc, _+_, _-_, _<_, _≤_}
 use mathlib.Core.Bool.{Bool, true, false, _||_}
 use mathlib.Core.List.{List, [], _∷_, _++_, append-nil}
 use mathlib.Core.Logic.{_⊎_, inl, inr, _≢_}
 use mathlib.Core.Option.{Option, none, some, Option·getD}
-use mathlib.Core.Path.{_≡_, refl, sym, _∙_, ap}
+use mathlib.Core.Path.{_≡_, refl, sym, _∙_, ap, subst}
 use native.Mathlib.Omega.{arith}
 use lib.Dec.{eqb}
 use lib.ListN.{length, drop}
 use borrow.Author.Tests.{eqb-true, eq-eqb, eqb-false}
 use Rattle.model.specs.Lists.{upFrom, has, those, lastOr}
-use Rattle.model.specs.Line.{job, starts, at}
-use Rattle.model.specs.WellFormed.{Rules}
+use Rattle.model.specs.Line.{morning, job, starts, at}
+use Rattle.model.specs.WellFormed.{Rules, WellFormed}
 use Rattle.model.specs.Legal.{precedes}
 use Rattle.model.specs.Claims.{successors}
 use Rattle.model.specs.Mate.{mate}
 use Rattle.model.specs.Move.{wayIn, way, until, under, mayChange, fromLast}
-use Rattle.theory.specs.Move.{Falls, ends, falls}
-use Rattle.theory.proofs.Tests.{clash, test, or-split, or-right, le-or-lt}
+use Rattle.theory.specs.Move.{Falls, ends, falls, Running}
+use Rattle.theory.proofs.Tests.{clash, test, falsely, or-split, or-right, or-neither, le-or-lt}
 use Rattle.theory.proofs.Lists.{has-none, has-head, has-tail, has-cases, has-left, has-right, has-append}
 use Rattle.theory.proofs.Lists.{has-upFrom, upFrom-has, has-those, those-has}
 use Rattle.theory.proofs.WellFormed.{start-line, any-line}
 use Rattle.theory.proofs.Successors.{Why, sameJob, starter, why, successor-after, jobs-grow}
-use Rattle.theory.proofs.Successors.{earlier-precedes, start-precedes, precedes-reaches}
 use Rattle.theory.proofs.Mate.{pair}
 
 pub falls-below : (n k : ℕ) (xs : List ℕ) → Falls n xs → has k xs ≡ true → k < n
@@ -158,39 +158,101 @@ module _ (p : List ℕ) (rules : Rules p) where
           clash (has k (way p i)) (way-closed i k (suc k + o) (omega arith) (successor-after p k o h .1) n) m
       go (inr n) = n
 
-  -- a line on the way has an earlier one on it, if it is not line 1
-  earlier : (i s : ℕ) → 0 < s → s < length p → has s (way p i) ≡ true → (k : ℕ) × (k < s) × (has k (way p i) ≡ true)
-  earlier i s pos lt m = go (test (eqb (job (at p s)) 1))
+  -- a line with none before it that is of its job or starts it is the first line of a running job
+  runs : (n : ℕ) → n < length p → ((k : ℕ) → k < n → onto p (job (at p n)) k ≡ false) → Running p n
+  unfolding onto
+  runs n h f = record { line = h; first = first′; unstarted = unstarted′ }
     where
-      nonempty : 0 < length p
-      nonempty = omega (arith, lt)
+      j : ℕ
+      j = job (at p n)
 
-      go : (eqb (job (at p s)) 1 ≡ true) ⊎ (eqb (job (at p s)) 1 ≡ false)
-          → (k : ℕ) × (k < s) × (has k (way p i) ≡ true)
-      go (inl e) =
-          let h = earlier-precedes p 0 s pos (rules .first nonempty ∙ sym (eqb-true (job (at p s)) 1 e)) in
-          (0, pos, way-closed i 0 s pos h m)
-      go (inr e) =
-          let r = any-line (λ l. starts l (job (at p s))) p (rules .started s lt (eqb-false (job (at p s)) 1 e)) in
-          let h = start-precedes p (r .0) s (r .2) in
-          let below = precedes-reaches p rules (r .0) s (r .1) lt h .0 in
-          (r .0, below, way-closed i (r .0) s below h m)
+      off : (k : ℕ) → k < n → (eqb (job (at p k)) j ≡ false) × (starts (at p k) j ≡ false)
+      off k lt = or-neither (eqb (job (at p k)) j) (starts (at p k) j) (f k lt)
 
-  -- from a line at most n down there is line 1
-  down : (n i s : ℕ) → s ≤ n → s < length p → has s (way p i) ≡ true → has 0 (way p i) ≡ true
-  down zero i s h lt m = let z : s ≡ 0 = omega (arith, h) in rw z at m
-  down (suc n) i s h lt m = go (le-or-lt s 0) (λ k a b c. down n i k a b c)
+      first′ : (k : ℕ) → k < n → job (at p k) ≢ j
+      first′ k lt = eqb-false (job (at p k)) j (off k lt .0)
+
+      unstarted′ : (k : ℕ) → starts (at p k) j ≡ false
+      unstarted′ k = falsely (starts (at p k) j) no
+        where
+          no : starts (at p k) j ≡ true → ⊥
+          no s = go (le-or-lt n k)
+            where
+              go : (n ≤ k) ⊎ (k < n) → ⊥
+              go (inl le) = omega (arith, rules .startHigher k j s, jobs-grow p rules n k le (start-line p k j s))
+              go (inr lt) = clash (starts (at p k) j) s (off k lt .1)
+
+  -- Walking back from place n for job j, none of these lines is met, or the last one met is the first line of a running
+  -- job: the walk goes on from a line met as long as some line has to come before it.
+  last-met : (n j x : ℕ) → n ≤ length p
+      → (((k : ℕ) → k < n → onto p j k ≡ false) × (wayIn p j n ≡ [])) ⊎ Running p (lastOr x (wayIn p j n))
+  unfolding wayIn lastOr
+  last-met zero j x h = inl (λ k lt. absurd (omega arith), refl)
+  last-met (suc n) j x h = go (test (onto p j n)) (λ j x. last-met n j x (omega arith))
     where
-      go : (s ≤ 0) ⊎ (0 < s)
-          → ((k : ℕ) → k ≤ n → k < length p → has k (way p i) ≡ true → has 0 (way p i) ≡ true)
-          → has 0 (way p i) ≡ true
-      go (inl z) ih = let e : s ≡ 0 = omega (arith, z) in rw e at m
-      go (inr pos) ih =
-          let r = earlier i s pos lt m in ih (r .0) (omega (arith, h, r .1)) (omega (arith, lt, r .1)) (r .2)
+      go : (onto p j n ≡ true) ⊎ (onto p j n ≡ false)
+          → ((j x : ℕ) → (((k : ℕ) → k < n → onto p j k ≡ false) × (wayIn p j n ≡ []))
+          ⊎ Running p (lastOr x (wayIn p j n)))
+          → (((k : ℕ) → k < suc n → onto p j k ≡ false) × (wayIn p j (suc n) ≡ []))
+          ⊎ Running p (lastOr x (wayIn p j (suc n)))
+      go (inl m) ih = inr (rw (way-on p j n m) (met (ih (job (at p n)) n)))
+        where
+          met : (((k : ℕ) → k < n → onto p (job (at p n)) k ≡ false) × (wayIn p (job (at p n)) n ≡ []))
+              ⊎ Running p (lastOr n (wayIn p (job (at p n)) n))
+              → Running p (lastOr n (wayIn p (job (at p n)) n))
+          met (inl r) = rw (r .1) (runs n h (r .0))
+          met (inr r) = r
+      go (inr m) ih = rw (way-past p j n m) (past (ih j x))
+        where
+          past : (((k : ℕ) → k < n → onto p j k ≡ false) × (wayIn p j n ≡ [])) ⊎ Running p (lastOr x (wayIn p j n))
+              → (((k : ℕ) → k < suc n → onto p j k ≡ false) × (wayIn p j n ≡ [])) ⊎ Running p (lastOr x (wayIn p j n))
+          past (inr r) = inr r
+          past (inl r) = inl (λ k lt. each k lt (test (eqb k n)), r .1)
+            where
+              each : (k : ℕ) → k < suc n → (eqb k n ≡ true) ⊎ (eqb k n ≡ false) → onto p j k ≡ false
+              each k lt (inl z) = rw (eqb-true k n z) m
+              each k lt (inr z) = let ne = eqb-false k n z in r .0 k (omega arith)
 
-  -- The way goes back to line 1.
+  -- The theorem: the way ends at the first line of a running job.
+  pub way-to-running : (i : ℕ) → i < length p → Running p (lastOr i (way p i))
+  unfolding way onto
+  way-to-running i h = go (last-met (suc i) (job (at p i)) i h)
+    where
+      go : (((k : ℕ) → k < suc i → onto p (job (at p i)) k ≡ false) × (way p i ≡ [])) ⊎ Running p (lastOr i (way p i))
+          → Running p (lastOr i (way p i))
+      go (inl r) =
+          clash (onto p (job (at p i)) i) (rw (eq-eqb (job (at p i)) (job (at p i)) refl)) (r .0 i (omega arith))
+      go (inr r) = r
+
+-- the last number of a list stands in it
+last-has : (x : ℕ) (xs : List ℕ) → has (lastOr x xs) (x ∷ xs) ≡ true
+unfolding lastOr
+last-has x [] = has-head x []
+last-has x (y ∷ ys) = has-tail (lastOr y ys) x (y ∷ ys) (last-has y ys)
+
+pub last-on-way : (p : List ℕ) (i : ℕ) → has (lastOr i (way p i)) (way p i) ≡ true
+unfolding lastOr
+last-on-way p i = rw (way-first p i) (last-has i (wayIn p (job (at p i)) i))
+
+-- In a plan of the morning that is line 1.
+module _ (D : ℕ) (p : List ℕ) (w : WellFormed (morning D) p) where
+  runs-first : (k : ℕ) → Running p k → k ≡ 0
+  runs-first k r = go (test (eqb (job (at p k)) 1)) (le-or-lt k 0)
+    where
+      go : (eqb (job (at p k)) 1 ≡ true) ⊎ (eqb (job (at p k)) 1 ≡ false) → (k ≤ 0) ⊎ (0 < k) → k ≡ 0
+      go e (inl z) = omega arith
+      go (inl e) (inr pos) =
+          absurd (r .first 0 pos (w .rules .first (omega (arith, r .line)) ∙ sym (eqb-true (job (at p k)) 1 e)))
+      go (inr e) (inr pos) =
+          let s = any-line (λ l. starts l (job (at p k))) p
+          (w .started refl k (r .line) (eqb-false (job (at p k)) 1 e)) in
+          clash (starts (at p (s .0)) (job (at p k))) (s .2) (r .unstarted (s .0))
+
+  pub way-ends-first : (i : ℕ) → i < length p → lastOr i (way p i) ≡ 0
+  way-ends-first i h = runs-first (lastOr i (way p i)) (way-to-running p (w .rules) i h)
+
   pub way-to-first : (i : ℕ) → i < length p → has 0 (way p i) ≡ true
-  way-to-first i h = down i i i (omega arith) h (line-on-way p i)
+  way-to-first i h = subst (λ (x : ℕ). has x (way p i) ≡ true) (way-ends-first i h) (last-on-way p i)
 
 -- ---- the lines under a take
 

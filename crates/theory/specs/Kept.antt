@@ -1,5 +1,6 @@
 -- The words in which theory says what moves with kept rows do (02, request 4): what it is for a lent table, rows and
--- held set to be a plan's own, what one move leaves, and the same of any list of moves.
+-- held set to be a plan's own, what one move leaves, and the same of any list of moves. All of it is for plans of the
+-- morning (02, request 5).
 use Prim.Native.Nat.{ℕ, _<_, _≤_}
 use mathlib.Core.Bool.{true, false}
 use mathlib.Core.List.{List, [], _∷_}
@@ -8,6 +9,7 @@ use mathlib.Core.Option.{none}
 use mathlib.Core.Path.{_≡_}
 use lib.ListN.{length, getD, take, drop}
 use Rattle.model.specs.Sets.{member}
+use Rattle.model.specs.Line.{morning}
 use Rattle.model.specs.WellFormed.{fault}
 use Rattle.model.specs.Mate.{deviceAt}
 use Rattle.model.specs.Claims.{table}
@@ -57,13 +59,13 @@ pub record MadeBy (D : ℕ) (p : List ℕ) (line device : ℕ) (p′ : List ℕ)
 -- and the three lists are the edited plan's, worked out afresh, and the rest of each
 pub record AcceptedKept (D : ℕ) (p : List ℕ) (lent : Beside) (line device : ℕ) (o : Outcome MoveAnswer LentBeside)
     : Type 0 where
-  pub asBefore : Accepted D p (lent .sets) line device (withoutRows o)
+  pub asBefore : Accepted (morning D) p (lent .sets) line device (withoutRows o)
   pub afresh : o .left .beside ≡ overAll (besideOf D (o .left .plan)) lent
 
 -- what a refused move does: nothing, but for the answer
 pub record UnmovedKept (D : ℕ) (p : List ℕ) (lent : Beside) (line device : ℕ) (o : Outcome MoveAnswer LentBeside)
     : Type 0 where
-  pub asBefore : Unmoved D p (lent .sets) line device (withoutRows o)
+  pub asBefore : Unmoved (morning D) p (lent .sets) line device (withoutRows o)
   pub stays : o .left .beside ≡ lent
 
 pub data StepKept (D : ℕ) (p : List ℕ) (lent : Beside) (line device : ℕ) (o : Outcome MoveAnswer LentBeside)
@@ -85,11 +87,11 @@ movedKeptBy D s (a ∷ asks) = movedKeptBy D (movedKept D s a) asks
 -- held set are its own, and then the rest of the first lists; what is asked next is refused and changes nothing, or is
 -- accepted; and the quick verdict is the verdict's answer.
 pub record StillOwn (D : ℕ) (first s : LentBeside) : Type 0 where
-  pub noFault : fault D (s .plan) ≡ none
+  pub noFault : fault (morning D) (s .plan) ≡ none
   pub long : length (s .plan) ≡ length (first .plan)
   pub afresh : s .beside ≡ overAll (besideOf D (s .plan)) (first .beside)
   pub next : (a : Ask)
       → StepKept D (s .plan) (s .beside) (a .line) (a .device)
       (movingKept D (s .plan) (s .beside) (a .line) (a .device))
   pub verdict : (order : List ℕ) → length (s .plan) ≤ length order
-      → quick D (s .plan) (s .beside .rows) ≡ ordering D (s .plan) order .answer
+      → quick D (s .plan) (s .beside .rows) ≡ ordering (morning D) (s .plan) order .answer

@@ -18,7 +18,7 @@ unfoldable pub freesAt : List ℕ → ℕ → Bool
 unfolding isGive holdsBeneath
 freesAt p i = isGive (at p i) && not (holdsBeneath p i)
 
--- the line at i takes again what its job holds, or gives such a take back
+-- the line at i takes again what its job holds, or gives such a take back; no held line does (02, request 5)
 unfoldable pub againAt : List ℕ → ℕ → Bool
 unfolding isTake isGive holdsAlready holdsBeneath
 againAt p i = (isTake (at p i) && holdsAlready p i) || (isGive (at p i) && holdsBeneath p i)

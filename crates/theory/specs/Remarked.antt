@@ -1,7 +1,7 @@
 -- Which lines of an edited plan take again what their job holds, or give such a take back, worked out line by line from
 -- those of the plan (02, request 2): a move carries these marks along instead of asking the stacks again. Only the
 -- lines under the moved take need work, and of them only those that name the device that it had or the one that it
--- gets.
+-- gets. No held line stands there (02, request 5): before one in its job are held lines alone.
 use Prim.Native.Nat.{ℕ, suc, _-_}
 use mathlib.Core.Bool.{Bool, true, cond, _&&_, _||_}
 use lib.Dec.{eqb, leb}

@@ -6,7 +6,7 @@ use mathlib.Core.List.{List}
 use mathlib.Core.Logic.{_≢_}
 use mathlib.Core.Path.{_≡_}
 use lib.ListN.{length, getD}
-use Rattle.model.specs.Line.{isLine, at, maxBytes}
+use Rattle.model.specs.Line.{Settings, isLine, at, maxBytes}
 use Rattle.model.specs.Text.{newline, spelt}
 use Rattle.model.specs.declared.Refusal.{Refusal}
 use Rattle.model.specs.declared.Refusal.the-variants.{TextTooLong}
@@ -14,12 +14,12 @@ use Rattle.model.specs.declared.LineAnswer.{LineAnswer}
 use Rattle.theory.specs.WellFormed.{Broken}
 
 -- each number of a plan is a line's
-abbrev pub AllLines : ℕ → List ℕ → Type 0
-AllLines D p = (i : ℕ) → i < length p → isLine D (at p i) ≡ true
+abbrev pub AllLines : Settings → List ℕ → Type 0
+AllLines S p = (i : ℕ) → i < length p → isLine S (at p i) ≡ true
 
 -- the first n numbers that a text spells are lines'
-abbrev pub FirstLines : ℕ → List ℕ → ℕ → Type 0
-FirstLines D text n = (i : ℕ) → i < n → isLine D (at (spelt D text) i) ≡ true
+abbrev pub FirstLines : Settings → List ℕ → ℕ → Type 0
+FirstLines S text n = (i : ℕ) → i < n → isLine S (at (spelt S text) i) ≡ true
 
 -- an answer that hands out no line
 pub data NoLine : LineAnswer → Type 0 where
@@ -35,6 +35,6 @@ pub record PastNewline (text : List ℕ) (offset place : ℕ) : Type 0 where
   pub noneBefore : (i : ℕ) → offset ≤ i → i < newlineAt → getD text i 0 ≢ newline
 
 -- what is broken in a text: its length, or else what is broken in the plan that it spells
-pub data TextBroken (D : ℕ) (text : List ℕ) : Refusal → Type 0 where
-  tooLong : maxBytes < length text → TextBroken D text TextTooLong
-  spells : (r : Refusal) → length text ≤ maxBytes → Broken D (spelt D text) r → TextBroken D text r
+pub data TextBroken (S : Settings) (text : List ℕ) : Refusal → Type 0 where
+  tooLong : maxBytes < length text → TextBroken S text TextTooLong
+  spells : (r : Refusal) → length text ≤ maxBytes → Broken S (spelt S text) r → TextBroken S text r

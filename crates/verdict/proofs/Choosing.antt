@@ -17,7 +17,7 @@ use Rattle.model.specs.Mate.{takesAt, deviceAt, mate, isNone, lastingAt}
 use Rattle.model.specs.WellFormed.{WellFormed}
 use Rattle.model.specs.Rows.{rows, Leads}
 use Rattle.model.specs.Handed.{undone, standing, goingOn, alone, lastingNext}
-use Rattle.model.specs.Board.{devices}
+use Rattle.model.specs.Board.{devices, board}
 use Rattle.theory.specs.Verdict.{LastsTwice}
 use Rattle.theory.proofs.Tests.{clash, test, and-split, and-both, le-or-lt}
 use Rattle.theory.proofs.Lists.{has-none, has-those, those-has, Answer, first-answer, Least, least-answer, left}
@@ -35,7 +35,7 @@ use Rattle.verdict.proofs.Standing.{not-above, job-fits, lasting-below,
 
 -- a plan that has an order: no device has two lasting takes, and none leads back to itself
 pub record Accepted (p : List ℕ) : Type 0 where
-  pub formed : WellFormed devices p
+  pub formed : WellFormed board p
   pub no-two : (d : ℕ) → LastsTwice p d → ⊥
   pub no-circle : (d : ℕ) → Leads (rows devices p) d d → ⊥
 
@@ -57,7 +57,7 @@ lasting-take p i h = and-split (takesAt p i) (isNone (mate p i)) h .0
 
 module _ {p done places counts : List ℕ} {wa : Waiting} (ok : Accepted p) (shows : Shows p (Stands p done) places wa)
     (all : Counted p done counts (wa .scarce)) where
-  abbrev w : WellFormed devices p
+  abbrev w : WellFormed board p
   w = ok .formed
 
   abbrev u : List ℕ
@@ -207,7 +207,7 @@ module _ {p done places counts : List ℕ} {wa : Waiting} (ok : Accepted p) (sho
         go : (n : ℕ) → n < length p → (has n done ≡ true) ⊎ (has n done ≡ false) → has n done ≡ true
         go n h (inl e) = e
         go n h (inr e) =
-            absurd (never-stuck devices p w (ok .no-two) (ok .no-circle) done none-goes n (undone-has p done n h e))
+            absurd (never-stuck board p w (ok .no-two) (ok .no-circle) done none-goes n (undone-has p done n h e))
 
   -- The place is that of the line chosen, while a line is undone.
   pub foremost-next : 1 ≤ left (among done) (length p) → GoesNext p done places (foremost wa)

@@ -19,13 +19,15 @@ use Rattle.model.specs.Line.{at, isTake, operand, maxLines}
 use Rattle.model.specs.Mate.{takesAt, deviceAt, takes}
 use Rattle.model.specs.Handed.{undone, alone}
 use Rattle.model.specs.WellFormed.{WellFormed}
-use Rattle.model.specs.Board.{devices}
+use Rattle.model.specs.Board.{devices, board}
 use Rattle.theory.specs.Outer.{againAt, plainAt}
 use Rattle.theory.proofs.Tests.{clash, test, falsely, tests-agree, or-left, or-right, and-split, and-both, and-second}
 use Rattle.theory.proofs.Tests.{and-right, and-true, le-or-lt}
 use Rattle.theory.proofs.Lists.{any-none, none-any, left, left-zero, left-none, left-same, left-one, left-all}
 use Rattle.theory.proofs.Sets.{member-union, member-empty}
 use Rattle.theory.proofs.Outer.{plain-operand, plain-take}
+use Rattle.theory.proofs.Claims.{outermost}
+use Rattle.rows.proofs.Counted.{taken-operand}
 use Rattle.theory.proofs.Progress.{has-undone, undone-has, device-below}
 use Rattle.theory.proofs.LineByLine.{more-new, has-other, more-not, not-more}
 use Rattle.line.proofs.Ranges.{or-none}
@@ -160,17 +162,18 @@ unfolding tallied added
 tallied-length p zero = refl
 tallied-length p (suc n) = length-set (tallied p n) (slot (plainAt p n)) _ ∙ tallied-length p n
 
-module _ (p : List ℕ) (w : WellFormed devices p) where
+module _ (p : List ℕ) (w : WellFormed board p) where
   -- an outermost take's entry is that of its device
   takes-slot : (k d : ℕ) → (isTake (plainAt p k) && eqb (slot (plainAt p k)) d) ≡ takes p k d
-  unfolding takes deviceAt
+  unfolding takes
   takes-slot k d = rw (plain-take p k, plain-operand (againAt p k) (at p k)) (go (takesAt p k) refl)
     where
-      go : (t : Bool) → takesAt p k ≡ t → (t && eqb (slot (at p k)) d) ≡ (t && eqb (operand (at p k)) d)
+      go : (t : Bool) → takesAt p k ≡ t → (t && eqb (slot (at p k)) d) ≡ (t && eqb (deviceAt p k) d)
       go false t = refl
       go true t =
-          let h = device-below devices p w k (deviceAt p k) (takes-own p k t) in
-          let z : slot (at p k) ≡ operand (at p k) = mod-eq-of-lt h in rw z
+          let own = taken-operand p k (outermost p k t .0) in
+          let h = rw own at (device-below board p w k (deviceAt p k) (takes-own p k t)) in
+          let z : slot (at p k) ≡ operand (at p k) = mod-eq-of-lt h in rw (z, own)
 
   pub tallied-takes : (n d : ℕ) → d < devices → getD (tallied p n) d 0 ≡ left (through p [] d) n
   unfolding tallied added left through has any
@@ -239,7 +242,7 @@ pub record Counted (p done counts : List ℕ) (scarce : ℕ) : Type 0 where
   pub counts-are : (d : ℕ) → d < devices → getD counts d 0 ≡ wanted p done d
   pub scarce-are : (d : ℕ) → d < devices → member scarce d ≡ leb (wanted p done d) 1
 
-module _ {p : List ℕ} (w : WellFormed devices p) where
+module _ {p : List ℕ} (w : WellFormed board p) where
   pub none-counted : Counted p [] (tallied p (length p)) (scarceBelow (tallied p (length p)) devices)
   unfolding wanted
   none-counted = record {

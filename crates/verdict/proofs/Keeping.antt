@@ -15,14 +15,15 @@ use Rattle.model.specs.Sets.{empty, member}
 use Rattle.model.specs.Line.{maxJob}
 use Rattle.model.specs.WellFormed.{WellFormed}
 use Rattle.model.specs.Handed.{undone, goingOn, lastingNext, handed}
-use Rattle.model.specs.Board.{devices}
+use Rattle.model.specs.Board.{devices, board}
 use Rattle.theory.specs.Outer.{plainAt}
 use Rattle.theory.proofs.Tests.{clash}
 use Rattle.theory.proofs.Lists.{has-none, left, left-one, left-every, among}
 use Rattle.theory.proofs.Sets.{member-empty}
 use Rattle.theory.proofs.Progress.{undone-has, Picked, stuck, goes, picked, never-stuck}
 use Rattle.theory.proofs.LineByLine.{chosen, linesAfter, lines-step, Stands, has-stands, goes-on, more-new, has-other}
-use Rattle.theory.proofs.LineByLine.{handed-line-by-line}
+use Rattle.theory.proofs.WellFormed.{no-held-in-morning}
+use Rattle.theory.proofs.Morning.{handed-line-by-line}
 use Rattle.verdict.specs.declared.waiting.Waiting.{Waiting}
 use Rattle.verdict.specs.declared.order.Choice.{Choice}
 use Rattle.verdict.specs.Waiting.{allPlaces, placeAt, waits, arrived, foremost, goesOn, lastingAfter, startedLine}
@@ -72,7 +73,7 @@ keeps-whole {p} {done} k full =
     sym (append-nil done) ∙ (rw z at (k .order))
 
 module _ {p : List ℕ} (ok : Accepted p) where
-  abbrev w : WellFormed devices p
+  abbrev w : WellFormed board p
   w = ok .formed
 
   -- ---- at the start
@@ -88,7 +89,7 @@ module _ {p : List ℕ} (ok : Accepted p) where
     where
       go : (o : Option ℕ) → Picked p (undone p []) o → o ≡ some 0
       go none (stuck f) =
-          absurd (never-stuck devices p w (ok .no-two) (ok .no-circle) [] f 0 (undone-has p [] 0 h refl))
+          absurd (never-stuck board p w (ok .no-two) (ok .no-circle) [] f 0 (undone-has p [] 0 h refl))
       go (some i) (goes j s c) = ap {B = Option ℕ} some (stands-first w i (has-stands p [] i s))
 
   pub keeps-first : Keeps p [] (replicate allPlaces 0) (tallied p (length p))
@@ -104,7 +105,7 @@ module _ {p : List ℕ} (ok : Accepted p) where
     };
     counts-all = none-counted w;
     rest = omega (arith, left-every (length p));
-    order = rw (left-every (length p)) (sym (handed-line-by-line p (w .rules)));
+    order = rw (left-every (length p)) (sym (handed-line-by-line p (no-held-in-morning devices p w) (w .rules)));
   }
     where
       scarce : ℕ

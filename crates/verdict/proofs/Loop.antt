@@ -10,18 +10,18 @@ use lib.ListN.{length, getD, set, drop, replicate, length-append, length-drop, l
 use lib.Seq.{drop-cons, set-at}
 use Rattle.model.specs.Lists.{over}
 use Rattle.model.specs.Line.{lineNumber}
-use Rattle.model.specs.WellFormed.{fault}
+use Rattle.model.specs.WellFormed.{WellFormed, fault}
 use Rattle.model.specs.Rows.{rows}
 use Rattle.model.specs.Handed.{handed}
 use Rattle.model.specs.Verdict.{noOrder}
-use Rattle.model.specs.Board.{devices}
+use Rattle.model.specs.Board.{devices, board}
 use Rattle.model.specs.declared.Refusal.{Refusal}
 use Rattle.theory.specs.Outer.{plainAt}
 use Rattle.theory.proofs.Lists.{left, among}
 use Rattle.theory.proofs.OnlyIf.{length-rows}
-use Rattle.theory.proofs.Places.{lasting-parts}
+use Rattle.theory.proofs.Places.{keeps-parts}
 use Rattle.theory.proofs.Rows.{leads-below}
-use Rattle.theory.proofs.Progress.{device-below}
+use Rattle.theory.proofs.Progress.{grips-below}
 use Rattle.theory.proofs.WellFormed.{no-fault-exactly}
 use Rattle.theory.proofs.Verdict.{OrderView, accepted, order-view}
 use Rattle.verdict.specs.declared.waiting.Waiting.{Waiting}
@@ -36,14 +36,17 @@ use Rattle.verdict.proofs.Keeping.{idle, Chooses, Keeps, keeps-first, k
 use Rattle.verdict.proofs.Keeping.{keeps-whole}
 
 -- where an order is handed out, no device has two lasting takes and none leads back to itself
-is-accepted : (p : List ℕ) → fault devices p ≡ none → noOrder devices p ≡ none → Accepted p
-is-accepted p sound e = go (noOrder devices p) e (order-view devices p)
+is-accepted : (p : List ℕ) → fault board p ≡ none → noOrder devices p ≡ none → Accepted p
+is-accepted p sound e = go (noOrder devices p) e (order-view board p w)
   where
+    w : WellFormed board p
+    w = no-fault-exactly board p .0 sound
+
     go : (o : Option Refusal) → o ≡ none → OrderView devices p o → Accepted p
-    go none q (accepted f g) =
-        let w = no-fault-exactly devices p .0 sound in record {
+    go none q (accepted f g k o) =
+        record {
           formed = w;
-          no-two = λ d t. f d (device-below devices p w (t .i) d (lasting-parts p (t .i) d (t .i-lasts) .0)) t;
+          no-two = λ d t. f d (grips-below board p w (t .i) d (keeps-parts p (t .i) d (t .i-lasts) .0)) t;
           no-circle = λ d l. g d (rw (length-rows devices p) at (leads-below (rows devices p) d d l)) l;
         }
     go (some r) q v = absurd (Option·none-ne-some r (sym q))

@@ -16,14 +16,16 @@ use Rattle.model.specs.Line.{job, kind, operand, isStart, starts, at, hasLines,
 use Rattle.model.specs.Mate.{deviceAt, lastingAt}
 use Rattle.model.specs.WellFormed.{WellFormed}
 use Rattle.model.specs.Legal.{precedes}
-use Rattle.model.specs.Board.{devices}
+use Rattle.model.specs.Board.{devices, board}
 use Rattle.theory.proofs.Tests.{clash, test, falsely, and-split, and-both, le-or-lt}
 use Rattle.theory.proofs.Line.{start-parts, start-of, start-operand, line-parts}
 use Rattle.theory.proofs.WellFormed.{any-line, start-line}
 use Rattle.theory.proofs.Successors.{earlier-precedes, start-precedes, Why, sameJob, starter, why}
 use Rattle.theory.proofs.Successors.{jobs-grow, precedes-reaches}
 use Rattle.theory.specs.Verdict.{LastsTwice}
-use Rattle.theory.proofs.Places.{lasting-parts}
+use Rattle.theory.proofs.Places.{lasting-parts, lasting-keeps}
+use Rattle.theory.proofs.Claims.{outermost}
+use Rattle.rows.proofs.Counted.{lasting-takes, taken-operand}
 use Rattle.theory.proofs.Progress.{lasting-own, device-below}
 use Rattle.theory.proofs.LineByLine.{Stands, LowestIs, stood, more-old, more-only, more-not, not-more}
 use Rattle.plan.specs.Jobs.{firstLines}
@@ -71,7 +73,7 @@ pub record Starts (p : List ℕ) (x : ℕ) : Type 0 where
   pub listed : getD (firstLines p) (operand (at p x)) 0 ≡ suc (startedLine p x)
   pub begun : Begun p x (startedLine p x)
 
-pub the-start : {p : List ℕ} → WellFormed devices p → (x : ℕ) → isStart (at p x) ≡ true → Starts p x
+pub the-start : {p : List ℕ} → WellFormed board p → (x : ℕ) → isStart (at p x) ≡ true → Starts p x
 unfolding startedLine isStart hasLines
 the-start {p} w x e =
     let f = first-listed p j (k .0) small (k .1) (eqb-true (job (at p (k .0))) j (k .2)) in
@@ -95,9 +97,9 @@ the-start {p} w x e =
     k = any-line (λ l. eqb (job l) j) p (w .rules .startHasLines x j s)
 
     small : j ≤ maxJob
-    small = start-operand devices (at p x) (w .lines x (start-line p x j s)) (eqb-true (kind (at p x)) 3 e)
+    small = start-operand board (at p x) (w .lines x (start-line p x j s)) (eqb-true (kind (at p x)) 3 e)
 
-started-at : {p : List ℕ} → WellFormed devices p → (x : ℕ) → startedLine p x < length p → Begun p x (startedLine p x)
+started-at : {p : List ℕ} → WellFormed board p → (x : ℕ) → startedLine p x < length p → Begun p x (startedLine p x)
 unfolding startedLine
 started-at {p} w x h = go (test (isStart (at p x)))
   where
@@ -109,8 +111,8 @@ started-at {p} w x h = go (test (isStart (at p x)))
 
 module _ (p : List ℕ) (i : ℕ) where
   pub place-lasting : lastingAt p i ≡ true → placeAt p i ≡ maxJob + deviceAt p i
-  unfolding placeAt deviceAt
-  place-lasting e = rw e
+  unfolding placeAt
+  place-lasting e = rw (e, taken-operand p i (outermost p i (lasting-takes p i e) .0))
 
   pub place-job : lastingAt p i ≡ false → placeAt p i ≡ job (at p i) - 1
   unfolding placeAt
@@ -130,13 +132,13 @@ pub not-above : {p done : List ℕ} {i k : ℕ} → Stands p done i → Stands p
 not-above {p} {done} {i} {k} s t e l =
     clash (precedes p i k) (earlier-precedes p i k l e) (t .first i (s .line) (s .waiting))
 
-module _ {p : List ℕ} (w : WellFormed devices p) where
+module _ {p : List ℕ} (w : WellFormed board p) where
   pub job-fits : (i : ℕ) → i < length p → (1 ≤ job (at p i)) × (job (at p i) ≤ maxJob)
-  job-fits i h = let r = line-parts devices (at p i) (w .lines i h) in (r .0, r .1)
+  job-fits i h = let r = line-parts board (at p i) (w .lines i h) in (r .0, r .1)
 
   pub lasting-below : (i : ℕ) → lastingAt p i ≡ true → deviceAt p i < devices
   lasting-below i e =
-      device-below devices p w i (deviceAt p i) (lasting-parts p i (deviceAt p i) (lasting-own p i e) .0)
+      device-below board p w i (deviceAt p i) (lasting-parts p i (deviceAt p i) (lasting-own p i e) .0)
 
   pub place-below : (i : ℕ) → i < length p → placeAt p i < allPlaces
   place-below i h = go (test (lastingAt p i))
@@ -166,8 +168,8 @@ module _ {p : List ℕ} (w : WellFormed devices p) where
             i = i;
             k = k;
             apart = eqb-false i k q;
-            i-lasts = rw same at (lasting-own p i a);
-            k-lasts = lasting-own p k b;
+            i-lasts = lasting-keeps p i (deviceAt p k) (rw same at (lasting-own p i a));
+            k-lasts = lasting-keeps p k (deviceAt p k) (lasting-own p k b);
           }))
 
       one : job (at p i) ≡ job (at p k) → (i ≤ k) ⊎ (k < i) → (k ≤ i) ⊎ (i < k) → i ≡ k
@@ -209,7 +211,7 @@ module _ {p : List ℕ} (w : WellFormed devices p) where
           (s .first 0 nonempty refl)
       go (inr q) (inr c) =
           let r = any-line (λ l. starts l (job (at p i))) p
-          (w .rules .started i (s .line) (eqb-false (job (at p i)) 1 c)) in
+          (w .started refl i (s .line) (eqb-false (job (at p i)) 1 c)) in
           clash (precedes p (r .0) i) (start-precedes p (r .0) i (r .2)) (s .first (r .0) (r .1) refl)
 
   -- ---- a line is done

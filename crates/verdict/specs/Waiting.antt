@@ -15,7 +15,7 @@ use Rattle.model.specs.Sets.{empty, union, member, lowestOf}
 use Rattle.model.specs.Line.{job, operand, isTake, isStart, at, maxLines, maxJob}
 use Rattle.model.specs.Mate.{lastingAt}
 use Rattle.model.specs.WellFormed.{fault}
-use Rattle.model.specs.Board.{devices}
+use Rattle.model.specs.Board.{devices, board}
 use Rattle.theory.specs.Outer.{plainAt}
 use Rattle.sets.specs.Only.{onlyOf}
 use Rattle.sets.specs.Both.{both, without}
@@ -28,7 +28,7 @@ use Rattle.verdict.specs.declared.order.Choice.{Choice}
 
 -- it has no fault, and 1 stands for each lasting take, 0 for every other line
 pub record Marked (p lasting : List ℕ) : Type 0 where
-  pub sound : fault devices p ≡ none
+  pub sound : fault board p ≡ none
   pub marks : lasting ≡ lastingFlags p
 
 -- ---- places: those of the jobs, job j at j - 1, and past them those of the devices

@@ -8,6 +8,7 @@ use board::Set;
 use model::Refusal;
 use model::VerdictAnswer;
 use rows::HoldsAnswer;
+ghost use Rattle.model.specs.Board.{board};
 ghost use Rattle.promises.specs.Verdict.{OrdersAs};
 ghost use Rattle.verdict.specs.Findings.{Findings};
 
@@ -27,7 +28,7 @@ fn decide(
     order: &mut [u16],
 ) -> VerdictAnswer
     requires { ⌜ Findings (now plan) (now first) (now again) (now rows) (now lasting) held twice ⌝ }
-    ensures { λ r. ⌜ OrdersAs (now (plan .entry)) (now (order .entry)) r (now (order .exit)) ⌝ }
+    ensures { λ r. ⌜ OrdersAs board (now (plan .entry)) (now (order .entry)) r (now (order .exit)) ⌝ }
 {
     let n = plan.len();
     if order.len() < n {
@@ -48,7 +49,7 @@ fn decide(
 // The verdict on any list of numbers: the order's line numbers into the front of the lent list; a refusal leaves the
 // list as it was.
 pub fn verdict(plan: &[u32], order: &mut [u16]) -> VerdictAnswer
-    ensures { λ r. ⌜ OrdersAs (now (plan .entry)) (now (order .entry)) r (now (order .exit)) ⌝ }
+    ensures { λ r. ⌜ OrdersAs board (now (plan .entry)) (now (order .entry)) r (now (order .exit)) ⌝ }
 {
     let mut first = [0u32; EACH_JOB];
     let mut again = [0u8; MOST_LINES];

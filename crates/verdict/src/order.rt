@@ -22,7 +22,7 @@ ghost use Rattle.model.specs.Line.{lineNumber, job};
 ghost use Rattle.model.specs.WellFormed.{fault};
 ghost use Rattle.model.specs.Handed.{handed};
 ghost use Rattle.model.specs.Verdict.{noOrder};
-ghost use Rattle.model.specs.Board.{devices};
+ghost use Rattle.model.specs.Board.{devices, board};
 ghost use Rattle.theory.specs.Outer.{plainAt};
 ghost use Rattle.plan.specs.Again.{againFlags};
 ghost use Rattle.plan.specs.Jobs.{FirstsListed};
@@ -184,7 +184,7 @@ fn count(counts: &mut [u32; EACH_DEVICE], l: u32)
 
 // How many lines take each device. `again` has the flags of the lines that take again.
 fn tally(plan: &[u32], again: &[u8; MOST_LINES]) -> [u32; EACH_DEVICE]
-    requires { ⌜ (fault devices (now plan) ≡ none) × (now again ≡ againFlags (now plan)) ⌝ }
+    requires { ⌜ (fault board (now plan) ≡ none) × (now again ≡ againFlags (now plan)) ⌝ }
     ensures { λ r. ⌜ r ≡ tallied (now (plan .entry)) (length (now (plan .entry))) ⌝ }
 {
     let mut counts = [0u32; EACH_DEVICE];

@@ -13,7 +13,7 @@ use borrow.Author.Tests.{eqb-true, eqb-false, ne-eqb}
 use Rattle.model.specs.Lists.{has}
 use Rattle.model.specs.Sets.{empty, unionOf}
 use Rattle.model.specs.Line.{job, kind, operand, isStart, starts, at, lineNumber, hasLines, firstLine}
-use Rattle.model.specs.Board.{devices}
+use Rattle.model.specs.Board.{boardAt}
 use Rattle.model.specs.WellFormed.{WellFormed}
 use Rattle.model.specs.Claims.{joined}
 use Rattle.model.specs.Move.{rejoined}
@@ -52,7 +52,7 @@ past-others (suc n) j (l ∷ p) (s ∷ t) room f =
     past-others n j p t (omega arith) (λ k lt. f (suc k) (omega arith))
     ∙ sym (set-there s l t p j (ne-eqb (job l) j (f 0 (omega arith))))
 
-module _ (p t : List ℕ) (w : WellFormed devices p) (room : length p ≤ length t) (i : ℕ) (h : i < length p) where
+module _ (p t : List ℕ) (w : WellFormed (boardAt true) p) (room : length p ≤ length t) (i : ℕ) (h : i < length p) where
   -- ---- the next line
 
   -- past the end stands 0, which is of no job
@@ -78,7 +78,7 @@ module _ (p t : List ℕ) (w : WellFormed devices p) (room : length p ≤ length
       inside : job (at p (suc i)) ≡ job (at p i) → (length p ≤ suc i) ⊎ (suc i < length p) → suc i < length p
       inside e (inl le) =
           let z : at p (suc i) ≡ 0 = List·getD-eq-default p 0 le in
-          absurd (omega (arith, ap job z, line-parts devices (at p i) (w .lines i h) .0))
+          absurd (omega (arith, ap job z, line-parts (boardAt true) (at p i) (w .lines i h) .0))
       inside e (inr lt) = lt
 
       go : (eqb (job (at p (suc i))) (job (at p i)) ≡ true) ⊎ (eqb (job (at p (suc i))) (job (at p i)) ≡ false)
@@ -108,7 +108,7 @@ module _ (p t : List ℕ) (w : WellFormed devices p) (room : length p ≤ length
     first-is-there : getD (empty ∷ t) (getD (firstLines p) j 0) 0 ≡ setOf (drop (suc i) t) (drop (suc i) p) j
     unfolding j isStart hasLines numberOfFirst lineNumber joined unionOf
     first-is-there =
-        rw (first-at-job p j (start-operand devices (at p i) (w .lines i h) (eqb-true (kind (at p i)) 3 s)))
+        rw (first-at-job p j (start-operand (boardAt true) (at p i) (w .lines i h) (eqb-true (kind (at p i)) 3 s)))
         (go (firstLine j p) refl (at-most-one j p))
         ∙ sym (past-others (suc i) j p t room above)
       where
@@ -139,4 +139,4 @@ module _ (p t : List ℕ) (w : WellFormed devices p) (room : length p ≤ length
   unfolding rejoinedBy claimWith ownOf rejoined
   rejoined-is =
       rw (plain-is p (againFlags p) i refl (omega (arith, w .few)))
-      (cc (own-is devices p i (w .lines i h), beyond-is p t i, next-is, begun-is))
+      (cc (own-is (boardAt true) p i (w .lines i h), beyond-is p t i, next-is, begun-is))

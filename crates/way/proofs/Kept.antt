@@ -9,7 +9,7 @@ use lib.Dec.{eqb}
 use lib.ListN.{length, getD, set, length-set}
 use borrow.Author.Tests.{lt-ltb, le-leb}
 use Rattle.model.specs.Lists.{upFrom, has, firstOf}
-use Rattle.model.specs.Board.{devices}
+use Rattle.model.specs.Board.{boardAt}
 use Rattle.model.specs.Line.{at}
 use Rattle.model.specs.WellFormed.{WellFormed}
 use Rattle.model.specs.Move.{way, under, rejoined, stale, rewritten}
@@ -30,7 +30,7 @@ use Rattle.way.proofs.Joins.{rejoined-is}
 
 -- ---- along any lines
 
-module _ (p : List ℕ) (w : WellFormed devices p) where
+module _ (p : List ℕ) (w : WellFormed (boardAt true) p) where
   stale-is : (t : List ℕ) → length p ≤ length t → (is : List ℕ) → ((k : ℕ) → has k is ≡ true → k < length p)
       → firstOf (staleBy p (againFlags p) (firstLines p) t) is ≡ firstOf (stale p t) is
   unfolding firstOf staleBy stale
@@ -57,7 +57,7 @@ module _ {p t first starter again : List ℕ} (k : Known p t first starter again
   way-known =
       rw (k .scan .starts, lt-ltb i (length p) h, lt-ltb i (length t) (omega (arith, k .room)))
       (walk-is p (k .scan .wellFormed .rules)
-      (λ i lt. line-parts devices (at p i) (k .scan .wellFormed .lines i lt) .1) (suc i) (suc i) (omega arith) h)
+      (λ i lt. line-parts (boardAt true) (at p i) (k .scan .wellFormed .lines i lt) .1) (suc i) (suc i) (omega arith) h)
 
   pub stale-known : (r : Found) → r ≡ found (firstOf (staleBy p again first t) (wayBy p t starter i))
       → r ≡ found (firstOf (stale p t) (way p i))

@@ -11,9 +11,9 @@ use lib.Dec.{ltb}
 use lib.ListN.{length, set, length-append, length-replicate}
 use lib.Seq.{set-set}
 use borrow.Author.Tests.{lt-ltb, le-ltb}
-use Rattle.model.specs.Line.{job, kind, operand}
+use Rattle.model.specs.Line.{job, kind, operand, isHeld}
 use Rattle.model.specs.Text.{tab, newline, decimal, verb, tabbed, lineText}
-use Rattle.theory.proofs.Line.{kind-small}
+use Rattle.theory.proofs.Line.{kind-small, verb-kind, own-device}
 use Rattle.theory.proofs.Numbers.{decimal-small, decimal-step}
 use Rattle.theory.proofs.Tests.{le-or-lt}
 use Rattle.fields.specs.Puts.{PutsAs, placeAfter}
@@ -88,6 +88,7 @@ module _ (n at : ℕ) (old : List ℕ) (h : n ≤ 255) (room : at + length (deci
 -- a line and its three parts, and room for it at a place
 pub record Asked (l at : ℕ) (old : List ℕ) (j k o : ℕ) : Type 0 where
   pub short : job l ≤ 255
+  pub unheld : isHeld l ≡ false
   pub bound : length old < 2 ^ 63
   pub room : at + length (lineText l) ≤ length old
   pub is-job : j ≡ job l
@@ -115,7 +116,7 @@ module _ {l at : ℕ} {old : List ℕ} {j k o : ℕ} (q : Asked l at old j k o) 
 
   whole : lineText l ≡ decimal j ++ (tab ∷ (verb k ++ (tab ∷ (decimal o ++ (newline ∷ [])))))
   unfolding lineText tabbed
-  whole = rw (q .is-job, q .is-kind, q .is-operand)
+  whole = rw (verb-kind l (q .unheld), own-device l (q .unheld), q .is-job, q .is-kind, q .is-operand)
 
   lengths : Lengths at old j k o
   lengths =

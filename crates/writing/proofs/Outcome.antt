@@ -8,7 +8,7 @@ use lib.ListN.{length}
 use borrow.Author.Tests.{lt-ltb, le-ltb}
 use Rattle.model.specs.Lists.{over}
 use Rattle.model.specs.Answers.{refuseIf, firstRefusal, tooShort}
-use Rattle.model.specs.Board.{devices}
+use Rattle.model.specs.Board.{board}
 use Rattle.model.specs.Line.{maxBytes}
 use Rattle.model.specs.Text.{textOf}
 use Rattle.model.specs.WellFormed.{fault}
@@ -24,35 +24,35 @@ use Rattle.promises.specs.Text.{WritesAs}
 use Rattle.promises.proofs.Tight.{by-refusal, by-none}
 
 -- the text of a plan without a fault has at most so many bytes
-pub text-fits : (p : List ℕ) → fault devices p ≡ none → length (textOf p) ≤ maxBytes
+pub text-fits : (p : List ℕ) → fault board p ≡ none → length (textOf p) ≤ maxBytes
 text-fits p e =
-    let w = no-fault-exactly devices p .0 e in omega (arith, text-length devices p (w .lines), w .few)
+    let w = no-fault-exactly board p .0 e in omega (arith, text-length board p (w .lines), w .few)
 
 module _ (p lent : List ℕ) where
   tests : Option Refusal
-  tests = firstRefusal (fault devices p ∷ tooShort (length lent) (length (textOf p)) ∷ [])
+  tests = firstRefusal (fault board p ∷ tooShort (length lent) (length (textOf p)) ∷ [])
 
-  refused : (r : Refusal) → tests ≡ some r → WritesAs p lent (WriteAnswer.Refused r) lent
+  refused : (r : Refusal) → tests ≡ some r → WritesAs board p lent (WriteAnswer.Refused r) lent
   unfolding writing tests
   refused r e =
       by-refusal WriteAnswer.Refused (WriteAnswer.Bytes (length (textOf p))) (over (textOf p) lent) lent tests r e
 
   -- 2 to 7
-  pub faulty : (r : Refusal) → fault devices p ≡ some r → WritesAs p lent (WriteAnswer.Refused r) lent
+  pub faulty : (r : Refusal) → fault board p ≡ some r → WritesAs board p lent (WriteAnswer.Refused r) lent
   unfolding tests firstRefusal
   faulty r e = refused r (rw e)
 
   -- the text put from the buffer's start on, where no test of the plan refused
-  module _ (e : fault devices p ≡ none) (n : ℕ) (f : n ≡ length (textOf p)) {past : ℕ} {left : List ℕ}
+  module _ (e : fault board p ≡ none) (n : ℕ) (f : n ≡ length (textOf p)) {past : ℕ} {left : List ℕ}
       (x : PutsAs (textOf p) 0 lent past left) where
     -- 11
-    pub short : length lent < past → WritesAs p lent (WriteAnswer.Refused (ListTooShort n)) left
+    pub short : length lent < past → WritesAs board p lent (WriteAnswer.Refused (ListTooShort n)) left
     unfolding tests firstRefusal tooShort refuseIf
     short h =
         let u = unfitted x h in
         rw (u .1) (refused (ListTooShort n) (rw (e, ← f, lt-ltb (length lent) n (omega (arith, u .0)))))
 
-    pub written : past ≤ length lent → WritesAs p lent (WriteAnswer.Bytes n) left
+    pub written : past ≤ length lent → WritesAs board p lent (WriteAnswer.Bytes n) left
     unfolding writing tests firstRefusal tooShort refuseIf
     written h =
         rw f

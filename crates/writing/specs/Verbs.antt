@@ -3,7 +3,7 @@
 use Prim.Native.Nat.{ℕ, _+_, _-_, _*_}
 use mathlib.Core.List.{List, [], _∷_, _++_, flatMap}
 use mathlib.Core.Path.{_≡_}
-use lib.ListN.{length, replicate}
+use lib.ListN.{length, take, replicate}
 use Rattle.model.specs.Text.{verbs, verb}
 use Rattle.fields.specs.Puts.{withBytes}
 
@@ -14,9 +14,10 @@ spare word = replicate (5 - length word) 0
 unfoldable pub row : List ℕ → List ℕ
 row word = word ++ spare word ++ (length word ∷ [])
 
+-- those that a plan of the morning has
 unfoldable pub verbTable : List ℕ
 unfolding row verbs flatMap
-verbTable = flatMap row verbs
+verbTable = flatMap row (take 4 verbs)
 
 -- a table with a verb in the row of its kind
 unfoldable pub withRow : ℕ → List ℕ → List ℕ → List ℕ

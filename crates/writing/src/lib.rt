@@ -5,11 +5,11 @@ use model::Refusal;
 use model::WriteAnswer;
 use plan::Checked;
 ghost use Prim.Native.Nat.{ℕ, _+_, _≤_, _<_};
-ghost use mathlib.Core.Bool.{true};
+ghost use mathlib.Core.Bool.{true, false};
 ghost use mathlib.Core.Path.{_≡_};
 ghost use lib.ListN.{length};
-ghost use Rattle.model.specs.Board.{devices};
-ghost use Rattle.model.specs.Line.{at, isLine, job};
+ghost use Rattle.model.specs.Board.{board};
+ghost use Rattle.model.specs.Line.{at, isLine, isHeld, job};
 ghost use Rattle.model.specs.Text.{decimal, lineText, textOf};
 ghost use Rattle.fields.specs.Puts.{PutsAs};
 ghost use Rattle.promises.specs.Text.{WritesAs};
@@ -74,7 +74,8 @@ fn put_small(made: &mut [u8], at: usize, n: u32) -> usize
 
 // A line: a job and a verb, each with its tab, and an operand with its newline.
 fn put_line(made: &mut [u8], at: usize, table: &[u8], l: u32) -> usize
-    requires { ⌜ (job l ≤ 255) × (at + length (lineText l) ≤ length (now made)) × (now table ≡ verbTable) ⌝ }
+    requires { ⌜ (job l ≤ 255) × (isHeld l ≡ false) × (at + length (lineText l) ≤ length (now made))
+        × (now table ≡ verbTable) ⌝ }
     ensures { λ r. ⌜ PutsAs (lineText l) at (now (made .entry)) r (now (made .exit)) ⌝ }
 {
     let j = line::job(l);
@@ -93,7 +94,7 @@ fn put_line(made: &mut [u8], at: usize, table: &[u8], l: u32) -> usize
 
 // The lines of a plan, one behind another.
 fn make(plan: &[u32], made: &mut [u8]) -> usize
-    requires { ⌜ ((k : ℕ) → k < length (now plan) → isLine devices (at (now plan) k) ≡ true)
+    requires { ⌜ ((k : ℕ) → k < length (now plan) → isLine board (at (now plan) k) ≡ true)
         × (length (textOf (now plan)) ≤ length (now made)) ⌝ }
     ensures { λ r. ⌜ PutsAs (textOf (now (plan .entry))) 0 (now (made .entry)) r (now (made .exit)) ⌝ }
 {
@@ -110,7 +111,7 @@ fn make(plan: &[u32], made: &mut [u8]) -> usize
 // A packed plan into a lent buffer of bytes. It is made in full first, since a buffer that is too short is left as it
 // was.
 pub fn write(plan: &[u32], text: &mut [u8]) -> WriteAnswer
-    ensures { λ r. ⌜ WritesAs (now (plan .entry)) (now (text .entry)) r (now (text .exit)) ⌝ }
+    ensures { λ r. ⌜ WritesAs board (now (plan .entry)) (now (text .entry)) r (now (text .exit)) ⌝ }
 {
     if let Checked::Refused(r) = plan::fault(plan) {
         return WriteAnswer::Refused(r);

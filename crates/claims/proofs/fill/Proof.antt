@@ -5,7 +5,7 @@ use mathlib.Core.Path.{_≡_, _∙_, ap}
 use native.Mathlib.Omega.{arith}
 use lib.ListN.{length}
 use borrow.Author.Needs.{needs}
-use Rattle.model.specs.Board.{devices}
+use Rattle.model.specs.Board.{board}
 use Rattle.model.specs.Line.{job, isLine, at, maxLines}
 use Rattle.model.specs.WellFormed.{WellFormed}
 use Rattle.theory.specs.Outer.{againAt, plainAt}
@@ -27,8 +27,8 @@ abbrev μ-loop : tie.MeasureT-loop
 loop-holds : tie.Need-loop-holds Inv-loop μ-loop
 loop-holds c = let a = c .before .before .args in none-done (a .plan .now) (a .sets .now)
 
-well-formed : (s : tie.Start Inv-loop μ-loop) → WellFormed devices (s .args .plan .now)
-well-formed s = no-fault-exactly devices (s .args .plan .now) .0 (s .pre .0)
+well-formed : (s : tie.Start Inv-loop μ-loop) → WellFormed board (s .args .plan .now)
+well-formed s = no-fault-exactly board (s .args .plan .now) .0 (s .pre .0)
 
 element-copy-out-plain : tie.Need-element-copy-out-plain Inv-loop μ-loop
 element-copy-out-plain c =
@@ -51,7 +51,7 @@ module _ (c : tie.After-job Inv-loop μ-loop) where
   inPlan : k < length (s .args .plan .now)
   inPlan = omega (arith, c .before .before .before .before .before .loop .inv .inPlan)
 
-  line-at : isLine devices (at (s .args .plan .now) k) ≡ true
+  line-at : isLine board (at (s .args .plan .now) k) ≡ true
   line-at = well-formed s .lines k inPlan
 
   counts : c .before .plain .result ≡ plainAt (s .args .plan .now) k
@@ -64,7 +64,7 @@ module _ (c : tie.After-job Inv-loop μ-loop) where
       c .job .ensures ∙ ap job counts ∙ plain-job (againAt (s .args .plan .now) k) (at (s .args .plan .now) k)
 
   job-at : c .job .result < operands
-  job-at = rw job-is (job-place devices _ line-at)
+  job-at = rw job-is (job-place board _ line-at)
 
 loop-again : tie.Need-loop-again Inv-loop μ-loop
 loop-again c =

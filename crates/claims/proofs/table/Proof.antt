@@ -4,7 +4,7 @@ use mathlib.Core.Path.{_≡_, sym, _∙_}
 use native.Mathlib.Omega.{arith}
 use borrow.Author.Needs.{needs}
 use Rattle.model.specs.WellFormed.{WellFormed, fault}
-use Rattle.model.specs.Board.{devices}
+use Rattle.model.specs.Board.{board}
 use Rattle.theory.proofs.WellFormed.{no-fault-exactly}
 use Rattle.plan.specs.Again.{againFlags}
 use Rattle.plan.proofs.Answers.{told, untold}
@@ -16,13 +16,13 @@ use Rattle.claims.proofs.table.Tie as tie
 abbrev entry : tie.After-enum-told → tie.Start
 entry c = c .before .before .before .before .before .before .before .before
 
-no-fault : (c : tie.After-enum-told) → fault devices (entry c .args .plan .now) ≡ none
+no-fault : (c : tie.After-enum-told) → fault board (entry c .args .plan .now) ≡ none
 no-fault c =
-    untold (fault devices (entry c .args .plan .now))
+    untold (fault board (entry c .args .plan .now))
     (sym (c .enum-told .given .1) ∙ c .before .before .scan .ensures .answers)
 
-well-formed : (c : tie.After-enum-told) → WellFormed devices (entry c .args .plan .now)
-well-formed c = no-fault-exactly devices (entry c .args .plan .now) .0 (no-fault c)
+well-formed : (c : tie.After-enum-told) → WellFormed board (entry c .args .plan .now)
+well-formed c = no-fault-exactly board (entry c .args .plan .now) .0 (no-fault c)
 
 -- and the flags are its
 flags : (c : tie.After-enum-told) → c .before .before .scan .last .1 .1 .1 .0 ≡ againFlags (entry c .args .plan .now)
@@ -35,7 +35,7 @@ returns c =
     let a = at-fault .before .before .before .before .before .before .args in
     let r = c .before .r .given .0 .0 in
     faulty (a .plan .now) (a .sets .now) r
-    (told (fault devices (a .plan .now)) r (sym (c .before .r .given .1) ∙ at-fault .scan .ensures .answers))
+    (told (fault board (a .plan .now)) r (sym (c .before .r .given .1) ∙ at-fault .scan .ensures .answers))
 
 -- 11
 returns-2 : tie.Need-returns-2

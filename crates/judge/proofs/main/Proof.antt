@@ -6,7 +6,7 @@ use native.Mathlib.Omega.{arith}
 use lib.ListN.{length, replicate, length-replicate}
 use lib.Seq.{length-take-le}
 use borrow.Author.Needs.{needs}
-use Rattle.model.specs.Board.{devices}
+use Rattle.model.specs.Board.{board}
 use Rattle.model.specs.Judged.{partingLine, judgePrinted}
 use Rattle.theory.proofs.LaterBytes.{later-bytes-print-nothing}
 use Rattle.shell.specs.Input.{Within}
@@ -39,7 +39,7 @@ write-printed-requires : tie.Need-write-printed-requires
 write-printed-requires c κs input front =
     let p = c .before .before .print in
     front-at-start (p .ensures) (put-within _ (p .ensures) (omega (arith, room)))
-    ∙ ap (judgePrinted devices) front ∙ later-bytes-print-nothing devices input
+    ∙ ap (judgePrinted board) front ∙ later-bytes-print-nothing board input
 
 pub main-spec : {M : Type 1} → statement M
 main-spec =

@@ -5,6 +5,7 @@ use native.Mathlib.Omega.{arith}
 use lib.ListN.{length, replicate, length-replicate}
 use lib.Seq.{length-take-le}
 use borrow.Author.Needs.{needs}
+use Rattle.model.specs.Board.{board}
 use Rattle.model.specs.Line.{maxLines}
 use Rattle.promises.proofs.WasRead.{read-few}
 use Rattle.judged.proofs.Answering.{prints-fault, prints-answer}
@@ -19,7 +20,7 @@ abbrev at-read : tie.After-known-told → tie.After-read
 at-read c = c .before .before .before .before
 
 few : (c : tie.After-known-told) → c .before .n .given .0 .0 ≤ maxLines
-few c = read-few _ _ (at-read c .read .ensures) (c .before .n .given .1)
+few c = read-few board _ _ (at-read c .read .ensures) (c .before .n .given .1)
 
 array-share-prefix-plan : tie.Need-array-share-prefix-plan
 array-share-prefix-plan c = omega (arith, few (c .before), at-read (c .before) .read .kept .1 .0, long)

@@ -2,7 +2,7 @@
 use mathlib.Core.Path.{sym, _∙_}
 use native.Mathlib.Omega.{arith}
 use borrow.Author.Needs.{needs}
-use Rattle.model.specs.Board.{devices}
+use Rattle.model.specs.Board.{board}
 use Rattle.model.specs.Kept.{Beside}
 use Rattle.promises.specs.Kept.{beside, HasRoom}
 use Rattle.theory.proofs.WellFormed.{no-fault-exactly}
@@ -56,7 +56,7 @@ length-fits c =
     let p = entry (walk f) .args .plan .now in
     omega (
       arith,
-      no-fault-exactly devices p .0 (told-sets p (sym (f .to-end .given .1) ∙ walk f .tabled .ensures .answers) .0)
+      no-fault-exactly board p .0 (told-sets p (sym (f .to-end .given .1) ∙ walk f .tabled .ensures .answers) .0)
           .few,
     )
 

@@ -7,18 +7,16 @@ use native.Mathlib.Nat.{suc-sub-suc, sub-zero}
 use lib.ListN.{length, getD, List·getD-eq-default}
 use borrow.Author.Needs.{needs}
 use Rattle.model.specs.Line.{operand}
-use Rattle.model.specs.Mate.{deviceAt}
-use Rattle.kept.specs.Keeping.{deviceOf}
+use Rattle.kept.specs.Keeping.{operandOf}
 use Rattle.kept.proofs.device_at.Statement.{statement}
 use Rattle.kept.proofs.device_at.Tie as tie
 
-past-end : (p : List ℕ) (line : ℕ) → length p ≤ line - 1 → 0 ≡ deviceOf p line
-unfolding deviceAt operand
+past-end : (p : List ℕ) (line : ℕ) → length p ≤ line - 1 → 0 ≡ operandOf p line
+unfolding operand
 past-end p zero h = refl
 past-end p (suc i) h = rw (List·getD-eq-default p 0 {n = i} (omega arith))
 
-asked-for : (p : List ℕ) (line : ℕ) → (line ≡ 0 → ⊥) → operand (getD p (line - 1) 0) ≡ deviceOf p line
-unfolding deviceAt
+asked-for : (p : List ℕ) (line : ℕ) → (line ≡ 0 → ⊥) → operand (getD p (line - 1) 0) ≡ operandOf p line
 asked-for p zero h = absurd (h refl)
 asked-for p (suc i) h = rw (suc-sub-suc i 0, sub-zero i)
 

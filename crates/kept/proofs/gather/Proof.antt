@@ -120,7 +120,8 @@ loop-again-2 c =
 returns : tie.Need-returns Inv-loop μ-loop
 returns c =
     let l = c .before .loop in
-    let front : l .i ≡ 0 = omega (arith, c .loop-test .left) in all-gathered (rw front at (l .inv))
+    let front : l .i ≡ 0 = omega (arith, c .loop-test .left) in
+    all-gathered (c .before .before .before .before .before .before .pre .0) (rw front at (l .inv))
 
 pub gather-spec : {M : Type 1} → statement M
 gather-spec =

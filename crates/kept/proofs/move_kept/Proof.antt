@@ -1,6 +1,7 @@
 -- `kept::move_kept` meets its contract: lists without room are refused as in building; otherwise the move without rows
 -- is refused, or done, and then rows and held set are kept.
 use Prim.Native.Nat.{_≤_}
+use mathlib.Core.Bool.{false}
 use native.Mathlib.Omega.{arith}
 use lib.ListN.{length}
 use borrow.Author.Needs.{needs}
@@ -49,7 +50,7 @@ returns-2 c =
     let g = c .before .r .given in
     met-refused (a .plan .now) (beside (a .sets .now) (a .rows .now) (a .held .now)) (a .line) (a .device)
     (room moved .0) (room moved .1) (g .0 .0) _ _
-    (plainly-refused _ _ _ _ _ _ _ _ _ _ _ _ _ _ _ (moved .move-through .ensures) (g .0 .0) (g .1))
+    (plainly-refused false _ _ _ _ _ _ _ _ _ _ _ _ _ _ _ (moved .move-through .ensures) (g .0 .0) (g .1))
 
 -- it is done
 abbrev moved : tie.After-known-told2 → tie.After-move-through

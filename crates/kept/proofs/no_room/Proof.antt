@@ -5,7 +5,7 @@ use native.Mathlib.Omega.{arith}
 use lib.ListN.{length}
 use borrow.Author.Needs.{needs}
 use borrow.Author.Tests.{lt-ltb, le-ltb}
-use Rattle.model.specs.Board.{devices}
+use Rattle.model.specs.Board.{devices, board}
 use Rattle.model.specs.WellFormed.{fault}
 use Rattle.theory.proofs.WellFormed.{no-fault-exactly}
 use Rattle.plan.proofs.Answers.{told, untold}
@@ -15,9 +15,9 @@ use Rattle.kept.proofs.no_room.Tie as tie
 abbrev entry : tie.After-enum-told → tie.Start
 entry c = c .before .before .before .before .before .before
 
-no-fault : (c : tie.After-enum-told) → fault devices (entry c .args .plan .now) ≡ none
+no-fault : (c : tie.After-enum-told) → fault board (entry c .args .plan .now) ≡ none
 no-fault c =
-    untold (fault devices (entry c .args .plan .now)) (sym (c .enum-told .given .1) ∙ c .before .before .fault .ensures)
+    untold (fault board (entry c .args .plan .now)) (sym (c .enum-told .given .1) ∙ c .before .before .fault .ensures)
 
 -- 2 to 7
 returns : tie.Need-returns
@@ -25,12 +25,12 @@ returns c =
     let at-fault = c .before .before .before in
     let p = at-fault .before .before .before .before .args .plan .now in
     let r = c .before .r .given .0 .0 in
-    rw (told (fault devices p) r (sym (c .before .r .given .1) ∙ at-fault .fault .ensures))
+    rw (told (fault board p) r (sym (c .before .r .given .1) ∙ at-fault .fault .ensures))
 
 length-fits : tie.Need-cast-t9
 length-fits c =
     let told = c .before in
-    omega (arith, no-fault-exactly devices (entry told .args .plan .now) .0 (no-fault told) .few)
+    omega (arith, no-fault-exactly board (entry told .args .plan .now) .0 (no-fault told) .few)
 
 -- 11
 returns-2 : tie.Need-returns-2

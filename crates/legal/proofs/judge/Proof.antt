@@ -3,7 +3,7 @@ use mathlib.Core.Option.{none}
 use mathlib.Core.Path.{_≡_, sym, _∙_}
 use native.Mathlib.Omega.{arith}
 use borrow.Author.Needs.{needs}
-use Rattle.model.specs.Board.{devices}
+use Rattle.model.specs.Board.{board}
 use Rattle.model.specs.WellFormed.{fault}
 use Rattle.plan.proofs.Answers.{told, untold}
 use Rattle.theory.proofs.WellFormed.{no-fault-exactly}
@@ -18,7 +18,7 @@ returns c =
     let a = at-scan .before .before .before .before .before .before .args in
     let r = c .before .r .given .0 .0 in
     faulty (a .plan .now) (a .order .now) r
-    (told (fault devices (a .plan .now)) r (sym (c .before .r .given .1) ∙ at-scan .scan .ensures .answers))
+    (told (fault board (a .plan .now)) r (sym (c .before .r .given .1) ∙ at-scan .scan .ensures .answers))
 
 -- where the plan has no fault
 abbrev at-scan : tie.After-again2 → tie.After-scan
@@ -27,7 +27,7 @@ at-scan c = c .before .before .before .before
 abbrev start : tie.After-again2 → tie.Start
 start c = at-scan c .before .before .before .before .before .before
 
-no-fault : (c : tie.After-again2) → fault devices (start c .args .plan .now) ≡ none
+no-fault : (c : tie.After-again2) → fault board (start c .args .plan .now) ≡ none
 no-fault c = untold _ (sym (c .before .before .enum-told .given .1) ∙ at-scan c .scan .ensures .answers)
 
 legal-steps-requires : tie.Need-legal-steps-requires
@@ -47,7 +47,7 @@ position-fits c =
     omega (
       arith,
       c .before .legal-steps .ensures .few,
-      no-fault-exactly devices (start here .args .plan .now) .0 (no-fault here) .few,
+      no-fault-exactly board (start here .args .plan .now) .0 (no-fault here) .few,
     )
 
 -- 15

@@ -7,7 +7,7 @@ use native.Mathlib.Omega.{arith}
 use lib.ListN.{length, getD}
 use borrow.Author.Needs.{needs}
 use borrow.Author.Tests.{not-true, not-false}
-use Rattle.model.specs.Board.{devices}
+use Rattle.model.specs.Board.{board}
 use Rattle.model.specs.Line.{maxLines}
 use Rattle.model.specs.Sets.{empty}
 use Rattle.model.specs.WellFormed.{WellFormed}
@@ -47,7 +47,7 @@ number : (c : tie.Else1 Inv-loop μ-loop)
     → (entry (c .before) ≡ suc (entry (c .before) - 1)) × (entry (c .before) - 1 < length (plan (c .before)))
 number c = numbered (entry (c .before)) (length (plan (c .before))) (c .if1 .left)
 
-well : (c : tie.Else1 Inv-loop μ-loop) → WellFormed devices (plan (c .before))
+well : (c : tie.Else1 Inv-loop μ-loop) → WellFormed board (plan (c .before))
 well c = formed (start (c .before) .pre .0)
 
 small : (c : tie.Else1 Inv-loop μ-loop) → entry (c .before) ≤ maxLines

@@ -9,7 +9,7 @@ use borrow.Author.Needs.{needs}
 use Rattle.model.specs.Line.{isTake, at}
 use Rattle.model.specs.Move.{isTakeOf}
 use Rattle.theory.proofs.Tests.{falsely}
-use Rattle.theory.proofs.WellFormed.{take-line}
+use Rattle.theory.proofs.Line.{take-line}
 use Rattle.moving.proofs.is_take_of.Statement.{statement}
 use Rattle.moving.proofs.is_take_of.Tie as tie
 

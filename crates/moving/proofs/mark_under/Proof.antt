@@ -10,6 +10,7 @@ use borrow.Author.Needs.{needs}
 use Rattle.model.specs.Line.{operand, at, maxLines}
 use Rattle.model.specs.Mate.{deviceAt}
 use Rattle.theory.specs.Outer.{againAt}
+use Rattle.theory.proofs.Line.{take-no-held, own-device}
 use Rattle.mates.specs.Span.{spanOf, stopOf}
 use Rattle.plan.specs.Again.{againFlags}
 use Rattle.plan.proofs.Again.{again-is}
@@ -26,10 +27,14 @@ abbrev μ-loop : tie.MeasureT-loop
 μ-loop plan again₀ i device stop old fresh deep₀ k₀ again deep k = stop - k
 
 -- what tells that the old device is counted, as the code works it out
-fresh-is : (p again : List ℕ) (i device old : ℕ) → again ≡ againFlags p → i < maxLines → old ≡ operand (at p i)
+fresh-is : (p again : List ℕ) (i device old : ℕ) → again ≡ againFlags p → i < maxLines → old ≡ deviceAt p i
     → (not (eqb (getD again i 0) 1) && not (eqb old device)) ≡ (not (againAt p i) && not (eqb (deviceAt p i) device))
-unfolding deviceAt
 fresh-is p again i device old e h o = rw (o, again-is p again i e h)
+
+-- the operand of a take is its device
+old-is : (p : List ℕ) (i device old : ℕ) → Take p i device → old ≡ operand (at p i) → old ≡ deviceAt p i
+unfolding deviceAt
+old-is p i device old t e = e ∙ sym (own-device (at p i) (take-no-held (at p i) (t .takes)))
 
 -- the take is within the limit, and so are the lines under it
 inside : (s : tie.Start Inv-loop μ-loop) → s .args .i < maxLines
@@ -56,7 +61,6 @@ loop-holds c t =
     marks-start (s .args .plan .now) (s .args .i) (s .args .device) t _ (s .args .again .now) (s .pre .1)
 
 open-after-requires : tie.Need-open-after-requires Inv-loop μ-loop
-unfolding deviceAt
 open-after-requires c κs =
     let in-loop = c .before .before .before in
     let s = entry in-loop in
@@ -66,20 +70,21 @@ open-after-requires c κs =
       few (s .args .plan .now) (s .args .i) (s .args .device) (s .pre .0) _ (l .again) (l .deep) (l .k) m
           (under in-loop),
       none-below (s .args .plan .now) (s .args .i) (s .args .device) (s .pre .0) _ (l .again) (l .deep) (l .k) m
-          (under in-loop) (o .result) (o .ensures),
+          (under in-loop) (o .result)
+          (old-is (s .args .plan .now) (s .args .i) (s .args .device) _ (s .pre .0) (o .ensures)),
     )
 
 loop-again : tie.Need-loop-again Inv-loop μ-loop
-unfolding deviceAt
 loop-again c t =
     let in-loop = c .before .before .before .before in
     let s = entry in-loop in
     let a = s .args in
     let l = in-loop .before .loop in
     let o = in-loop .before .before .before .operand in
+    let old = old-is (a .plan .now) (a .i) (a .device) _ t (o .ensures) in
     marks-on (a .plan .now) (a .i) (a .device) t _ (l .again) (l .deep) (l .k) (l .inv t) (under in-loop)
-    (fresh-is (a .plan .now) (a .again .now) (a .i) (a .device) _ (s .pre .1) (inside s) (o .ensures)) (o .result)
-    (o .ensures) (c .before .again-after .result) (c .before .again-after .ensures) (c .open-after .result)
+    (fresh-is (a .plan .now) (a .again .now) (a .i) (a .device) _ (s .pre .1) (inside s) old) (o .result)
+    old (c .before .again-after .result) (c .before .again-after .ensures) (c .open-after .result)
     (c .open-after .ensures)
 
 returns : tie.Need-returns Inv-loop μ-loop

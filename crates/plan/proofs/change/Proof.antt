@@ -17,8 +17,8 @@ returns c =
       w .before .only-if2 .ensures,
       g .is-give .ensures,
       g .before .only-if .ensures,
-      t .is-take .ensures,
-      t .before .operand .ensures,
+      t .opens .ensures,
+      t .before .device .ensures,
     )
 
 pub change-spec : {M : Type 1} → statement M

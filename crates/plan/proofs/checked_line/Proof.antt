@@ -6,7 +6,7 @@ use Prim.Native.Nat.{ℕ, _≤_, _<_}
 use native.Mathlib.Omega.{arith}
 use lib.Dec.{eqb}
 use lib.ListN.{set}
-use Rattle.model.specs.Board.{devices}
+use Rattle.model.specs.Board.{board}
 use Rattle.model.specs.Line.{isLine, maxLines}
 use Rattle.theory.proofs.Line.{line-parts}
 use Rattle.plan.specs.Walk.{placeFault, heldIn, nextBy}
@@ -21,30 +21,30 @@ returns : tie.Need-returns
 returns c =
     let a = c .before .before .before .before .args in
     let r = c .before .r .given in (
-      stops devices (a .n) (a .i) (a .prev) (a .first .now) (a .starter .now) (heldIn (a .depth) (a .stack .now))
+      stops board (a .n) (a .i) (a .prev) (a .first .now) (a .starter .now) (heldIn (a .depth) (a .stack .now))
           (r .0 .0)
-          (told (placeFault devices (a .n) (a .i) (a .prev)) (r .0 .0)
+          (told (placeFault board (a .n) (a .i) (a .prev)) (r .0 .0)
           (sym (r .1) ∙ c .before .before .before .misplaced .ensures)),
       tt,
     )
 
 -- none of them
 placed : (c : tie.After-job)
-    → let a = c .before .before .before .before .args in placeFault devices (a .n) (a .i) (a .prev) ≡ none
+    → let a = c .before .before .before .before .args in placeFault board (a .n) (a .i) (a .prev) ≡ none
 placed c =
     let a = c .before .before .before .before .args in
-    untold (placeFault devices (a .n) (a .i) (a .prev))
+    untold (placeFault board (a .n) (a .i) (a .prev))
     (sym (c .before .enum-told .given .1) ∙ c .before .before .before .misplaced .ensures)
 
 few : (c : tie.After-job)
-    → let a = c .before .before .before .before .args in (a .i < maxLines) × (isLine devices (a .n) ≡ true)
+    → let a = c .before .before .before .before .args in (a .i < maxLines) × (isLine board (a .n) ≡ true)
 few c =
     let a = c .before .before .before .before .args in
-    let p = in-place devices (a .n) (a .i) (a .prev) (placed c) in (p .0, p .1)
+    let p = in-place board (a .n) (a .i) (a .prev) (placed c) in (p .0, p .1)
 
 element-copy-out-choose : tie.Need-element-copy-out-choose
 element-copy-out-choose c =
-    omega (arith, c .job .ensures, line-parts devices (c .before .before .before .before .args .n) (few c .1) .1)
+    omega (arith, c .job .ensures, line-parts board (c .before .before .before .before .args .n) (few c .1) .1)
 
 add-choose : tie.Need-add-choose
 add-choose c = record { fits = omega (arith, few (c .before) .0) }
@@ -80,7 +80,7 @@ returns-2 c =
     let s = j .before .before .before .before in
     let a = s .args in
     let first = set (a .first .now) (j .job .result) (v .choose .result) in (
-      goes-on devices (a .n) (a .i) (a .prev) (a .first .now) (a .starter .now)
+      goes-on board (a .n) (a .i) (a .prev) (a .first .now) (a .starter .now)
           (nextBy (f .result) (f .last .1 .1 .1 .0) first (f .last .1 .1 .1 .1 .0)) (a .depth)
           (c .before .before .before .choose2 .result) (j .job .result) (v .choose .result) (a .stack .now)
           (placed j) (j .job .ensures) (v .choose .ensures) (c .before .before .before .choose2 .ensures)

@@ -12,8 +12,8 @@ returns c =
       c .before .only-if2 .ensures,
       g .is-give .ensures,
       g .before .only-if .ensures,
-      t .is-take .ensures,
-      t .before .operand .ensures,
+      t .opens .ensures,
+      t .before .device .ensures,
     )
 
 pub is-again-spec : {M : Type 1} → statement M

@@ -12,7 +12,7 @@ returns c =
       c .without .ensures,
       c .before .only .ensures,
       o .only-if .ensures,
-      o .before .operand .ensures,
+      o .before .device .ensures,
       o .before .before .is-give .ensures,
     )
 

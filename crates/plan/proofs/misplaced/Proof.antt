@@ -9,7 +9,7 @@ use native.Mathlib.Numerals.{add-one}
 use lib.Dec.{eqb}
 use borrow.Author.Tests.{le-leb, lt-leb, eqb-false, eq-eqb, ne-eqb}
 use Rattle.model.specs.Answers.{firstRefusal, refuseIf}
-use Rattle.model.specs.Board.{devices}
+use Rattle.model.specs.Board.{board}
 use Rattle.model.specs.Line.{job, isLine, lineNumber, maxLines}
 use Rattle.model.specs.declared.Refusal.the-variants.{JobOutOfSequence}
 use Rattle.plan.specs.Checked.{checked}
@@ -37,8 +37,8 @@ returns : tie.Need-returns
 unfolding placeFault firstRefusal refuseIf
 returns c = rw (le-leb maxLines (c .before .args .i) (c .if1 .taken))
 
-placed : (n i prev j : ℕ) (b : Bool) → i < maxLines → isLine devices n ≡ true → j ≡ job n
-    → (eqb j prev || eqb j (suc prev)) ≡ b → placeFault devices n i prev ≡ refuseIf (not b) (JobOutOfSequence (i + 1))
+placed : (n i prev j : ℕ) (b : Bool) → i < maxLines → isLine board n ≡ true → j ≡ job n
+    → (eqb j prev || eqb j (suc prev)) ≡ b → placeFault board n i prev ≡ refuseIf (not b) (JobOutOfSequence (i + 1))
 unfolding placeFault firstRefusal refuseIf lineNumber
 placed n i prev j b few line e t =
     let is : (eqb (job n) prev || eqb (job n) (suc prev)) ≡ b = rw e at t in
@@ -54,7 +54,7 @@ at-job : (c : tie.After-job) (b : Bool)
     → (eqb (c .job .result) (c .before .before .before .before .args .prev)
     || eqb (c .job .result) (suc (c .before .before .before .before .args .prev)))
     ≡ b
-    → placeFault devices (c .before .before .before .before .args .n) (c .before .before .before .before .args .i)
+    → placeFault board (c .before .before .before .before .args .n) (c .before .before .before .before .args .i)
     (c .before .before .before .before .args .prev)
     ≡ refuseIf (not b) (JobOutOfSequence (c .before .before .before .before .args .i + 1))
 at-job c b e =
@@ -69,7 +69,7 @@ job-least c =
     omega (
       arith,
       c .job .ensures,
-      line-parts devices (l .before .before .args .n) (sym (l .is-line .ensures) ∙ c .before .if2 .taken),
+      line-parts board (l .before .before .args .n) (sym (l .is-line .ensures) ∙ c .before .if2 .taken),
     )
 
 -- out of sequence

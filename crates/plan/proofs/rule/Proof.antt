@@ -8,10 +8,10 @@ use native.Mathlib.Omega.{arith}
 use lib.Dec.{eqb, ltb}
 use lib.ListN.{getD, set, length-set}
 use borrow.Author.Tests.{eqb-true}
-use Rattle.model.specs.Board.{devices}
-use Rattle.model.specs.Line.{job, kind, operand, isTake, isGive, isStart, lineNumber}
+use Rattle.model.specs.Board.{board}
+use Rattle.model.specs.Line.{job, kind, operand, opens, isGive, isStart, lineNumber}
 use Rattle.model.specs.declared.Refusal.the-variants.{BadStart}
-use Rattle.theory.proofs.Line.{start-operand, take-no-start, give-no-start}
+use Rattle.theory.proofs.Line.{start-operand, opens-no-start, give-no-start}
 use Rattle.theory.proofs.Tests.{clash, falsely}
 use Rattle.plan.specs.Walk.{on, bad, ruleOf, heldIn}
 use Rattle.plan.proofs.Stacks.{wrongly-given}
@@ -20,8 +20,8 @@ use Rattle.plan.proofs.rule.Statement.{statement}
 use Rattle.plan.proofs.rule.Tie as tie
 
 module _ (i n : ℕ) (held starter : List ℕ) (s : isStart n ≡ true) where
-  no-take : isTake n ≡ false
-  no-take = falsely (isTake n) (λ e. clash (isStart n) s (take-no-start n e))
+  no-open : opens n ≡ false
+  no-open = falsely (opens n) (λ e. clash (isStart n) s (opens-no-start n e))
 
   no-give : isGive n ≡ false
   no-give = falsely (isGive n) (λ e. clash (isStart n) s (give-no-start n e))
@@ -29,12 +29,12 @@ module _ (i n : ℕ) (held starter : List ℕ) (s : isStart n ≡ true) where
   begun : (ltb (job n) (operand n) && eqb (getD starter (operand n) 0) 0) ≡ true → (first : List ℕ)
       → on held first (set starter (operand n) (i + 1)) ≡ ruleOf i n held first starter
   unfolding ruleOf lineNumber
-  begun e first = rw (no-take, no-give, s, e, add-one)
+  begun e first = rw (no-open, no-give, s, e, add-one)
 
   not-begun : (ltb (job n) (operand n) && eqb (getD starter (operand n) 0) 0) ≡ false → (first : List ℕ)
       → bad (BadStart (i + 1)) ≡ ruleOf i n held first starter
   unfolding ruleOf lineNumber
-  not-begun e first = rw (no-take, no-give, s, e, add-one)
+  not-begun e first = rw (no-open, no-give, s, e, add-one)
 
 -- a give of what is not the latest
 element-copy-out-misgives : tie.Need-element-copy-out-misgives
@@ -62,7 +62,7 @@ element-copy-out-if3 c =
     omega (
       arith,
       c .before .operand .ensures,
-      start-operand devices (s .args .n) (s .pre .2)
+      start-operand board (s .args .n) (s .pre .2)
           (eqb-true (kind (s .args .n)) 3 (sym (f .is-start .ensures) ∙ c .before .before .if2 .taken)),
     )
 

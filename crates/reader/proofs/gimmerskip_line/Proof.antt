@@ -5,7 +5,7 @@ use mathlib.Core.Path.{_≡_, refl, sym, _∙_, ap}
 use native.Mathlib.Omega.{arith}
 use borrow.Author.Needs.{needs}
 use Rattle.model.specs.Answers.{lineValues}
-use Rattle.model.specs.Board.{devices}
+use Rattle.model.specs.Board.{board}
 use Rattle.model.specs.Text.{lineFrom}
 use Rattle.model.specs.declared.LineAnswer.{LineAnswer}
 use Rattle.model.specs.InOne.{inOne}
@@ -14,8 +14,8 @@ use Rattle.reader.proofs.gimmerskip_line.Statement.{statement}
 use Rattle.reader.proofs.gimmerskip_line.Tie as tie
 
 -- the answer a is b, whose values in one number are n
-hands-out : {text : List ℕ} {offset n : ℕ} {a b : LineAnswer} → a ≡ lineFrom devices text offset → a ≡ b
-    → n ≡ inOne (lineValues b) → HandsOutForC text offset n
+hands-out : {text : List ℕ} {offset n : ℕ} {a b : LineAnswer} → a ≡ lineFrom board text offset → a ≡ b
+    → n ≡ inOne (lineValues b) → HandsOutForC board text offset n
 hands-out x e m = record { answers = m ∙ ap (λ (y : LineAnswer). inOne (lineValues y)) (sym e ∙ x) }
 
 -- a line

@@ -43,7 +43,7 @@ use denote.Triple.Walked.{says, Stays, stay-none, stay-none-slice, walkOf, goes-
 use denote.Triple.Walked.{Walks, ends-at, walked, walk-meets}
 use denote.Exit.{yes}
 use denote.Triple.Clauses.{ensured, lasts}
-use Rattle.model.specs.Board.{devices}
+use Rattle.model.specs.Board.{board}
 use Rattle.model.specs.Text.{lineFrom}
 use Rattle.model.specs.declared.LineAnswer.{LineAnswer}
 use Rattle.model.proofs.LineAnswer as S
@@ -99,7 +99,7 @@ module _ {M : Type 1} (𝓤 : URA M) (H : Heap 𝓤) (A : Atoms 𝓤) (W : Given
   v = sliceVal (s .ptr) (length (s .now))
 
   abbrev found : LineAnswer
-  found = lineFrom devices (now s) n
+  found = lineFrom board (now s) n
 
   -- the struct's type as a local of a body has it
   abbrev αᵉ : NamedLft
@@ -177,7 +177,7 @@ module _ {M : Type 1} (𝓤 : URA M) (H : Heap 𝓤) (A : Atoms 𝓤) (W : Given
       nothing ! $ move ! (1 ∷ 0 ∷ []) $ fjoin ! $ move ! (1 ∷ 0 ∷ []) $ join ! $ frame ! $ done !
 
   abbrev IsNext : Reader → LineAnswer → Type 0
-  IsNext r t = t ≡ lineFrom devices (now (r .text)) (r .offset)
+  IsNext r t = t ≡ lineFrom board (now (r .text)) (r .offset)
 
   abbrev Next-said : Reader → LineAnswer → SProp 𝓤
   Next-said r t = ensured 𝓤 H A next.ended (next.clauses 𝓤 H A mem run) (κ, tt) (r, tt) tt t
@@ -200,8 +200,8 @@ module _ {M : Type 1} (𝓤 : URA M) (H : Heap 𝓤) (A : Atoms 𝓤) (W : Given
   same : (r p : Reader) (t : LineAnswer) → IsNew r → IsMoved r p → IsNext p t → t ≡ found
   same r p t e f g =
       g
-      ∙ (ap (λ (x : RefT (List ℕ)). lineFrom devices (now x) (p .offset)) (f .0 ∙ e .0)
-      ∙ ap (lineFrom devices (now s)) (f .1))
+      ∙ (ap (λ (x : RefT (List ℕ)). lineFrom board (now x) (p .offset)) (f .0 ∙ e .0)
+      ∙ ap (lineFrom board (now s)) (f .1))
 
   module _ (C : Calls 𝓤 H) (Λ : Loops 𝓤 H) (fm : FmC 𝓤 H (W .laws) C) (known : Known 𝓤 H A mem run C) where
     walk : Is (ShrSlice (named 0) κ u8) s (v ∷ [])

@@ -46,7 +46,7 @@ use denote.Triple.Table.{entered, cited}
 use denote.Triple.Walked.{says, Stays, stay-none, walkOf, goes-none, Walks, ends-at, walked, walk-meets}
 use denote.Exit.{yes}
 use denote.Triple.Clauses.{ensured, lasts}
-use Rattle.model.specs.Board.{devices}
+use Rattle.model.specs.Board.{board}
 use Rattle.model.specs.Text.{lineFrom}
 use Rattle.model.specs.declared.LineAnswer.{LineAnswer}
 use Rattle.model.proofs.LineAnswer as S
@@ -91,7 +91,7 @@ module _ {M : Type 1} (𝓤 : URA M) (H : Heap 𝓤) (A : Atoms 𝓤) (W : Given
   v = sliceVal (d .text .ptr) (length (d .text .now))
 
   abbrev found : LineAnswer
-  found = lineFrom devices (now (d .text)) (d .offset)
+  found = lineFrom board (now (d .text)) (d .offset)
 
   abbrev Entry : SProp 𝓤
   Entry = onEntry 𝓤 H A next.signature (κ, tt) (q, tt) (d, tt) (mach ∷ [], tt)

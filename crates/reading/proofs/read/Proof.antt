@@ -3,7 +3,7 @@ use mathlib.Core.Option.{none, some}
 use mathlib.Core.Path.{_≡_, refl, sym, _∙_}
 use lib.Seq.{length-take-le}
 use borrow.Author.Needs.{needs}
-use Rattle.model.specs.Board.{devices}
+use Rattle.model.specs.Board.{board}
 use Rattle.model.specs.Text.{linesOf}
 use Rattle.lines.specs.Gathered.{stopsWith}
 use Rattle.reading.proofs.Found.{Front, stopped-front, all-front}
@@ -20,7 +20,7 @@ stopped : (c : tie.After-known-told)
     → let g = c .before .before .before in
     let a = g .before .before .before .before .before .args in
     Front (a .text .now) (c .before .n .given .0 .0) (g .gather .last .1 .0)
-    × (stopsWith devices 0 (linesOf (a .text .now)) ≡ some (c .before .n .given .0 .1 .0))
+    × (stopsWith board 0 (linesOf (a .text .now)) ≡ some (c .before .n .given .0 .1 .0))
 stopped c =
     stopped-front _ _ _ refl _ _ (rw (c .before .n .given .1) at (c .before .before .before .gather .ensures))
 
@@ -28,7 +28,7 @@ all : (c : tie.After-known-told2)
     → let g = c .before .before .before in
     let a = g .before .before .before .before .before .args in
     Front (a .text .now) (c .before .n2 .given .0 .0) (g .gather .last .1 .0)
-    × (stopsWith devices 0 (linesOf (a .text .now)) ≡ none)
+    × (stopsWith board 0 (linesOf (a .text .now)) ≡ none)
 all c = all-front _ _ _ refl _ (rw (c .before .n2 .given .1) at (c .before .before .before .gather .ensures))
 
 -- where the reader stopped

@@ -3,7 +3,7 @@ use mathlib.Core.Option.{none}
 use mathlib.Core.Path.{_≡_, sym, _∙_, ap}
 use lib.ListN.{length}
 use borrow.Author.Needs.{needs}
-use Rattle.model.specs.Board.{devices}
+use Rattle.model.specs.Board.{board}
 use Rattle.model.specs.WellFormed.{fault}
 use Rattle.plan.specs.Holdings.{holdings}
 use Rattle.plan.proofs.Answers.{told, untold}
@@ -15,7 +15,7 @@ use Rattle.rows.proofs.held_to_end.Tie as tie
 abbrev entry : tie.After-enum-told → tie.Start
 entry c = c .before .before .before .before .before .before .before .before
 
-no-fault : (c : tie.After-enum-told) → fault devices (entry c .args .plan .now) ≡ none
+no-fault : (c : tie.After-enum-told) → fault board (entry c .args .plan .now) ≡ none
 no-fault c = untold _ (sym (c .enum-told .given .1) ∙ c .before .before .scan-holding .ensures .scanned .answers)
 
 -- 2 to 7
@@ -25,7 +25,7 @@ returns c =
     let p = at-scan .before .before .before .before .before .before .args .plan .now in
     let r = c .before .r .given .0 .0 in
     held-refused p r
-    (told (fault devices p) r (sym (c .before .r .given .1) ∙ at-scan .scan-holding .ensures .scanned .answers))
+    (told (fault board p) r (sym (c .before .r .given .1) ∙ at-scan .scan-holding .ensures .scanned .answers))
 
 -- what the jobs hold is the plan's
 held-is : (c : tie.After-enum-told)

@@ -7,10 +7,10 @@ use lib.Dec.{ltb}
 use lib.ListN.{getD, set}
 use borrow.Author.Needs.{needs}
 use borrow.Author.Tests.{lt-ltb}
-use Rattle.model.specs.Board.{devices}
-use Rattle.model.specs.Line.{job, operand, isTake, isGive, isLine}
+use Rattle.model.specs.Board.{devices, board}
+use Rattle.model.specs.Line.{job, operand, opens, isTake, isGive, isLine}
 use Rattle.theory.proofs.Tests.{or-left}
-use Rattle.theory.proofs.Line.{device-line}
+use Rattle.theory.proofs.Line.{device-line, own-device, take-no-held, take-opens}
 use Rattle.claims.specs.Claim.{operands, claimOf}
 use Rattle.claims.proofs.Claimed.{job-place}
 use Rattle.rows.specs.Lasting.{rowJoined}
@@ -19,16 +19,19 @@ use Rattle.rows.proofs.join_line.Statement.{statement}
 use Rattle.rows.proofs.join_line.Tie as tie
 
 has-place : (c : tie.After-job) → c .job .result < operands
-has-place c = rw (c .job .ensures) (job-place devices (c .before .args .l) (c .before .pre .0))
+has-place c = rw (c .job .ensures) (job-place board (c .before .args .l) (c .before .pre .0))
 
 -- the board has the device of a take
-on-board : (l : ℕ) (lasts : Bool) → isLine devices l ≡ true → (lasts ≡ true → isTake l ≡ true)
+on-board : (l : ℕ) (lasts : Bool) → isLine board l ≡ true → (lasts ≡ true → isTake l ≡ true)
     → (lasts && ltb (operand l) devices) ≡ lasts
 on-board l true line take =
-    lt-ltb (operand l) devices (device-line devices l line (or-left (isTake l) (isGive l) (take refl)))
+    let t = take refl in
+    lt-ltb (operand l) devices
+    (rw (own-device l (take-no-held l t)) at
+    (device-line board l line (or-left (opens l) (isGive l) (take-opens l t))))
 on-board l false line take = refl
 
-joined-on : {l j s : ℕ} {lasts : Bool} {rs claimed rs′ : List ℕ} → isLine devices l ≡ true
+joined-on : {l j s : ℕ} {lasts : Bool} {rs claimed rs′ : List ℕ} → isLine board l ≡ true
     → (lasts ≡ true → isTake l ≡ true) → j ≡ job l → s ≡ claimOf l (getD claimed j 0) claimed
     → rs′ ≡ rowJoined l (lasts && ltb (operand l) devices) (getD claimed j 0) rs
     → JoinedOn l lasts rs claimed s rs′ (set claimed j s)

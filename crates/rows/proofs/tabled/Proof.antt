@@ -2,7 +2,7 @@
 use mathlib.Core.Option.{none}
 use mathlib.Core.Path.{_≡_, sym, _∙_}
 use borrow.Author.Needs.{needs}
-use Rattle.model.specs.Board.{devices}
+use Rattle.model.specs.Board.{board}
 use Rattle.model.specs.WellFormed.{fault}
 use Rattle.plan.proofs.Answers.{told, untold}
 use Rattle.rows.proofs.Outcome.{not-tabled, is-tabled}
@@ -12,7 +12,7 @@ use Rattle.rows.proofs.tabled.Tie as tie
 abbrev entry : tie.After-enum-told → tie.Start
 entry c = c .before .before .before .before .before .before .before .before
 
-no-fault : (c : tie.After-enum-told) → fault devices (entry c .args .plan .now) ≡ none
+no-fault : (c : tie.After-enum-told) → fault board (entry c .args .plan .now) ≡ none
 no-fault c = untold _ (sym (c .enum-told .given .1) ∙ c .before .before .scan .ensures .answers)
 
 -- 2 to 7
@@ -22,7 +22,7 @@ returns c =
     let a = at-scan .before .before .before .before .before .before .args in
     let r = c .before .r .given .0 .0 in
     not-tabled (a .plan .now) (a .rows .now) (a .table .now) r
-    (told (fault devices (a .plan .now)) r (sym (c .before .r .given .1) ∙ at-scan .scan .ensures .answers))
+    (told (fault board (a .plan .now)) r (sym (c .before .r .given .1) ∙ at-scan .scan .ensures .answers))
 
 -- the flags are the plan's
 walk-back-requires : tie.Need-walk-back-requires

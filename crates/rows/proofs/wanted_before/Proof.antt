@@ -7,7 +7,7 @@ use lib.Dec.{ltb}
 use mir.Val.{boolByte}
 use borrow.Author.Needs.{needs}
 use borrow.Author.Tests.{lt-ltb}
-use Rattle.model.specs.Line.{isTake, isGive}
+use Rattle.model.specs.Line.{opens, isGive}
 use Rattle.rows.specs.Lasting.{wantedBefore}
 use Rattle.rows.proofs.wanted_before.Statement.{statement}
 use Rattle.rows.proofs.wanted_before.Tie as tie
@@ -23,10 +23,10 @@ before n h false true = omega arith
 before n h false false = omega arith
 
 made : (l n : ℕ) {more given r : ℕ} {gives takes : Bool} → n < 2 ^ 32 → more ≡ (n + 1) % 2 ^ 32 → gives ≡ isGive l
-    → given ≡ cond gives more n → takes ≡ isTake l → r ≡ cond takes (n - boolByte (ltb 0 n)) given
+    → given ≡ cond gives more n → takes ≡ opens l → r ≡ cond takes (n - boolByte (ltb 0 n)) given
     → r ≡ wantedBefore l n % 2 ^ 32
 unfolding wantedBefore
-made l n h em eg e et er = let s = serves n .1 in let b = before n h (isTake l) (isGive l) in cc
+made l n h em eg e et er = let s = serves n .1 in let b = before n h (opens l) (isGive l) in cc
 
 returns : tie.Need-returns
 returns c =
@@ -34,7 +34,7 @@ returns c =
     let at-more = at-given .before .before in
     let a = at-more .before .args in
     made (a .l) (a .after) (omega arith) (at-more .wrapping-add-u32 .ensures) (at-given .before .is-give .ensures)
-    (at-given .choose .ensures) (c .before .is-take .ensures) (c .choose2 .ensures)
+    (at-given .choose .ensures) (c .before .opens .ensures) (c .choose2 .ensures)
 
 pub wanted-before-spec : {M : Type 1} → statement M
 wanted-before-spec =

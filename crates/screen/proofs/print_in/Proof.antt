@@ -5,6 +5,7 @@ use native.Mathlib.Omega.{arith}
 use lib.Seq.{length-take-le}
 use borrow.Author.Needs.{needs}
 use Rattle.model.specs.Line.{maxLines}
+use Rattle.model.specs.Board.{board}
 use Rattle.promises.proofs.WasRead.{read-few}
 use Rattle.screen.proofs.Shown.{shown}
 use Rattle.screen.proofs.Screened.{prints-none, prints-fault, prints-why, prints-order}
@@ -28,7 +29,7 @@ lines c = c .before .n .given .0 .0
 few : (c : tie.After-known-told) → lines c ≤ maxLines
 few c =
     let s = start (at-read c) in
-    read-few (s .args .text .now) (s .args .plan .now) (at-read c .read .ensures) (c .before .n .given .1)
+    read-few board (s .args .text .now) (s .args .plan .now) (at-read c .read .ensures) (c .before .n .given .1)
 
 -- ---- the needs
 

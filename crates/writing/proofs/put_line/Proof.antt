@@ -16,8 +16,9 @@ asked : (c : tie.After-operand)
     (c .before .kind .result) (c .operand .result)
 asked c = record {
   short = entry c .pre .0;
+  unheld = entry c .pre .1;
   bound = omega (arith, entry c .good);
-  room = entry c .pre .1;
+  room = entry c .pre .2;
   is-job = c .before .before .job .ensures;
   is-kind = c .before .kind .ensures;
   is-operand = c .operand .ensures;
@@ -42,7 +43,7 @@ put-verb-requires : tie.Need-put-verb-requires
 put-verb-requires c κs =
     let j = c .before .before .before in
     let q = asked (j .before .before) in
-    (kind-fits q, verb-room q (j .put-small .ensures), entry (j .before .before) .pre .2)
+    (kind-fits q, verb-room q (j .put-small .ensures), entry (j .before .before) .pre .3)
 
 put-small-requires-2 : tie.Need-put-small-requires-2
 put-small-requires-2 c κs =

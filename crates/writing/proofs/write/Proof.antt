@@ -6,7 +6,7 @@ use mathlib.Core.Path.{_≡_, sym, _∙_, ap}
 use native.Mathlib.Omega.{arith}
 use lib.ListN.{length, take}
 use borrow.Author.Needs.{needs}
-use Rattle.model.specs.Board.{devices}
+use Rattle.model.specs.Board.{board}
 use Rattle.model.specs.Line.{maxBytes}
 use Rattle.model.specs.Text.{textOf}
 use Rattle.model.specs.WellFormed.{fault}
@@ -21,9 +21,9 @@ use Rattle.writing.proofs.write.Tie as tie
 abbrev entry : tie.After-enum-told → tie.Start
 entry c = c .before .before .before .before .before
 
-no-fault : (c : tie.After-enum-told) → fault devices (entry c .args .plan .now) ≡ none
+no-fault : (c : tie.After-enum-told) → fault board (entry c .args .plan .now) ≡ none
 no-fault c =
-    untold (fault devices (entry c .args .plan .now))
+    untold (fault board (entry c .args .plan .now))
     (sym (c .enum-told .given .1) ∙ c .before .before .fault .ensures)
 
 -- 2 to 7
@@ -32,13 +32,13 @@ returns c =
     let a = c .before .before .before .before .before .before .args in
     let r = c .before .r .given .0 .0 in
     faulty (a .plan .now) (a .text .now) r
-    (told (fault devices (a .plan .now)) r
+    (told (fault board (a .plan .now)) r
     (sym (c .before .r .given .1) ∙ c .before .before .before .fault .ensures))
 
 make-requires : tie.Need-make-requires
 make-requires c κs =
     let p = entry (c .before) .args .plan .now in
-    (no-fault-exactly devices p .0 (no-fault (c .before)) .lines, text-fits p (no-fault (c .before)))
+    (no-fault-exactly board p .0 (no-fault (c .before)) .lines, text-fits p (no-fault (c .before)))
 
 -- the text, in the front of the array
 abbrev text : tie.After-make → List ℕ
