@@ -74,7 +74,7 @@ pub fn table(plan: &[u32], sets: &mut [Set]) -> TableAnswer
     let mut first = [0u32; EACH_JOB];
     let mut starter = [0u32; EACH_JOB];
     let mut again = [0u8; MOST_LINES];
-    if let Checked::Refused(r) = plan::scan(plan, &mut first, &mut starter, &mut again) {
+    if let Checked::Refused(r) = plan::scan(plan, false, &mut first, &mut starter, &mut again) {
         return TableAnswer::Refused(r);
     }
     let n = plan.len();

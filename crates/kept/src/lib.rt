@@ -34,7 +34,7 @@ fn no_room(plan: &[u32], sets: &[Set], rows: &[Set]) -> Refusal
     ensures { λ r. ⌜ r ≡ refusedBy (fault board (now (plan .entry))) (length (now (plan .entry)))
         (length (now (sets .entry))) (length (now (rows .entry))) ⌝ }
 {
-    if let Checked::Refused(r) = plan::fault(plan) {
+    if let Checked::Refused(r) = plan::fault(plan, false) {
         return r;
     }
     let n = plan.len();

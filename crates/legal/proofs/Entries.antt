@@ -10,12 +10,13 @@ use native.Mathlib.Numerals.{add-one}
 use native.Mathlib.Omega.{arith}
 use lib.Dec.{eqb, ltb}
 use lib.ListN.{length, getD, set}
-use borrow.Author.Tests.{eqb-true, eqb-false, ltb-false}
+use borrow.Author.Tests.{eqb-true, eqb-false, ltb-false, not-true, not-false}
 use Rattle.model.specs.Sets.{empty, member}
-use Rattle.model.specs.Line.{job, kind, operand, isTake, isGive, isStart, starts, isLine, at, maxJob, maxLines}
+use Rattle.model.specs.Line.{Settings, job, kind, operand, isTake, isGive, isStart, starts, isLine, at}
+use Rattle.model.specs.Line.{maxJob, maxLines}
 use Rattle.model.specs.Mate.{deviceAt, holdsAlready, takesAt}
 use Rattle.model.specs.WellFormed.{WellFormed}
-use Rattle.model.specs.Board.{devices, board}
+use Rattle.model.specs.Board.{devices}
 use Rattle.theory.specs.Outer.{againAt, plain, plainAt}
 use Rattle.theory.proofs.Tests.{clash, test, or-neither, and-split}
 use Rattle.theory.proofs.Line.{line-parts, start-parts, start-of, start-operand, take-no-held, own-device}
@@ -24,6 +25,15 @@ use Rattle.theory.proofs.Outer.{plain-job, plain-operand, plain-line, plain-tak
 use Rattle.sets.specs.Only.{onlyOf}
 use Rattle.plan.specs.Again.{againFlag, againFlags}
 use Rattle.legal.specs.Steps.{isNext, startedBy, passed}
+
+-- the job that a line starts, or 0, is at most the last
+pub started-small : (S : Settings) (l : ℕ) → isLine S l ≡ true → startedBy l ≤ maxJob
+unfolding startedBy isStart
+started-small S l h = go (isStart l) refl
+  where
+    go : (b : Bool) → isStart l ≡ b → cond b (operand l) 0 ≤ maxJob
+    go true e = start-operand S l h (eqb-true (kind l) 3 e)
+    go false e = omega arith
 
 -- ---- the line that an entry names
 
@@ -49,7 +59,7 @@ flag-tells p i h =
     go true = refl
     go false = refl
 
-module _ {p : List ℕ} (w : WellFormed board p) (e l : ℕ) where
+module _ {S : Settings} {p : List ℕ} (w : WellFormed S p) (e l : ℕ) where
   pub named : {again : List ℕ} → again ≡ againFlags p → (eqb e 0 || ltb (length p) e) ≡ false
       → l ≡ plain (eqb (getD again (e - 1) 0) 1) (at p (e - 1)) → Names p e l
   named a h q =
@@ -59,8 +69,15 @@ module _ {p : List ℕ} (w : WellFormed board p) (e l : ℕ) where
         counts = q ∙ rw (a, flag-tells p (e - 1) (omega (arith, r .1, w .few)));
       }
 
-  pub counted-line : Names p e l → isLine board l ≡ true
-  counted-line n = rw (n .counts) (plain-line (againAt p (e - 1)) (at p (e - 1)) board (w .lines (e - 1) (n .line)))
+  counted-line : Names p e l → isLine S l ≡ true
+  counted-line n = rw (n .counts) (plain-line (againAt p (e - 1)) (at p (e - 1)) S (w .lines (e - 1) (n .line)))
+
+  -- its job and the one that it starts have places in the list of next lines
+  pub counted-job : Names p e l → job l ≤ maxJob
+  counted-job n = line-parts S l (counted-line n) .1
+
+  pub counted-start : Names p e l → startedBy l ≤ maxJob
+  counted-start n = started-small S l (counted-line n)
 
 module _ (p : List ℕ) (i : ℕ) where
   -- the test of line i: it is its job's next line, and no outermost take of a device held
@@ -86,18 +103,14 @@ module _ (p : List ℕ) (i : ℕ) where
   passed-counted next first n =
       rw (plain-job (againAt p i) (at p i), plain-start p i, plain-operand (againAt p i) (at p i))
 
+-- what the code's test says, which it makes of the answer's contrary
+pub test-passed : (r t : Bool) → r ≡ t → not r ≡ false → t ≡ true
+test-passed r t e n = sym e ∙ not-false r n
+
+pub test-failed : (r t : Bool) → r ≡ t → not r ≡ true → t ≡ false
+test-failed r t e n = sym e ∙ not-true r n
+
 -- ---- the places that a line changes
-
-pub job-place : (l : ℕ) → isLine board l ≡ true → job l < suc maxJob
-job-place l h = omega (arith, line-parts board l h .1)
-
-pub started-place : (l : ℕ) → isLine board l ≡ true → startedBy l < suc maxJob
-unfolding startedBy isStart
-started-place l h = go (isStart l) refl
-  where
-    go : (b : Bool) → isStart l ≡ b → cond b (operand l) 0 < suc maxJob
-    go true e = omega (arith, start-operand board l h (eqb-true (kind l) 3 e))
-    go false e = omega arith
 
 -- it is the one that the code chooses
 pub chosen-place : (l : ℕ) (b : Bool) (o r : ℕ) → r ≡ cond b o 0 → b ≡ isStart l → o ≡ operand l → r ≡ startedBy l

@@ -15,78 +15,79 @@ use lib.Seq.{drop-cons}
 use borrow.Author.Tests.{eqb-true, eq-eqb, ne-eqb, ltb-true, not-true}
 use Rattle.model.specs.Lists.{positions, all, has}
 use Rattle.model.specs.Sets.{empty, member}
-use Rattle.model.specs.Line.{job, operand, isHeld, at}
-use Rattle.model.specs.Mate.{takesAt, deviceAt, takes, heldAt, heldLines}
-use Rattle.model.specs.WellFormed.{WellFormed}
+use Rattle.model.specs.Line.{job, operand, at}
+use Rattle.model.specs.Mate.{takesAt, deviceAt, takes, heldAt, heldLines, steps}
+use Rattle.model.specs.WellFormed.{WellFormed, fault}
 use Rattle.model.specs.Legal.{held, MayFollow}
 use Rattle.model.specs.Judged.{strayAfter, stray}
-use Rattle.model.specs.Board.{devices, board}
+use Rattle.model.specs.Board.{devices, boardAt}
 use Rattle.theory.specs.Outer.{freesAt, againAt, plainAt}
 use Rattle.theory.proofs.Tests.{clash, falsely, test, tests-agree, or-split, and-split, and-both, and-left, and-right}
 use Rattle.theory.proofs.Tests.{and-second}
 use Rattle.theory.proofs.Lists.{has-position, position-has, all-at, each-all, left, left-none, left-zero}
-use Rattle.theory.proofs.Lists.{left-every, among}
-use Rattle.theory.proofs.Sets.{member-empty}
-use Rattle.theory.proofs.WellFormed.{no-fault-exactly, no-held-in-morning}
-use Rattle.theory.proofs.Morning.{no-held-lines}
+use Rattle.theory.proofs.Lists.{among}
+use Rattle.theory.proofs.WellFormed.{no-fault-exactly}
+use Rattle.theory.proofs.Grips.{held-has}
 use Rattle.theory.proofs.LineByLine.{more-old}
 use Rattle.theory.proofs.Claims.{takes-parts}
 use Rattle.theory.proofs.Outer.{plain-operand, plain-take, plain-give}
 use Rattle.theory.proofs.Progress.{device-below}
 use Rattle.theory.proofs.Steps.{HeldOnce, held-once-first, held-once-on, handles, held-step}
-use Rattle.theory.proofs.Judged.{may-follow-exactly, step-passes, entry-refused, one-less}
+use Rattle.theory.proofs.Judged.{may-follow-exactly, step-passes, entry-refused, one-less, steps-left}
 use Rattle.sets.specs.Only.{onlyOf}
 use Rattle.sets.proofs.Members.{member-differ, member-only-if}
-use Rattle.plan.specs.Jobs.{firstLines, FirstsListed}
+use Rattle.plan.specs.Jobs.{firstLines}
+use Rattle.legal.specs.declared.Begun.{Begun}
+use Rattle.legal.specs.Begun.{Standing, Ready}
 use Rattle.legal.specs.Steps.{isNext, passed, setAfter, StepsAs}
 use Rattle.legal.proofs.Entries.{Names, next-counted, passed-counted}
-use Rattle.legal.proofs.Standing.{atFirst, Standing, stands-first, ready, ready-stands, later-undone, stands-on}
+use Rattle.legal.proofs.Standing.{ready, ready-stands, later-undone, stands-on}
 
--- with k entries passed, whose lines are done
+-- with k entries passed, whose lines are done, and the held lines before them
 pub record Following (p first es next : List ℕ) (set k : ℕ) : Type 0 where
-  pub listed : FirstsListed p first
+  pub midday : Bool
+  pub sound : fault (boardAt midday) p ≡ none
+  pub firsts : first ≡ firstLines p
   pub done : List ℕ
   pub within : k ≤ length es
   pub standing : Standing p done next
   pub begun : (i : ℕ) → heldAt p i ≡ true → has i done ≡ true
   pub once : HeldOnce p done
   pub holds : (d : ℕ) → d < devices → member set d ≡ held p done d
-  pub rest : left (among done) (length p) + k ≡ length p
+  pub rest : left (among done) (length p) + k ≡ length (steps p)
   pub answer : stray p es ≡ strayAfter p done k (drop k es)
 
-pub formed : {p first : List ℕ} → FirstsListed p first → WellFormed board p
-formed {p} l = no-fault-exactly board p .0 (l .sound)
+pub formed : {p first again next : List ℕ} {b : Begun} (r : Ready p first again next b)
+    → WellFormed (boardAt (r .midday)) p
+formed {p} r = no-fault-exactly (boardAt (r .midday)) p .0 (r .sound)
 
-pub follows-first : {p first : List ℕ} (es : List ℕ) → FirstsListed p first → Following p first es atFirst empty 0
-unfolding stray held heldAt
-follows-first {p} es l = record {
-  listed = l;
-  done = [];
+pub follows-first : {p first again next : List ℕ} {b : Begun} (es : List ℕ) → Ready p first again next b
+    → Following p first es next (b .held) 0
+unfolding stray
+follows-first {p} es r = record {
+  midday = r .midday;
+  sound = r .sound;
+  firsts = r .firsts;
+  done = heldLines p;
   within = omega arith;
-  standing = stands-first (formed l);
-  begun = λ i h. clash (heldAt p i) h (unheld i);
-  once = subst (HeldOnce p) nothing (held-once-first p (formed l .rules));
-  holds = λ d h. member-empty d;
-  rest = omega (arith, left-every (length p));
-  answer = ap (λ (d : List ℕ). strayAfter p d 0 es) nothing;
+  standing = r .begins .standing;
+  begun = held-has p;
+  once = held-once-first p (formed r .rules);
+  holds = r .begins .holds;
+  rest = omega (arith, steps-left p);
+  answer = refl;
 }
-  where
-    unheld : (i : ℕ) → isHeld (at p i) ≡ false
-    unheld i = no-held-in-morning devices p (formed l) i
-
-    nothing : heldLines p ≡ []
-    nothing = no-held-lines p unheld
 
 module _ {p first es next : List ℕ} {set k : ℕ} (f : Following p first es next set k) where
-  abbrev w : WellFormed board p
-  w = formed (f .listed)
+  abbrev w : WellFormed (boardAt (f .midday)) p
+  w = no-fault-exactly (boardAt (f .midday)) p .0 (f .sound)
 
   abbrev done : List ℕ
   done = f .done
 
   -- the device of an outermost take is in the set exactly if it is held
   take-held : (i d : ℕ) → takes p i d ≡ true → member set d ≡ held p done d
-  take-held i d t = f .holds d (device-below board p w i d t)
+  take-held i d t = f .holds d (device-below (boardAt (f .midday)) p w i d t)
 
   -- the code's test of line i is the rule's
   may-follow : (i : ℕ) → i < length p → isNext next set (plainAt p i) (suc i) ≡ true → MayFollow p done i
@@ -128,21 +129,21 @@ module _ {p first es next : List ℕ} {set k : ℕ} (f : Following p first es ne
 
   -- ---- no more entries
 
-  whole : all (λ i. has i done) (positions p) ≡ eqb k (length p)
-  whole = tests-agree (all (λ i. has i done) (positions p)) (eqb k (length p)) to from
+  whole : all (λ i. has i done) (positions p) ≡ eqb k (length (steps p))
+  whole = tests-agree (all (λ i. has i done) (positions p)) (eqb k (length (steps p))) to from
     where
-      to : all (λ i. has i done) (positions p) ≡ true → eqb k (length p) ≡ true
+      to : all (λ i. has i done) (positions p) ≡ true → eqb k (length (steps p)) ≡ true
       to e =
-          eq-eqb k (length p)
+          eq-eqb k (length (steps p))
           (omega (
             arith,
             f .rest,
             left-zero (among done) (length p) (λ i h. all-at (λ i. has i done) (positions p) i e (position-has p i h)),
           ))
 
-      from : eqb k (length p) ≡ true → all (λ i. has i done) (positions p) ≡ true
+      from : eqb k (length (steps p)) ≡ true → all (λ i. has i done) (positions p) ≡ true
       from e =
-          let z = eqb-true k (length p) e in
+          let z = eqb-true k (length (steps p)) e in
           each-all (λ i. has i done) (positions p)
           (λ i h. left-none (among done) (length p) (omega (arith, f .rest)) i (has-position p i h))
 
@@ -152,7 +153,7 @@ module _ {p first es next : List ℕ} {set k : ℕ} (f : Following p first es ne
     few = omega (arith, f .rest);
     strays = f .answer
         ∙ rw (drop-of-length-le es {i = k} h, whole, eq-eqb k (length es) (omega (arith, f .within)))
-        (go (eqb k (length p)));
+        (go (eqb k (length (steps p))));
   }
     where
       go : (b : Bool) → cond b none (some (suc k)) ≡ cond (b && true) none (some (suc k))
@@ -173,7 +174,7 @@ module _ {p first es next : List ℕ} {set k : ℕ} (f : Following p first es ne
       few = omega (arith, f .rest);
       strays = f .answer ∙ ap (strayAfter p done k) (drop-cons es k 0 more)
           ∙ entry-refused p done k entry later (λ i q t. n i q (may-follow-exactly p done i .0 t))
-          ∙ rw (ne-eqb k (length es) (λ q. omega arith)) (go (eqb k (length p)));
+          ∙ rw (ne-eqb k (length es) (λ q. omega arith)) (go (eqb k (length (steps p))));
     }
       where
         go : (b : Bool) → some (suc k) ≡ cond (b && false) none (some (suc k))
@@ -228,13 +229,15 @@ module _ {p first es next : List ℕ} {set k : ℕ} (f : Following p first es ne
         -- the list of next lines, as the code has it
         listed-on : passed next (firstLines p) (at p x) (suc x) ≡ passed next first l entry
         listed-on =
-            rw (n .counts, f .listed .firsts, passed-counted p x next (firstLines p) entry)
+            rw (n .counts, f .firsts, passed-counted p x next (firstLines p) entry)
             (ap (passed next (firstLines p) (at p x)) (sym (n .number)))
 
         pub follows-on : {next′ : List ℕ} {set′ : ℕ} → next′ ≡ passed next first l entry → set′ ≡ setAfter l set
             → Following p first es next′ set′ (k + 1)
         follows-on a b = rw (a, b) (record {
-          listed = f .listed;
+          midday = f .midday;
+          sound = f .sound;
+          firsts = f .firsts;
           done = done ++ (x ∷ []);
           within = omega arith;
           standing = subst (λ (s : List ℕ). Standing p (done ++ (x ∷ [])) s) listed-on

@@ -1,102 +1,114 @@
 -- What the list of next lines says (02, request 1): a job stands at a line exactly if the line is undone and all that
--- has to come before it is done. This holds before the first step, and after a line is done.
-use Prim.Native.Nat.{ℕ, zero, suc, _-_, _<_, _≤_}
-use mathlib.Core.Bool.{true, false}
+-- has to come before it is done. This holds with nothing done, and after a line is done.
+use Prim.Native.Nat.{ℕ, suc, _-_, _<_, _≤_}
+use mathlib.Core.Bool.{Bool, true, false, cond}
 use mathlib.Core.List.{List, [], _∷_, _++_}
 use mathlib.Core.Logic.{_⊎_, inl, inr, _≢_}
-use mathlib.Core.Path.{_≡_, refl, sym, _∙_, ap}
+use mathlib.Core.Option.{Option, none, some}
+use mathlib.Core.Path.{_≡_, refl, sym, _∙_, ap, ap₂}
 use native.Mathlib.Omega.{arith}
 use lib.Dec.{eqb, ltb}
-use lib.ListN.{length, getD, set, replicate, length-set}
+use lib.ListN.{length, getD, set, length-set}
 use lib.Seq.{getD-set-same, getD-set-other}
-use borrow.Author.Tests.{eqb-true, eqb-false, lt-ltb, le-ltb}
-use Rattle.model.specs.Lists.{has}
-use Rattle.model.specs.Line.{job, starts, at, maxJob}
+use borrow.Author.Tests.{eqb-true, eqb-false, ne-eqb, lt-ltb, le-ltb}
+use Rattle.model.specs.Lists.{has, positions, firstOf}
+use Rattle.model.specs.Line.{Settings, job, starts, at, lineNumber, maxJob}
 use Rattle.model.specs.WellFormed.{WellFormed}
 use Rattle.model.specs.Legal.{precedes}
-use Rattle.model.specs.Board.{board}
-use Rattle.theory.proofs.Tests.{clash, test, le-or-lt}
+use Rattle.theory.proofs.Tests.{clash, falsely, test, le-or-lt}
 use Rattle.theory.proofs.Line.{line-parts}
-use Rattle.theory.proofs.WellFormed.{any-line, start-line}
+use Rattle.theory.proofs.Lists.{Answer, first-answer, position-has}
+use Rattle.theory.proofs.Claims.{getD-upFrom}
+use Rattle.theory.proofs.WellFormed.{start-line}
 use Rattle.theory.proofs.Successors.{earlier-precedes, start-precedes, Why, sameJob, starter, why, jobs-grow}
 use Rattle.theory.proofs.LineByLine.{more-old, more-new, has-other, not-more, more-only}
-use Rattle.plan.specs.Jobs.{firstLines}
+use Rattle.plan.specs.Jobs.{firstLines, starters, numberOfFound}
 use Rattle.plan.proofs.Firsts.{Listed, first-listed}
+use Rattle.legal.specs.Begun.{Standing, Running}
 use Rattle.legal.specs.Steps.{startedBy, passed}
-use Rattle.legal.proofs.Entries.{job-place, started-place, starts-it, starts-no-other}
+use Rattle.legal.proofs.Entries.{started-small, starts-it, starts-no-other}
 
--- before the first step: job 1 stands at line 1, and no other job is started
-unfoldable pub atFirst : List ℕ
-atFirst = set (replicate (suc maxJob) 0) 1 1
+-- ---- the list of starters
 
--- what the list says after the lines done
-pub record Standing (p done next : List ℕ) : Type 0 where
-  pub long : length next ≡ suc maxJob
-  -- a line is done exactly if its job stands past it
-  pub past : (i : ℕ) → i < length p → has i done ≡ ltb (suc i) (getD next (job (at p i)) 0)
-  -- a job that stands somewhere is started
-  pub started : (i k : ℕ) → i < length p → 1 ≤ getD next (job (at p i)) 0 → starts (at p k) (job (at p i)) ≡ true
-      → has k done ≡ true
-  -- a job that is started stands at a line of it or past one
-  pub stands : (i : ℕ) → i < length p → ((k : ℕ) → starts (at p k) (job (at p i)) ≡ true → has k done ≡ true)
-      → (f : ℕ) × (job (at p f) ≡ job (at p i)) × (f < getD next (job (at p i)) 0)
+-- what it says of job j: no line starts it, or one does
+data StartListed (p : List ℕ) (j : ℕ) : Type 0 where
+  nowhere : getD (starters p) j 0 ≡ 0 → ((k : ℕ) → starts (at p k) j ≡ false) → StartListed p j
+  somewhere : (k : ℕ) → getD (starters p) j 0 ≡ suc k → starts (at p k) j ≡ true → StartListed p j
 
-none-listed : (n j : ℕ) → getD {A = ℕ} (replicate n 0) j 0 ≡ 0
-none-listed zero j = refl
-none-listed (suc n) zero = refl
-none-listed (suc n) (suc j) = none-listed n j
+started-listed : (p : List ℕ) (j : ℕ) → j ≤ maxJob → StartListed p j
+unfolding starters numberOfFound lineNumber
+started-listed p j h = go (firstOf (its j) (positions p)) listed (first-answer (its j) (positions p))
+  where
+    its : ℕ → ℕ → Bool
+    its j i = starts (at p i) j
 
-module _ {p : List ℕ} (w : WellFormed board p) where
+    listed : getD (starters p) j 0 ≡ numberOfFound (firstOf (its j) (positions p))
+    listed = getD-upFrom (λ j. numberOfFound (firstOf (its j) (positions p))) 0 (suc maxJob) j (omega arith)
+        ∙ ap (λ (i : ℕ). numberOfFound (firstOf (its i) (positions p))) (omega arith)
+
+    go : (o : Option ℕ) → getD (starters p) j 0 ≡ numberOfFound o → Answer (its j) (positions p) o → StartListed p j
+    go none e a =
+        nowhere e
+        (λ k. falsely (starts (at p k) j)
+        (λ t. clash (starts (at p k) j) t (a k (position-has p k (start-line p k j t)))))
+    go (some k) e a = somewhere k e (a .1)
+
+-- where the job of line i stands with nothing done
+data Stood (p next : List ℕ) (i : ℕ) : Type 0 where
+  runs : ((k : ℕ) → starts (at p k) (job (at p i)) ≡ false)
+      → getD next (job (at p i)) 0 ≡ getD (firstLines p) (job (at p i)) 0 → Stood p next i
+  waits : (k : ℕ) → starts (at p k) (job (at p i)) ≡ true → getD next (job (at p i)) 0 ≡ 0 → Stood p next i
+
+module _ {S : Settings} {p : List ℕ} (w : WellFormed S p) where
   from-1 : (i : ℕ) → i < length p → 1 ≤ job (at p i)
-  from-1 i h = line-parts board (at p i) (w .lines i h) .0
+  from-1 i h = line-parts S (at p i) (w .lines i h) .0
 
-  -- ---- before the first step
+  job-small : (i : ℕ) → i < length p → job (at p i) ≤ maxJob
+  job-small i h = line-parts S (at p i) (w .lines i h) .1
 
-  first-stand : (j : ℕ) → (j ≡ 1 → ⊥) → getD atFirst j 0 ≡ 0
-  unfolding atFirst
-  first-stand j n = getD-set-other (replicate (suc maxJob) 0) 1 j 1 0 n ∙ none-listed (suc maxJob) j
+  -- ---- with nothing done
 
-  -- no job stands past line 1
-  first-low : (j : ℕ) → getD atFirst j 0 ≤ 1
-  unfolding atFirst
-  first-low j = go (test (eqb j 1))
-    where
-      go : (eqb j 1 ≡ true) ⊎ (eqb j 1 ≡ false) → getD atFirst j 0 ≤ 1
-      go (inl q) = rw (eqb-true j 1 q) (omega arith)
-      go (inr q) = omega (arith, first-stand j (eqb-false j 1 q))
-
-  -- The list says that no line is done, and that job 1 stands at line 1.
-  pub stands-first : Standing p [] atFirst
-  unfolding has atFirst
-  stands-first = record {
-    long = refl;
-    past = λ i h. sym (le-ltb (suc i) (getD atFirst (job (at p i)) 0) (omega (arith, first-low (job (at p i)))));
-    started = λ i k h b s. absurd (unstarted i k h b s);
-    stands = λ i h f. stands′ i h f (test (eqb (job (at p i)) 1));
+  -- The list says that no line is done, and that a job stands at its first line exactly if no line starts it.
+  pub stands-running : {first starter next : List ℕ} → first ≡ firstLines p → starter ≡ starters p
+      → Running first starter next → Standing p [] next
+  unfolding has
+  stands-running {first} {starter} {next} a b r = record {
+    long = r .long;
+    past = λ i h. sym (le-ltb (suc i) (getD next (job (at p i)) 0) (low i h (stood i h)));
+    started = λ i k h l t. absurd (unstarted i k h l t (stood i h));
+    stands = λ i h f. stands′ i h (λ k t. clash false (f k t) refl) (stood i h);
   }
     where
-      unstarted : (i k : ℕ) → i < length p → 1 ≤ getD atFirst (job (at p i)) 0 → starts (at p k) (job (at p i)) ≡ true
-          → ⊥
-      unstarted i k h b s =
-          omega (
-            arith,
-            first-stand (job (at p i))
-                (λ q. omega (
-                  arith,
-                  w .rules .startHigher k (job (at p i)) s,
-                  from-1 k (start-line p k (job (at p i)) s),
-                )),
-          )
+      stood : (i : ℕ) → i < length p → Stood p next i
+      stood i h = go (started-listed p j (job-small i h))
+        where
+          j : ℕ
+          j = job (at p i)
 
-      stands′ : (i : ℕ) → i < length p → ((k : ℕ) → starts (at p k) (job (at p i)) ≡ true → has k [] ≡ true)
-          → (eqb (job (at p i)) 1 ≡ true) ⊎ (eqb (job (at p i)) 1 ≡ false)
-          → (f : ℕ) × (job (at p f) ≡ job (at p i)) × (f < getD atFirst (job (at p i)) 0)
-      stands′ i h f (inl q) =
-          let z = eqb-true (job (at p i)) 1 q in
-          (0, w .rules .first (omega arith) ∙ sym z, rw z (omega arith))
-      stands′ i h f (inr q) =
-          let r = any-line (λ l. starts l (job (at p i))) p (w .started refl i h (eqb-false (job (at p i)) 1 q)) in
-          clash false (f (r .0) (r .2)) refl
+          its : getD next j 0 ≡ cond (eqb (getD (starters p) j 0) 0) (getD (firstLines p) j 0) 0
+          its = r .each j (job-small i h)
+              ∙ ap₂ (λ (f s : List ℕ). cond (eqb (getD s j 0) 0) (getD f j 0) 0) a b
+
+          go : StartListed p j → Stood p next i
+          go (nowhere z n) = runs n (its ∙ rw z)
+          go (somewhere k z t) = waits k t (its ∙ rw (z, ne-eqb (suc k) 0 (λ q. omega arith)))
+
+      first-of′ : (i : ℕ) → i < length p → Listed p (job (at p i))
+      first-of′ i h = first-listed p (job (at p i)) i (job-small i h) h refl
+
+      low : (i : ℕ) → i < length p → Stood p next i → getD next (job (at p i)) 0 ≤ suc i
+      low i h (runs n e) = let f = first-of′ i h in omega (arith, e, f .number, f .lowest i h refl)
+      low i h (waits k t e) = omega (arith, e)
+
+      unstarted : (i k : ℕ) → i < length p → 1 ≤ getD next (job (at p i)) 0 → starts (at p k) (job (at p i)) ≡ true
+          → Stood p next i → ⊥
+      unstarted i k h l t (runs n e) = clash (starts (at p k) (job (at p i))) t (n k)
+      unstarted i k h l t (waits m u e) = omega (arith, e)
+
+      stands′ : (i : ℕ) → i < length p → ((k : ℕ) → starts (at p k) (job (at p i)) ≡ true → ⊥) → Stood p next i
+          → (f : ℕ) × (job (at p f) ≡ job (at p i)) × (f < getD next (job (at p i)) 0)
+      stands′ i h f (runs n e) = let g = first-of′ i h in (g .line, g .ofJob, omega (arith, e, g .number))
+      stands′ i h f (waits k t e) = absurd (f k t)
 
   module _ {done next : List ℕ} (s : Standing p done next) where
     -- the number of the line at which the job of line i stands
@@ -193,11 +205,11 @@ module _ {p : List ℕ} (w : WellFormed board p) where
             last = getD first (startedBy l) 0
 
             of-line : job l < length next
-            of-line = omega (arith, job-place l (w .lines x line), s .long)
+            of-line = omega (arith, job-small x line, s .long)
 
             of-start : startedBy l < length one
             of-start =
-                omega (arith, started-place l (w .lines x line), s .long, length-set next (job l) (suc (suc x)))
+                omega (arith, started-small S l (w .lines x line), s .long, length-set next (job l) (suc (suc x)))
 
             other : starts l j ≡ false → (j ≡ startedBy l → ⊥)
             other a q = starts-no-other l j a (from-1 i h) q
@@ -219,7 +231,7 @@ module _ {p : List ℕ} (w : WellFormed board p) where
 
         -- the first line of the job that begins
         first-of : (i : ℕ) → i < length p → Listed p (job (at p i))
-        first-of i h = first-listed p (job (at p i)) i (line-parts board (at p i) (w .lines i h) .1) h refl
+        first-of i h = first-listed p (job (at p i)) i (job-small i h) h refl
 
         -- a job that line x starts did not stand anywhere
         unbegun : (i : ℕ) → i < length p → starts (at p x) (job (at p i)) ≡ true → has i more ≡ false

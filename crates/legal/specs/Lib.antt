@@ -1,2 +1,3 @@
 -- What the contracts of `legal` cite beside `model`, `plan` and `promises`.
 pub mod Steps
+pub mod Begun

@@ -11,6 +11,7 @@ use lib.ListN.{length, getD, set}
 use Rattle.model.specs.Board.{devices}
 use Rattle.model.specs.Sets.{empty, member}
 use Rattle.model.specs.Line.{job, operand, isTake, isGive, isStart}
+use Rattle.model.specs.Mate.{steps}
 use Rattle.model.specs.Judged.{stray}
 use Rattle.sets.specs.Both.{differ}
 use Rattle.sets.specs.Only.{onlyOf}
@@ -36,8 +37,8 @@ setAfter l held = differ held (cond (isTake l || isGive l) (onlyOf devices (oper
 
 -- ---- what it tells
 
--- so many entries from the front are legal steps: the next is the first that is none, if lines or entries are left
-pub record StepsAs (p entries : List ℕ) (steps : ℕ) : Type 0 where
-  pub few : steps ≤ length p
+-- so many entries from the front are legal steps: the next is the first that is none, if steps or entries are left
+pub record StepsAs (p entries : List ℕ) (count : ℕ) : Type 0 where
+  pub few : count ≤ length (steps p)
   pub strays : stray p entries
-      ≡ cond (eqb steps (length p) && eqb steps (length entries)) none (some (suc steps))
+      ≡ cond (eqb count (length (steps p)) && eqb count (length entries)) none (some (suc count))

@@ -8,11 +8,14 @@ use native.Mathlib.Omega.{arith}
 use lib.Dec.{eqb, leb, ltb}
 use borrow.Author.Tests.{eqb-true, eq-eqb, ne-eqb, leb-true, leb-false, le-leb, lt-leb, lt-ltb, le-ltb, not-true}
 use Rattle.model.specs.Board.{devices, boardAt, board}
-use Rattle.model.specs.Line.{job, kind, operand, opens, isHeld, isTake, deviceOf, verbOf, operandFits, lineFits}
-use Rattle.model.specs.Line.{isLine, maxJob, heldFrom, heldVerb}
+use Rattle.model.specs.Line.{Settings, job, kind, operand, opens, isHeld, isTake, deviceOf, verbOf, operandFits}
+use Rattle.model.specs.Line.{lineFits}
+use Rattle.model.specs.Line.{isLine, maxJob, heldFrom, heldVerb, pack, packVerb}
 use Rattle.line.specs.Ranges.{lowestOperand, highestOperand}
+use Rattle.line.specs.Device.{packedBits}
+use Rattle.theory.specs.Line.{Fits, ofDo, ofDevice, ofHeld, ofStart}
 use Rattle.theory.proofs.Tests.{tests-agree, and-split, le-or-lt}
-use Rattle.theory.proofs.Line.{held-operand, kind-small, Verbed, asHeld, asKind, verbed}
+use Rattle.theory.proofs.Line.{fits-parts, held-operand, kind-small, Verbed, asHeld, asKind, verbed}
 
 pub or-none : (b : Bool) → (b || false) ≡ b
 or-none true = refl
@@ -69,28 +72,46 @@ from (suc (suc zero)) o h l = or-none (ltb o devices) ∙ on-board o
 from (suc (suc (suc zero))) o h l = rw (le-leb 2 o l)
 from (suc (suc (suc (suc k)))) o h l = absurd (omega arith)
 
+-- a verb's operands are those between the two
+between : (k o : ℕ) → k < 4 → (leb (lowestOperand k) o && leb o (highestOperand k)) ≡ operandFits board k o
+between k o h = go (le-or-lt (lowestOperand k) o)
+  where
+    go : (lowestOperand k ≤ o) ⊎ (o < lowestOperand k)
+        → (leb (lowestOperand k) o && leb o (highestOperand k)) ≡ operandFits board k o
+    go (inl l) = rw (le-leb (lowestOperand k) o l) (sym (from k o h l))
+    go (inr l) = rw (lt-leb (lowestOperand k) o l) (sym (below k o h l))
+
 -- by what the code finds of the kind
-module _ (j k o r : ℕ) (low : 1 ≤ j) (high : j ≤ maxJob) (kind : k < 4)
-    (is : r ≡ lowestOperand k + 256 * highestOperand k) where
-  low-is : r % 256 ≡ lowestOperand k
-  low-is = rw is (go (eqb k 3))
+module _ (k r : ℕ) (is : r ≡ lowestOperand k + 256 * highestOperand k) where
+  low-of : r % 256 ≡ lowestOperand k
+  low-of = rw is (go (eqb k 3))
     where
       go : (b : Bool) → (cond b 2 0 + 256 * highestOperand k) % 256 ≡ cond b 2 0
       go true = omega arith
       go false = omega arith
 
-  high-is : r / 256 ≡ highestOperand k
-  high-is = rw is (go (eqb k 3))
+  high-of : r / 256 ≡ highestOperand k
+  high-of = rw is (go (eqb k 3))
     where
       go : (b : Bool) → (cond b 2 0 + 256 * highestOperand k) / 256 ≡ highestOperand k
       go true = omega arith
       go false = omega arith
 
+module _ (j k o r : ℕ) (low : 1 ≤ j) (high : j ≤ maxJob) (kind : k < 4)
+    (is : r ≡ lowestOperand k + 256 * highestOperand k) where
   pub low-operand : o < r % 256 → lineFits board j k o ≡ false
-  low-operand h = fits j k o low high ∙ below k o kind (rw low-is at h)
+  low-operand h = fits j k o low high ∙ below k o kind (rw (low-of k r is) at h)
 
   pub high-operand : r % 256 ≤ o → lineFits board j k o ≡ leb o (r / 256)
-  high-operand h = fits j k o low high ∙ from k o kind (rw low-is at h) ∙ ap (leb o) (sym high-is)
+  high-operand h = fits j k o low high ∙ from k o kind (rw (low-of k r is) at h) ∙ ap (leb o) (sym (high-of k r is))
+
+-- the same, where no branch tells the tests apart
+pub tests-fit : (j k o r : ℕ) → k < 4 → r ≡ lowestOperand k + 256 * highestOperand k
+    → ((leb 1 j && leb j maxJob) && (leb (r % 256) o && leb o (r / 256))) ≡ lineFits board j k o
+unfolding lineFits
+tests-fit j k o r h is =
+    ap (λ (b : Bool). (leb 1 j && leb j maxJob) && b)
+    (rw (low-of k r is, high-of k r is) (between k o h))
 
 -- ---- held lines
 
@@ -149,6 +170,83 @@ as-take d = refl
 no-take : (d : ℕ) → operandFits (boardAt false) heldVerb d ≡ operandFits board 1 (heldFrom + d)
 unfolding operandFits
 no-take d = rw (le-ltb (heldFrom + d) devices (omega arith))
+
+-- the kind of each verb, as the code finds it; and what fits at a verb by what fits at its kind
+and-more : (a b c : Bool) → (a && (b && c)) ≡ (a && b && c)
+and-more true b c = refl
+and-more false b c = refl
+
+and-yes : (b : Bool) → b ≡ (b && true)
+and-yes true = refl
+and-yes false = refl
+
+and-no : (b : Bool) → false ≡ (b && false)
+and-no true = refl
+and-no false = refl
+
+none-held : (o : ℕ) → operandFits board heldVerb o ≡ false
+unfolding operandFits
+none-held o = refl
+
+-- past the last verb nothing fits
+no-verb : (m : Bool) (v o : ℕ) → 5 ≤ v → operandFits (boardAt m) v o ≡ false
+unfolding operandFits
+no-verb m v o h =
+    rw (
+      ne-eqb v 0 (λ q. omega arith),
+      ne-eqb v 1 (λ q. omega arith),
+      ne-eqb v 2 (λ q. omega arith),
+      ne-eqb v 3 (λ q. omega arith),
+      ne-eqb v 4 (λ q. omega arith),
+    )
+
+few-by-kind : (m : Bool) (v o : ℕ) → v < 5
+    → operandFits (boardAt m) v o
+    ≡ (operandFits board ((v % 4 + v / 4 % 2) % 4) o && (ltb v 4 || (eqb v 4 && m)))
+few-by-kind m zero o h = of-kind m 0 o (omega arith) ∙ and-yes (operandFits board 0 o)
+few-by-kind m (suc zero) o h = of-kind m 1 o (omega arith) ∙ and-yes (operandFits board 1 o)
+few-by-kind m (suc (suc zero)) o h = of-kind m 2 o (omega arith) ∙ and-yes (operandFits board 2 o)
+few-by-kind m (suc (suc (suc zero))) o h = of-kind m 3 o (omega arith) ∙ and-yes (operandFits board 3 o)
+few-by-kind true (suc (suc (suc (suc zero)))) o h = as-take o ∙ and-yes (operandFits board 1 o)
+few-by-kind false (suc (suc (suc (suc zero)))) o h = none-held o ∙ and-no (operandFits board 1 o)
+few-by-kind m (suc (suc (suc (suc (suc v))))) o h = absurd (omega arith)
+
+fits-by-kind : (m : Bool) (v o : ℕ)
+    → operandFits (boardAt m) v o
+    ≡ (operandFits board ((v % 4 + v / 4 % 2) % 4) o && (ltb v 4 || (eqb v 4 && m)))
+fits-by-kind m v o = go (le-or-lt 5 v)
+  where
+    go : (5 ≤ v) ⊎ (v < 5)
+        → operandFits (boardAt m) v o
+        ≡ (operandFits board ((v % 4 + v / 4 % 2) % 4) o && (ltb v 4 || (eqb v 4 && m)))
+    go (inr h) = few-by-kind m v o h
+    go (inl h) =
+        no-verb m v o h
+        ∙ rw (le-ltb v 4 (omega arith), ne-eqb v 4 (λ q. omega arith))
+        (and-no (operandFits board ((v % 4 + v / 4 % 2) % 4) o))
+
+pub by-kind : (m : Bool) (j v o : ℕ)
+    → lineFits (boardAt m) j v o
+    ≡ (lineFits board j ((v % 4 + v / 4 % 2) % 4) o && (ltb v 4 || (eqb v 4 && m)))
+unfolding lineFits
+by-kind m j v o =
+    ap (λ (b : Bool). leb 1 j && leb j maxJob && b) (fits-by-kind m v o)
+    ∙ and-more (leb 1 j && leb j maxJob) (operandFits board ((v % 4 + v / 4 % 2) % 4) o)
+    (ltb v 4 || (eqb v 4 && m))
+
+-- the number packed of the parts of a line is that line's
+pub packed-verb : (S : Settings) → S .devices ≤ heldFrom → (j v o : ℕ) → lineFits S j v o ≡ true
+    → packedBits j v o ≡ packVerb j v o
+unfolding packVerb pack
+packed-verb S d j v o t =
+    let r = fits-parts S j v o t in go (r .1) (r .2)
+  where
+    go : j ≤ maxJob → Fits S v o → packedBits j v o ≡ packVerb j v o
+    go h (ofDo e b) = rw e (omega arith)
+    go h (ofDevice (inl e) b) = rw e (omega arith)
+    go h (ofDevice (inr e) b) = rw e (omega arith)
+    go h (ofHeld e m b) = rw e (omega arith)
+    go h (ofStart e a b) = rw e (omega arith)
 
 -- a line is tested by its kind, at midday or in the morning
 pub as-kind : (m : Bool) (l : ℕ)

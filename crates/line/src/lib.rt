@@ -1,16 +1,17 @@
 // One line as its packed number (01, "Packed" and the table of "The plan as text", and the held lines of 02, request
-// 5): job, kind and operand. No other source takes a packed number apart or puts one together. Every function answers
-// for every number.
+// 5): job, kind and operand. No other source takes a packed number apart or puts one together. Every function that
+// takes one apart answers for every number.
 use board::DEVICES;
 use board::LAST_JOB;
 ghost use mathlib.Core.Path.{_≡_};
 ghost use mathlib.Core.Bool.{cond, _&&_};
-ghost use Prim.Native.Nat.{_+_, _*_, _%_, _^_};
+ghost use Prim.Native.Nat.{_+_, _*_, _%_, _^_, _≤_, _<_};
 ghost use Rattle.model.specs.Line.{pack, job, kind, operand, opens, isHeld, isTake, isGive, isStart, deviceOf, isLine};
+ghost use Rattle.model.specs.Line.{verbOf, packVerb, lineFits};
 ghost use Rattle.model.specs.Board.{boardAt};
 ghost use Rattle.theory.specs.Outer.{plain};
 ghost use Rattle.line.specs.Ranges.{lowestOperand, highestOperand};
-ghost use Rattle.line.specs.Device.{deviceBits};
+ghost use Rattle.line.specs.Device.{deviceBits, packedBits};
 
 // So many numbers has an operand room for, from 0 on.
 pub const OPERANDS: u32 = 256;
@@ -21,11 +22,14 @@ pub const LAST_OPERAND: u32 = OPERANDS - 1;
 // A list with an entry for each number that an operand can be has so many.
 pub const EACH_OPERAND: usize = OPERANDS as usize;
 
-// So many kinds of line there are, a verb each.
+// So many kinds of line there are.
 const KINDS: u32 = 4;
 
-// A list with an entry for each kind has so many.
-pub const EACH_KIND: usize = KINDS as usize;
+// So many verbs there are: one for each kind, and then held, whose lines are of the kind of takes.
+const VERBS: u32 = KINDS + 1;
+
+// A list with an entry for each verb has so many.
+pub const EACH_VERB: usize = VERBS as usize;
 
 // So many numbers has a line of one job room for. The job stands above them, in the rest of the word.
 const OF_A_JOB: u32 = KINDS * OPERANDS;
@@ -88,6 +92,20 @@ pub fn is_held(l: u32) -> bool
     l / HELD_FROM % HALF_KINDS == 3
 }
 
+// The number of its verb: its kind, and of a held line 4.
+pub fn verb(l: u32) -> u32
+    ensures { λ r. ⌜ r ≡ verbOf l ⌝ }
+{
+    choose(is_held(l), KINDS, kind(l))
+}
+
+// What its operand names: an action, a device or a job.
+pub fn named(l: u32) -> u32
+    ensures { λ r. ⌜ r ≡ deviceOf l ⌝ }
+{
+    choose(is_held(l), l % HELD_FROM, operand(l))
+}
+
 // Is it a give?
 pub fn is_give(l: u32) -> bool
     ensures { λ r. ⌜ r ≡ isGive l ⌝ }
@@ -146,6 +164,24 @@ pub fn is_line(l: u32, midday: bool) -> bool
         return false;
     }
     o <= r / OPERANDS
+}
+
+// Are job, verb and operand a line's, at midday or in the morning? A held line has the operands of a take; in the
+// morning there is none.
+pub fn fits(j: u32, v: u32, o: u32, midday: bool) -> bool
+    ensures { λ r. ⌜ r ≡ lineFits (boardAt midday) j v o ⌝ }
+{
+    let r = range(v % KINDS + v / KINDS % 2);
+    let of_job = (1 <= j) & (j <= LAST_JOB);
+    of_job & ((r % OPERANDS <= o) & (o <= r / OPERANDS)) & ((v < KINDS) | ((v == KINDS) & midday))
+}
+
+// The number of a job, a verb and what the operand names.
+pub fn pack_verb(j: u32, v: u32, o: u32) -> u32
+    ensures { λ r. ⌜ r ≡ packedBits j v o ⌝ }
+{
+    let held = v / KINDS % 2;
+    pack(j, v % KINDS + held, held * HELD_FROM + o % OPERANDS)
 }
 
 // The number of a job, a kind and an operand, each of as many bits as it has room for.

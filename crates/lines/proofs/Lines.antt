@@ -2,7 +2,7 @@
 -- line's text is read as its three fields. So what is read at a place is the first line of what stands there, as the
 -- definition has it, which parts the text at its newlines; and what the reader hands out is this line, 2 where none
 -- stands there, 3 after line 1,024, or the end.
-use Prim.Native.Nat.{ℕ, _+_, _%_, _^_, _≤_, _<_}
+use Prim.Native.Nat.{ℕ, _+_, _≤_, _<_}
 use mathlib.Core.Bool.{true, false}
 use mathlib.Core.List.{List, _∷_, _++_, append-assoc, flatten}
 use mathlib.Core.Option.{Option, none, some}
@@ -12,16 +12,15 @@ use native.Mathlib.Omega.{arith}
 use lib.ListN.{length, drop, length-append, length-drop, drop-of-length-le}
 use lib.Seq.{drop-drop, drop-append-seam}
 use borrow.Author.Tests.{lt-ltb}
-use Rattle.model.specs.Line.{Settings, morning, pack, job, kind, operand, isHeld}
-use Rattle.model.specs.Line.{isLine, lineNumber, maxLines, maxBytes, heldFrom}
+use Rattle.model.specs.Line.{Settings, packVerb, job, verbOf, deviceOf, lineFits, isLine, lineNumber, maxLines}
+use Rattle.model.specs.Line.{maxBytes, heldFrom}
 use Rattle.model.specs.Text.{tab, newline, isDigit, verbs, tabbed, linesOf, packedLine, lineText}
 use Rattle.model.specs.Text.{handedLine, nextLine}
 use Rattle.model.specs.declared.Refusal.the-variants.{TextTooLong, Malformed, TooManyLines}
 use Rattle.model.specs.declared.Cursor.{Cursor}
 use Rattle.model.specs.declared.LineAnswer.{LineAnswer}
 use Rattle.theory.proofs.Tests.{clash}
-use Rattle.theory.proofs.Line.{job-pack, kind-pack, operand-pack, pack-parts, kind-small, line-parts}
-use Rattle.theory.proofs.Line.{morning-line, verb-kind, own-device}
+use Rattle.theory.proofs.Line.{verb-small, device-small, line-parts, pack-line}
 use Rattle.theory.proofs.Fields.{line-first, flatten-lines, some-line}
 use Rattle.theory.proofs.Spelling.{line-ends, packed-text, text-packed}
 use Rattle.theory.proofs.Reader.{handed-many, handed-malformed, handed-line}
@@ -36,14 +35,9 @@ use Rattle.lines.proofs.Verbs.{verb-whole, SpellsVerb, verb-sound}
 
 -- ---- a line's text and its three fields
 
-line-fields : (n : ℕ) → isHeld n ≡ false
-    → lineText n ≡ spelling tab (job n) ++ (word (kind n) ++ spelling newline (operand n))
+line-fields : (n : ℕ) → lineText n ≡ spelling tab (job n) ++ (word (verbOf n) ++ spelling newline (deviceOf n))
 unfolding lineText tabbed spelling word
-line-fields n h = rw (verb-kind n h, own-device n h) (simp append-assoc)
-
-operand-byte : (n : ℕ) → operand n ≤ 255
-unfolding operand
-operand-byte n = omega arith
+line-fields n = simp append-assoc
 
 -- past what stands at a place
 past : (text f rest : List ℕ) (i : ℕ) → drop i text ≡ f ++ rest → drop (i + length f) text ≡ rest
@@ -57,104 +51,93 @@ module _ (text : List ℕ) (i : ℕ) where
     pub of-operand : fieldAt newline b (drop b text) ≡ Field.Number o e
 
   -- a line's text is read so
-  line-read : (D n : ℕ) → LineThere (morning D) text i n → (a b e : ℕ) × Read (job n) a (kind n) b (operand n) e
+  line-read : (S : Settings) (n : ℕ) → LineThere S text i n
+      → (a b e : ℕ) × Read (job n) a (verbOf n) b (deviceOf n) e
   unfolding isDigit verbs
-  line-read D n l =
+  line-read S n l =
       let j : List ℕ = spelling tab (job n) in
-      let k : List ℕ = word (kind n) in
-      let o : List ℕ = spelling newline (operand n) in
+      let k : List ℕ = word (verbOf n) in
+      let o : List ℕ = spelling newline (deviceOf n) in
       let a : ℕ = i + length j in
       let b : ℕ = a + length k in
       let x : drop i text ≡ j ++ (k ++ (o ++ l .rest)) =
-      l .whole ∙ (ap (λ (f : List ℕ). f ++ l .rest) (line-fields n (morning-line D n (l .line))) ∙ simp append-assoc) in
+      l .whole ∙ (ap (λ (f : List ℕ). f ++ l .rest) (line-fields n) ∙ simp append-assoc) in
       let y : drop a text ≡ k ++ (o ++ l .rest) = past text j (k ++ (o ++ l .rest)) i x in
       let z : drop b text ≡ o ++ l .rest = past text k (o ++ l .rest) a y in (
         a,
         b,
         b + length o,
         record {
-          of-job = rw x (field-whole tab i (job n) _ refl (omega (arith, line-parts (morning D) n (l .line) .1)));
-          of-verb = rw y (verb-whole a (kind n) (o ++ l .rest) (kind-small n));
-          of-operand = rw z (field-whole newline b (operand n) (l .rest) refl (operand-byte n));
+          of-job = rw x (field-whole tab i (job n) _ refl (omega (arith, line-parts S n (l .line) .1)));
+          of-verb = rw y (verb-whole a (verbOf n) (o ++ l .rest) (verb-small n));
+          of-operand = rw z (field-whole newline b (deviceOf n) (l .rest) refl (omega (arith, device-small n)));
         },
       )
 
-  module _ (D : ℕ) where
+  module _ (S : Settings) where
     -- so no line stands where a field is wrong
-    pub no-job : fieldAt tab i (drop i text) ≡ Field.Wrong → SpeltAt (morning D) text i Spelt.Malformed
+    pub no-job : fieldAt tab i (drop i text) ≡ Field.Wrong → SpeltAt S text i Spelt.Malformed
     no-job x n l =
-        let r = line-read D n l .3 in
+        let r = line-read S n l .3 in
         let z : _≡_ {A = ℕ} 0 1 = cc in
         omega arith
 
     pub no-verb : (j a : ℕ) → fieldAt tab i (drop i text) ≡ Field.Number j a → verbAt a (drop a text) ≡ Verb.Wrong
-        → SpeltAt (morning D) text i Spelt.Malformed
+        → SpeltAt S text i Spelt.Malformed
     no-verb j a x y n l =
-        let r = line-read D n l .3 in
+        let r = line-read S n l .3 in
         let z : _≡_ {A = ℕ} 0 1 = cc in
         omega arith
 
     pub no-operand : (j a k b : ℕ) → fieldAt tab i (drop i text) ≡ Field.Number j a
         → verbAt a (drop a text) ≡ Verb.Kind k b → fieldAt newline b (drop b text) ≡ Field.Wrong
-        → SpeltAt (morning D) text i Spelt.Malformed
+        → SpeltAt S text i Spelt.Malformed
     no-operand j a k b x y z n l =
-        let r = line-read D n l .3 in
+        let r = line-read S n l .3 in
         let z : _≡_ {A = ℕ} 0 1 = cc in
         omega arith
 
-    -- the number that the code packs of the three
-    module _ {j a k b o e : ℕ} (r : Read j a k b o e) (n : ℕ) (c : n ≡ pack (j % 2 ^ 22) (k % 4) (o % 256)) where
+    -- job, verb and operand that were read
+    module _ {j a v b o e : ℕ} (r : Read j a v b o e) where
       x : Spells tab i (drop i text) j a
       x = field-sound tab i (drop i text) j a (r .of-job)
 
-      y : SpellsVerb a (drop a text) k b
-      y = verb-sound a (drop a text) k b (r .of-verb)
+      y : SpellsVerb a (drop a text) v b
+      y = verb-sound a (drop a text) v b (r .of-verb)
 
       z : Spells newline b (drop b text) o e
       z = field-sound newline b (drop b text) o e (r .of-operand)
 
-      packed : n ≡ pack j k o
-      unfolding verbs
-      packed =
-          let u : j % 2 ^ 22 ≡ j = omega (arith, x .small) in
-          let v : k % 4 ≡ k = omega (arith, y .small) in
-          let w : o % 256 ≡ o = omega (arith, z .small) in
-          c ∙ rw (u, v, w)
-
-      -- where it is no line's, none stands there
-      pub no-line : isLine (morning D) n ≡ false → SpeltAt (morning D) text i Spelt.Malformed
+      -- where they are no line's, none stands there
+      pub no-line : lineFits S j v o ≡ false → SpeltAt S text i Spelt.Malformed
+      unfolding isLine
       no-line f m l =
-          let q = line-read D m l .3 in
-          let same : pack (job m) (kind m) (operand m) ≡ pack j k o = cc in
-          clash (isLine (morning D) m) (l .line) (rw (sym (pack-parts m) ∙ (same ∙ sym packed)) f)
+          let q = line-read S m l .3 in
+          let same : lineFits S (job m) (verbOf m) (deviceOf m) ≡ lineFits S j v o = cc in
+          clash (lineFits S (job m) (verbOf m) (deviceOf m)) (l .line) (same ∙ f)
 
-      -- where it is a line's, what was read is its text
-      pub line-there : isLine (morning D) n ≡ true → SpeltAt (morning D) text i (Spelt.Line n e)
-      unfolding verbs
-      line-there t =
+      -- where they are a line's, what was read is its text
+      pub line-there : S .devices ≤ heldFrom → lineFits S j v o ≡ true → (n : ℕ) → n ≡ packVerb j v o
+          → SpeltAt S text i (Spelt.Line n e)
+      line-there d t n c =
+          let g = pack-line S d j v o t in
           let u : drop a text ≡ x .rest =
           ap (λ (p : ℕ). drop p text) (x .ends) ∙ past text (spelling tab j) (x .rest) i (x .whole) in
-          let v : drop b text ≡ y .rest =
-          ap (λ (p : ℕ). drop p text) (y .ends) ∙ past text (word k) (y .rest) a (y .whole) in
-          let w : lineText n ≡ spelling tab j ++ (word k ++ spelling newline o) =
-          line-fields n (morning-line D n t)
-          ∙ rw (
-            packed,
-            job-pack j k o (y .small) (omega (arith, z .small)),
-            kind-pack j k o (y .small) (omega (arith, z .small)),
-            operand-pack j k o (omega (arith, z .small)),
-          ) in (
+          let w : drop b text ≡ y .rest =
+          ap (λ (p : ℕ). drop p text) (y .ends) ∙ past text (word v) (y .rest) a (y .whole) in
+          let whole : lineText n ≡ spelling tab j ++ (word v ++ spelling newline o) =
+          line-fields n ∙ rw (c, g .0 .ofJob, g .0 .ofVerb, g .0 .named) in (
             record {
               rest = z .rest;
-              line = t;
+              line = rw c (g .1);
               whole =
-                  rw w
+                  rw whole
                   (simp append-assoc
                   (x .whole
                   ∙ ap (λ (l : List ℕ). spelling tab j ++ l)
-                  (sym u ∙ (y .whole ∙ ap (λ (l : List ℕ). word k ++ l) (sym v ∙ z .whole)))));
+                  (sym u ∙ (y .whole ∙ ap (λ (l : List ℕ). word v ++ l) (sym w ∙ z .whole)))));
             },
-            rw w (simp length-append (omega (arith, x .ends, y .ends, z .ends))),
+            rw whole (simp length-append (omega (arith, x .ends, y .ends, z .ends))),
           )
 
 -- ---- what the reader hands out

@@ -17,7 +17,7 @@ use Rattle.model.specs.Text.{tab, verbs, verb}
 use Rattle.theory.proofs.Tests.{clash, and-split}
 use Rattle.theory.proofs.Lists.{has-none, has-cases, has-upFrom, upFrom-has, Answer, first-answer}
 use Rattle.lines.specs.Verbs.{word, begins, kindBy, verbOf, verbAt, asNumber, highestOf, lengthBy}
-use Rattle.lines.specs.Verbs.{Tables, tables, allVerbs, listedVerbs}
+use Rattle.lines.specs.Verbs.{Tables, tables, allVerbs}
 use Rattle.lines.specs.declared.Verb.{Verb}
 use Rattle.lines.proofs.Numbers.{reach, plain, Fitting, Asked, asked, not-asked}
 
@@ -38,13 +38,13 @@ fits k =
 
 -- its first byte tells it
 tells : ℕ → Bool
-tells k = eqb (Option·getD (kindBy (headD (word k) 0)) (listedVerbs)) k
+tells k = eqb (Option·getD (kindBy (headD (word k) 0)) (length verbs)) k
 
 abbrev pub kinds : List ℕ
-kinds = upFrom 0 (listedVerbs)
+kinds = upFrom 0 (length verbs)
 
-kind-below : (k : ℕ) → has k kinds ≡ true → k < listedVerbs
-kind-below k h = omega (arith, has-upFrom 0 (listedVerbs) k h .1)
+kind-below : (k : ℕ) → has k kinds ≡ true → k < length verbs
+kind-below k h = omega (arith, has-upFrom 0 (length verbs) k h .1)
 
 all-fit : all fits kinds ≡ true
 unfolding all upFrom verbs fits word reach
@@ -99,7 +99,7 @@ pub entry-long : {l k : ℕ} {o : Option ℕ} → Entry l k o → l ≤ 7
 entry-long no-verb = omega arith
 entry-long (of-verb k h) = fitting k h .short
 
-pub entry-below : {l k : ℕ} {o : Option ℕ} → Entry l k o → k < listedVerbs
+pub entry-below : {l k : ℕ} {o : Option ℕ} → Entry l k o → k < length verbs
 unfolding verbs
 entry-below no-verb = omega arith
 entry-below (of-verb k h) = kind-below k h
@@ -128,7 +128,7 @@ module _ (lengths kinds′ numbers : List ℕ) (t : tables lengths kinds′ numb
   number-at k h =
       let z : 0 + k ≡ k = omega arith in
       ap (λ (x : Tables). getD (x .numbers) k 0) t
-      ∙ (table-at (λ x. highestOf (word x)) 0 (listedVerbs) k (kind-below k h)
+      ∙ (table-at (λ x. highestOf (word x)) 0 (length verbs) k (kind-below k h)
       ∙ rw z)
 
   module _ (s : List ℕ) (bytes : (i : ℕ) → getD s i 0 < 256) (i : ℕ) (there : i < length s) where
@@ -176,7 +176,7 @@ kind-told : (k : ℕ) → has k kinds ≡ true → kindBy (headD (word k) 0) ≡
 unfolding tells
 kind-told k h = go (kindBy (headD (word k) 0)) (eqb-true _ k (all-has tells kinds k all-tell h))
   where
-    go : (o : Option ℕ) → Option·getD o (listedVerbs) ≡ k → o ≡ some k
+    go : (o : Option ℕ) → Option·getD o (length verbs) ≡ k → o ≡ some k
     go none e = absurd (omega (arith, kind-below k h))
     go (some j) e = ap {B = Option ℕ} some e
 
@@ -186,7 +186,7 @@ no-kind {A} {k} {past} e = let z : _≡_ {A = ℕ} 0 1 = cc in absurd (omega ari
 -- a verb and its tab stand in front
 pub record SpellsVerb (i : ℕ) (s : List ℕ) (k past : ℕ) : Type 0 where
   pub rest : List ℕ
-  pub small : k < listedVerbs
+  pub small : k < length verbs
   pub whole : s ≡ word k ++ rest
   pub ends : past ≡ i + length (word k)
 
@@ -216,13 +216,13 @@ verb-sound i (b ∷ s) k past e = go (kindBy b) (first-answer (λ k. eqb (headD 
     go (some j) a e = stands j (a .0) (begins (word j) (b ∷ s)) refl e
 
 -- it is read as that verb
-pub verb-whole : (i k : ℕ) (rest : List ℕ) → k < listedVerbs
+pub verb-whole : (i k : ℕ) (rest : List ℕ) → k < length verbs
     → verbAt i (word k ++ rest) ≡ Verb.Kind k (i + length (word k))
 unfolding verbAt verbOf
 verb-whole i k rest h = go (word k) refl
   where
     here : has k kinds ≡ true
-    here = upFrom-has 0 (listedVerbs) k (omega arith) (omega arith)
+    here = upFrom-has 0 (length verbs) k (omega arith) (omega arith)
 
     go : (w : List ℕ) → word k ≡ w → verbAt i (w ++ rest) ≡ Verb.Kind k (i + length (word k))
     go [] e = absurd (omega (arith, word-length k, ap length e))

@@ -10,7 +10,6 @@ use mathlib.Core.Path.{_≡_}
 use lib.Dec.{leb}
 use lib.ListN.{length}
 use lib.Seq.{sets}
-use Rattle.model.specs.Board.{board}
 use Rattle.model.specs.Line.{Settings, lineNumber, maxLines}
 use Rattle.model.specs.Text.{packedLine, linesOf}
 use Rattle.model.specs.declared.Refusal.{Refusal}
@@ -35,7 +34,6 @@ unfoldable pub gathered : ℕ → Option Refusal → Gathered
 gathered n none = Gathered.All n
 gathered n (some r) = Gathered.Stopped n r
 
-pub record GathersAs (text lent : List ℕ) (answer : Gathered) (left : List ℕ) : Type 0 where
-  pub answers : answer
-      ≡ gathered (length (handedOut board 0 (linesOf text))) (stopsWith board 0 (linesOf text))
-  pub leaves : left ≡ sets lent 0 (handedOut board 0 (linesOf text))
+pub record GathersAs (S : Settings) (text lent : List ℕ) (answer : Gathered) (left : List ℕ) : Type 0 where
+  pub answers : answer ≡ gathered (length (handedOut S 0 (linesOf text))) (stopsWith S 0 (linesOf text))
+  pub leaves : left ≡ sets lent 0 (handedOut S 0 (linesOf text))

@@ -10,10 +10,6 @@ use Rattle.model.specs.Lists.{upFrom, firstOf}
 use Rattle.model.specs.Text.{tab, verbs, verb}
 use Rattle.lines.specs.declared.Verb.{Verb}
 
--- so many verbs are listed, in the order of their numbers: those that a plan of the morning has
-abbrev pub listedVerbs : ℕ
-listedVerbs = 4
-
 -- a verb with the tab that ends it
 unfoldable pub word : ℕ → List ℕ
 unfolding verb
@@ -28,7 +24,7 @@ begins (x ∷ w) (b ∷ s) = cond (eqb b x) (begins w s) false
 -- the kind of the verb that begins with a byte
 unfoldable pub kindBy : ℕ → Option ℕ
 unfolding verb verbs firstOf upFrom headD
-kindBy b = firstOf (λ k. eqb (headD (verb k) 0) b) (upFrom 0 (listedVerbs))
+kindBy b = firstOf (λ k. eqb (headD (verb k) 0) b) (upFrom 0 (length verbs))
 
 -- the verb at place i
 unfoldable pub verbOf : ℕ → List ℕ → Option ℕ → Verb
@@ -65,7 +61,7 @@ abbrev pub tables : List ℕ → List ℕ → List ℕ → Tables
 tables lengths kinds numbers = record { lengths = lengths; kinds = kinds; numbers = numbers }
 
 abbrev pub noVerbs : Tables
-noVerbs = tables (replicate 256 0) (replicate 256 0) (replicate (listedVerbs) 0)
+noVerbs = tables (replicate 256 0) (replicate 256 0) (replicate (length verbs) 0)
 
 -- with one verb more, of kind k
 abbrev pub listed : ℕ → List ℕ → Tables → Tables
@@ -76,4 +72,4 @@ unfoldable pub allVerbs : Tables
 unfolding lengthBy kindBy highestOf word upFrom verbs
 allVerbs =
     tables (map (λ b. lengthBy (kindBy b)) (upFrom 0 256)) (map (λ b. Option·getD (kindBy b) 0) (upFrom 0 256))
-    (map (λ k. highestOf (word k)) (upFrom 0 (listedVerbs)))
+    (map (λ k. highestOf (word k)) (upFrom 0 (length verbs)))

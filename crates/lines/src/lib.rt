@@ -2,7 +2,7 @@
 // lines of a text gathered one after another.
 use board::MOST_BYTES;
 use board::MOST_LINES;
-use line::EACH_KIND;
+use line::EACH_VERB;
 use line::LAST_OPERAND;
 use line::OPERANDS;
 use model::Cursor;
@@ -11,7 +11,7 @@ use model::Refusal;
 ghost use Prim.Native.Nat.{_+_, _≤_, _<_};
 ghost use mathlib.Core.Path.{_≡_};
 ghost use lib.ListN.{length, take, drop};
-ghost use Rattle.model.specs.Board.{board};
+ghost use Rattle.model.specs.Board.{boardAt, board};
 ghost use Rattle.promises.specs.Text.{HandsOutAs};
 ghost use Rattle.lines.specs.Fields.{joinedBy, noughtAt, digitsAt, fieldAt};
 ghost use Rattle.lines.specs.Verbs.{asNumber, tables, noVerbs, listed, allVerbs, verbAt};
@@ -116,7 +116,7 @@ fn field_at(text: &[u8], from: usize, end: u8) -> Field
 
 // ---- a verb
 
-// The kind of a verb, with the place past the tab that ends it.
+// The number of a verb, with the place past the tab that ends it.
 enum Verb {
     Kind(u32, usize),
     Wrong,
@@ -151,16 +151,16 @@ fn eight_bytes(text: &[u8], at: usize) -> u64
     as_number(text, at, 8)
 }
 
-// A verb for the tables: by its first byte its length and its kind, and by its kind its bytes, as the highest of a
+// A verb for the tables: by its first byte its length and its number, and by its number its bytes, as the highest of a
 // number of eight. Its tab is its last byte.
 fn list_verb(
     lengths: &mut [u8; BYTES],
     kinds: &mut [u8; BYTES],
-    numbers: &mut [u64; EACH_KIND],
+    numbers: &mut [u64; EACH_VERB],
     k: u8,
     verb: &[u8],
 )
-    requires { ⌜ (k < 4) × (1 ≤ length (now verb)) × (length (now verb) ≤ 7) ⌝ }
+    requires { ⌜ (k < 5) × (1 ≤ length (now verb)) × (length (now verb) ≤ 7) ⌝ }
     ensures { λ r. ⌜ tables (now (lengths .exit)) (now (kinds .exit)) (now (numbers .exit))
         ≡ listed k (now (verb .entry)) (tables (now (lengths .entry)) (now (kinds .entry)) (now (numbers .entry))) ⌝ }
 {
@@ -170,8 +170,8 @@ fn list_verb(
     numbers[k as usize] = as_number(verb, 0, verb.len()) << (64 - verb.len() * 8);
 }
 
-// The verbs, one a line, in the order of their kinds. No two begin with the same byte.
-fn list_verbs(lengths: &mut [u8; BYTES], kinds: &mut [u8; BYTES], numbers: &mut [u64; EACH_KIND])
+// The verbs, one a line, in the order of their numbers. No two begin with the same byte.
+fn list_verbs(lengths: &mut [u8; BYTES], kinds: &mut [u8; BYTES], numbers: &mut [u64; EACH_VERB])
     requires { ⌜ tables (now lengths) (now kinds) (now numbers) ≡ noVerbs ⌝ }
     ensures { λ r. ⌜ tables (now (lengths .exit)) (now (kinds .exit)) (now (numbers .exit)) ≡ allVerbs ⌝ }
 {
@@ -179,16 +179,17 @@ fn list_verbs(lengths: &mut [u8; BYTES], kinds: &mut [u8; BYTES], numbers: &mut 
     list_verb(lengths, kinds, numbers, 1, b"take\t");
     list_verb(lengths, kinds, numbers, 2, b"give\t");
     list_verb(lengths, kinds, numbers, 3, b"start\t");
+    list_verb(lengths, kinds, numbers, 4, b"held\t");
 }
 
 // The verb at the place. Its first byte tells which it can be, and then all its bytes are compared at once: there is no
-// branch on the kind, which cannot be foretold.
+// branch on the verb, which cannot be foretold.
 fn verb_at(
     text: &[u8],
     at: usize,
     lengths: &[u8; BYTES],
     kinds: &[u8; BYTES],
-    numbers: &[u64; EACH_KIND],
+    numbers: &[u64; EACH_VERB],
 ) -> Verb
     requires { ⌜ tables (now lengths) (now kinds) (now numbers) ≡ allVerbs ⌝ }
     ensures { λ r. ⌜ r ≡ verbAt at (drop at (now (text .entry))) ⌝ }
@@ -216,16 +217,18 @@ enum Spelt {
     Malformed,
 }
 
-// The line at the place: a job and a verb, each with its tab, and an operand with its newline.
+// The line at the place: a job and a verb, each with its tab, and an operand with its newline. Lines that hold a device
+// are lines at midday alone.
 fn spelt_at(
     text: &[u8],
     from: usize,
+    midday: bool,
     lengths: &[u8; BYTES],
     kinds: &[u8; BYTES],
-    numbers: &[u64; EACH_KIND],
+    numbers: &[u64; EACH_VERB],
 ) -> Spelt
     requires { ⌜ tables (now lengths) (now kinds) (now numbers) ≡ allVerbs ⌝ }
-    ensures { λ r. ⌜ SpeltAt board (now (text .entry)) from r ⌝ }
+    ensures { λ r. ⌜ SpeltAt (boardAt midday) (now (text .entry)) from r ⌝ }
 {
     let Field::Number(j, a) = field_at(text, from, b'\t') else {
         return Spelt::Malformed;
@@ -236,9 +239,8 @@ fn spelt_at(
     let Field::Number(o, e) = field_at(text, b, b'\n') else {
         return Spelt::Malformed;
     };
-    let n = line::pack(j, k, o);
-    if line::is_line(n, false) {
-        return Spelt::Line(n, e);
+    if line::fits(j, k, o, midday) {
+        return Spelt::Line(line::pack_verb(j, k, o), e);
     }
     Spelt::Malformed
 }
@@ -248,12 +250,13 @@ fn handed(
     text: &[u8],
     offset: usize,
     lines: usize,
+    midday: bool,
     lengths: &[u8; BYTES],
     kinds: &[u8; BYTES],
-    numbers: &[u64; EACH_KIND],
+    numbers: &[u64; EACH_VERB],
 ) -> LineAnswer
     requires { ⌜ tables (now lengths) (now kinds) (now numbers) ≡ allVerbs ⌝ }
-    ensures { λ r. ⌜ r ≡ handedAt board (now (text .entry)) offset lines ⌝ }
+    ensures { λ r. ⌜ r ≡ handedAt (boardAt midday) (now (text .entry)) offset lines ⌝ }
 {
     if text.len() <= offset {
         return LineAnswer::End;
@@ -261,7 +264,7 @@ fn handed(
     if MOST_LINES <= lines {
         return LineAnswer::Refused(Refusal::TooManyLines);
     }
-    match spelt_at(text, offset, lengths, kinds, numbers) {
+    match spelt_at(text, offset, midday, lengths, kinds, numbers) {
         Spelt::Line(n, next) => {
             return LineAnswer::Line(
                 n,
@@ -288,9 +291,9 @@ pub fn next_line(text: &[u8], c: Cursor) -> LineAnswer
     let lines = c.lines;
     let mut lengths = [0u8; BYTES];
     let mut kinds = [0u8; BYTES];
-    let mut numbers = [0u64; EACH_KIND];
+    let mut numbers = [0u64; EACH_VERB];
     list_verbs(&mut lengths, &mut kinds, &mut numbers);
-    handed(text, offset, lines, &lengths, &kinds, &numbers)
+    handed(text, offset, lines, false, &lengths, &kinds, &numbers)
 }
 
 // ---- the lines of a text
@@ -303,17 +306,17 @@ pub enum Gathered {
 
 // The lines of a text, one after another from the front of the lent list on, until the end or a refusal. How long the
 // text is, is not asked here.
-pub fn gather(text: &[u8], lines: &mut [u32; MOST_LINES]) -> Gathered
-    ensures { λ r. ⌜ GathersAs (now (text .entry)) (now (lines .entry)) r (now (lines .exit)) ⌝ }
+pub fn gather(text: &[u8], midday: bool, lines: &mut [u32; MOST_LINES]) -> Gathered
+    ensures { λ r. ⌜ GathersAs (boardAt midday) (now (text .entry)) (now (lines .entry)) r (now (lines .exit)) ⌝ }
 {
     let mut lengths = [0u8; BYTES];
     let mut kinds = [0u8; BYTES];
-    let mut numbers = [0u64; EACH_KIND];
+    let mut numbers = [0u64; EACH_VERB];
     list_verbs(&mut lengths, &mut kinds, &mut numbers);
     let mut offset: usize = 0;
     let mut n: usize = 0;
     loop {
-        match handed(text, offset, n, &lengths, &kinds, &numbers) {
+        match handed(text, offset, n, midday, &lengths, &kinds, &numbers) {
             LineAnswer::Line(l, next) => {
                 lines[n] = l;
                 offset = next.offset;

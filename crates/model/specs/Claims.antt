@@ -13,7 +13,7 @@ unfoldable pub successors : ℕ → List ℕ → List ℕ
 unfolding firstLine job isStart operand
 successors l ls = firstLine (job l) ls ++ cond (isStart l) (firstLine (operand l) ls) []
 
--- a line's own claim: its device, if it is an outermost take
+-- a line's own claim: its device, if it is an outermost take. A held line is none: its set is that of its successors.
 unfoldable pub own : List ℕ → ℕ → ℕ
 unfolding takesAt deviceAt only empty
 own p i = cond (takesAt p i) (only (deviceAt p i)) empty

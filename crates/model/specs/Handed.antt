@@ -17,8 +17,8 @@ unfoldable pub undone : List ℕ → List ℕ → List ℕ
 unfolding those has positions
 undone p done = those (λ i. not (has i done)) (positions p)
 
--- the next lines of the started jobs: the undone lines that no undone line has to precede. They stand in the order of
--- their jobs, since jobs follow on.
+-- the next lines of the jobs that are started or running: the undone lines that no undone line has to precede. They
+-- stand in the order of their jobs, since jobs follow on.
 unfoldable pub standing : List ℕ → List ℕ → List ℕ
 unfolding those any precedes
 standing p u = those (λ i. not (any (λ k. precedes p k i) u)) u

@@ -44,7 +44,8 @@ unfoldable pub operand : ℕ → ℕ
 operand l = l % 256
 
 -- The kinds: do is 0, take 1, give 2, start 3. A line of kind 1 opens a stretch, which a give closes. With an operand
--- from 128 on it is a held line, which is no take and no step: its job holds the device from the beginning.
+-- from 128 on it is a held line, which is no take and no step: its job holds the device from the beginning. So there is
+-- room for 128 devices.
 abbrev pub heldFrom : ℕ
 heldFrom = 128
 
@@ -60,7 +61,7 @@ unfoldable pub isTake : ℕ → Bool
 unfolding opens operand
 isTake l = opens l && not (leb heldFrom (operand l))
 
--- what the operand of a line names: an action, a device or a job; of a held line, the device that it holds
+-- the device of a line that takes, holds or gives one; of any other line its operand
 unfoldable pub deviceOf : ℕ → ℕ
 unfolding isHeld operand
 deviceOf l = cond (isHeld l) (operand l - heldFrom) (operand l)

@@ -32,7 +32,8 @@ unfolding withDevice alsoMate mate
 edited p i e = alsoMate (withDevice p e i) e (mate p i)
 
 -- The way, walked back: below some position, looking for the lines of job j and the line that starts it; from there
--- on its job is looked for.
+-- on its job is looked for. Where no line starts it, as in a running job, the way ends at the job's first line, which
+-- may be a held line.
 unfoldable pub wayIn : List ℕ → ℕ → ℕ → List ℕ
 unfolding job starts
 wayIn p j zero = []

@@ -9,7 +9,7 @@ use Rattle.model.specs.Sets.{empty, union, unionOf, member}
 use Rattle.model.specs.Mate.{lasting}
 use Rattle.model.specs.Claims.{table, beyond}
 
--- the lasting takes of device d
+-- the lasting takes of device d; a held line is no take, and has no row (02, request 5)
 unfoldable pub lastingTakes : List ℕ → ℕ → List ℕ
 unfolding those lasting positions
 lastingTakes p d = those (λ i. lasting p i d) (positions p)

@@ -1,6 +1,7 @@
--- 01, "Rules of a well-formed plan", as the first four of its five rules (02, request 2, takes the last, that of takes,
--- away), with those of held lines (02, request 5), and "Refusal numbers", 2 to 7, 16 and 17: each fault of a plan with
--- its place, in the order of the tests. (That a plan has no fault exactly if it is WellFormed is shown in `theory`.)
+-- 01, "Rules of a well-formed plan": its rules but the last, that of takes, which 02, request 2, takes away, with those
+-- of held lines (02, request 5). The rule that jobs are started is the morning's alone, and stands in `WellFormed`.
+-- Then "Refusal numbers", 2 to 7, 16 and 17: each fault of a plan with its place, in the order of the tests. (That a
+-- plan has no fault exactly if it is WellFormed is shown in `theory`.)
 use Prim.Native.Nat.{ℕ, zero, suc, _<_, _≤_}
 use mathlib.Core.Bool.{Bool, true, false, cond, not, _&&_, _||_}
 use mathlib.Core.List.{List, [], _∷_, tail, headD}
@@ -60,8 +61,8 @@ pub record Rules (p : List ℕ) : Type 0 where
   pub heldFirst : (i k : ℕ) → k < i → isHeld (at p i) ≡ true → job (at p k) ≡ job (at p i) → isHeld (at p k) ≡ true
   pub heldRuns : (i k : ℕ) → isHeld (at p i) ≡ true → starts (at p k) (job (at p i)) ≡ false
 
--- A well-formed plan: at most 1,024 numbers, each a line's, that obey the rules; and in a plan of the morning each job
--- but 1 is started by some line. At midday a job that no line starts is already running.
+-- A well-formed plan: at most 1,024 numbers, each a line's, that obey the rules; and in the morning no job but the
+-- first goes without a start. At midday those that do are running.
 pub record WellFormed (S : Settings) (p : List ℕ) : Type 0 where
   pub few : length p ≤ maxLines
   pub lines : (i : ℕ) → i < length p → isLine S (at p i) ≡ true

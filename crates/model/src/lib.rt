@@ -14,13 +14,13 @@ pub enum Refusal {
     JobOutOfSequence(u32),
     // 5: the line starts a job that is not higher, is started already, or has no lines
     BadStart(u32),
-    // 6: no line starts the job whose first line this is
+    // 6: no line starts the job whose first line this is; not at midday
     NeverStarted(u32),
     // 7: the line gives a device that is not the latest its job still holds
     GiveWithoutTake(u32),
-    // 9: two lasting takes of this device
+    // 9: two lines keep this device to the end: lasting takes, or one of them a held line without a give
     TwoLasting(u32),
-    // 10: this device leads back to itself
+    // 10: this device leads back to itself; or none does, and this is the lowest that is held while held lines hinder
     LeadsBack(u32),
     // 11: a lent list has too little room; it needs this length
     ListTooShort(u32),

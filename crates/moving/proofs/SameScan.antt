@@ -26,7 +26,7 @@ at-midday true p w = w
 at-midday false p w = morning-midday devices p w
 
 pub is-scanned : (p first starter again : List ℕ) (answer : Checked) (first′ starter′ again′ : List ℕ)
-    → ScansAs p first starter again answer first′ starter′ again′ → fault board p ≡ none
+    → ScansAs board p first starter again answer first′ starter′ again′ → fault board p ≡ none
     → Scanned p first′ starter′ again′
 is-scanned p first starter again answer first′ starter′ again′ s e = record {
   wellFormed = at-midday false p (no-fault-exactly board p .0 e);

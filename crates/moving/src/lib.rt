@@ -243,7 +243,7 @@ fn tested(
         (now (starter .entry)) (now (again .entry)) (now (holdings .entry)) r (now (first .exit)) (now (starter .exit))
         (now (again .exit)) (now (holdings .exit)) ⌝ }
 {
-    if let Checked::Refused(r) = plan::scan_holding(plan, first, starter, again, holdings) {
+    if let Checked::Refused(r) = plan::scan_holding(plan, false, first, starter, again, holdings) {
         return TestAnswer::Refused(r);
     }
     asked(plan, sets, line, device, first, starter, again)

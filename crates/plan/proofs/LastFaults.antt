@@ -1,8 +1,8 @@
 -- The tests after the last line find 5 and 6 of `model`: the tables tell which jobs have lines and which start.
 use mathlib.Core.Path.{_≡_, refl, ap, sym, _∙_}
-use mathlib.Core.Bool.{Bool, true, false, not, _&&_}
+use mathlib.Core.Bool.{Bool, true, false, cond, not, _&&_}
 use mathlib.Core.List.{List, [], _∷_, headD, map}
-use mathlib.Core.Logic.{_⊎_}
+use mathlib.Core.Logic.{_⊎_, inl, inr}
 use mathlib.Core.Option.{Option, none, some}
 use Prim.Native.Nat.{ℕ, zero, suc, _+_, _≤_, _<_}
 use native.Mathlib.Omega.{arith}
@@ -16,7 +16,7 @@ use Rattle.model.specs.Line.{maxJob}
 use Rattle.model.specs.WellFormed.{emptyStart, neverStarted, firstFault, fault}
 use Rattle.model.specs.declared.Refusal.{Refusal}
 use Rattle.model.specs.declared.Refusal.the-variants.{BadStart, NeverStarted}
-use Rattle.theory.proofs.Tests.{clash, falsely, and-split, and-both}
+use Rattle.theory.proofs.Tests.{clash, test, falsely, and-split, and-both}
 use Rattle.theory.proofs.Line.{start-range, start-parts, start-of}
 use Rattle.theory.proofs.Lists.{Answer, first-answer, has-upFrom, first-is-lowest}
 use Rattle.theory.specs.WellFormed.{startsEmpty, unstarted}
@@ -145,9 +145,14 @@ module _ (S : Settings) (p first starter : List ℕ) (t : Tables S p (length p) 
       (λ j a b. falsely (unstarted p j) (λ z. f j (same-job j (omega arith) z a))))
 
   -- The theorem: where no line has a fault, the tests after the last line find the plan's.
-  pub ends-find : S .midday ≡ false → (r : Checked) → EndsAs first starter r → firstFault S [] p ≡ none
+  pub ends-find : (r : Checked) → EndsAs (S .midday) first starter r → firstFault S [] p ≡ none
       → r ≡ checked (fault S p)
   unfolding fault firstRefusal
-  ends-find m r (empty k e least) f = rw (f, found-5 k e least)
-  ends-find m r (never g k u lowest) f = rw (f, none-5 g, m, found-6 k u lowest)
-  ends-find m r (neither g h) f = rw (f, none-5 g, m, none-6 h)
+  ends-find r (empty k e least) f = rw (f, found-5 k e least)
+  ends-find r (never m g k u lowest) f = rw (f, none-5 g, m, found-6 k u lowest)
+  ends-find r (neither g h) f = rw (f, none-5 g) (go (test (S .midday)))
+    where
+      go : (S .midday ≡ true) ⊎ (S .midday ≡ false)
+          → Checked.Fine ≡ checked (firstRefusal (cond (S .midday) none (neverStarted p) ∷ []))
+      go (inl d) = rw d
+      go (inr m) = rw (m, none-6 (h m))

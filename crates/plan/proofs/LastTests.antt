@@ -1,5 +1,5 @@
 -- How the tests after the last line go from job to job, and what they find.
-use mathlib.Core.Path.{_≡_, refl, sym}
+use mathlib.Core.Path.{_≡_, refl, sym, _∙_}
 use mathlib.Core.Bool.{Bool, true, false, cond, not, _&&_, _||_}
 use mathlib.Core.List.{List}
 use mathlib.Core.Logic.{_⊎_, inl, inr}
@@ -8,9 +8,9 @@ use native.Mathlib.Numerals.{add-one}
 use native.Mathlib.Omega.{arith}
 use lib.Dec.{eqb, ltb}
 use lib.ListN.{getD}
-use borrow.Author.Tests.{eqb-true, eqb-false, eq-eqb, ne-eqb, ltb-true, ltb-false, not-true}
+use borrow.Author.Tests.{eqb-true, eqb-false, eq-eqb, ne-eqb, ltb-true, ltb-false, not-true, not-false}
 use Rattle.model.specs.Line.{maxJob}
-use Rattle.theory.proofs.Tests.{test, and-split, and-second, or-split, or-neither}
+use Rattle.theory.proofs.Tests.{test, and-split, and-true, or-split, or-neither}
 use Rattle.model.specs.declared.Refusal.the-variants.{BadStart, NeverStarted}
 use Rattle.plan.specs.Ends.{Empty, Unstarted, lowerOf, earlierOf, EndsAs, empty, never, neither}
 use Rattle.plan.specs.declared.Checked.{Checked}
@@ -111,9 +111,9 @@ module _ (first starter : List ℕ) (j : ℕ) (l : 2 ≤ j) (h : j ≤ maxJob) w
           rw t (nothing (up-to (λ k. Unstarted first starter k → ⊥) j (λ u. eqb-false s 0 t (u .startless)) none))
 
 -- all jobs have come up
-module _ (first starter : List ℕ) where
+module _ (midday : Bool) (first starter : List ℕ) where
   pub told-5 : (m : ℕ) → Low first starter (suc maxJob) m → (m ≡ 0 → ⊥)
-      → EndsAs first starter (Checked.Refused (BadStart m))
+      → EndsAs midday first starter (Checked.Refused (BadStart m))
   told-5 m (nothing none) n = absurd (n refl)
   told-5 m (found k e least) n = empty k e (λ i z. least i (omega (arith, z .high)) z)
 
@@ -122,18 +122,25 @@ module _ (first starter : List ℕ) where
   no-5 m (found i z least) q k e = omega (arith, z .started)
 
   module _ (m n : ℕ) (low : Low first starter (suc maxJob) m) (q : m ≡ 0) where
-    pub told-6 : Never first starter (suc maxJob) n → (n ≡ 0 → ⊥)
-        → EndsAs first starter (Checked.Refused (NeverStarted n))
-    told-6 v z = go n v z
+    -- 6 is asked for in the morning alone
+    pub told-6 : Never first starter (suc maxJob) n → (not (eqb n 0) && not midday) ≡ true
+        → EndsAs midday first starter (Checked.Refused (NeverStarted n))
+    told-6 v z =
+        let r = and-split (not (eqb n 0)) (not midday) z in
+        go n v (eqb-false n 0 (not-true (eqb n 0) (r .0))) (not-true midday (r .1))
       where
-        go : (n : ℕ) → Never first starter (suc maxJob) n → (n ≡ 0 → ⊥)
-            → EndsAs first starter (Checked.Refused (NeverStarted n))
-        go n (nothing none) z = absurd (z refl)
-        go n (found k u lowest) z = never (no-5 m low q) k u lowest
+        go : (n : ℕ) → Never first starter (suc maxJob) n → (n ≡ 0 → ⊥) → midday ≡ false
+            → EndsAs midday first starter (Checked.Refused (NeverStarted n))
+        go n (nothing none) z d = absurd (z refl)
+        go n (found k u lowest) z d = never d (no-5 m low q) k u lowest
 
-    pub told-none : Never first starter (suc maxJob) n → n ≡ 0 → EndsAs first starter Checked.Fine
-    told-none v z = neither (no-5 m low q) (go n v z)
+    pub told-none : Never first starter (suc maxJob) n → (not (eqb n 0) && not midday) ≡ false
+        → EndsAs midday first starter Checked.Fine
+    told-none v z = neither (no-5 m low q) (λ d. go n v (zero d z))
       where
+        zero : midday ≡ false → (not (eqb n 0) && not midday) ≡ false → n ≡ 0
+        zero d z = eqb-true n 0 (not-false (eqb n 0) (sym (and-true (not (eqb n 0))) ∙ (rw d at z)))
+
         go : (n : ℕ) → Never first starter (suc maxJob) n → n ≡ 0 → (k : ℕ) → Unstarted first starter k → ⊥
         go n (nothing none) z k u = none k (omega (arith, u .high)) u
         go n (found i w lowest) z k u = omega (arith, w .lined)

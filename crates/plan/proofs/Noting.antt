@@ -11,7 +11,7 @@ use lib.Dec.{eqb, ltb}
 use lib.ListN.{length, getD, set, length-set}
 use lib.Seq.{getD-set-same, getD-set-other}
 use borrow.Author.Tests.{eqb-true, eqb-false, eq-eqb, ne-eqb}
-use Rattle.model.specs.Board.{devices, board}
+use Rattle.model.specs.Board.{devices, boardAt}
 use Rattle.model.specs.Lists.{has}
 use Rattle.model.specs.Line.{Settings, job, operand, opens, isGive, isStart, isLine, lineNumber, maxLines}
 use Rattle.model.specs.Sets.{empty, union, member}
@@ -27,7 +27,7 @@ use Rattle.line.proofs.Ranges.{or-none}
 use Rattle.theory.proofs.Line.{device-line, device-rest, opens-no-give}
 use Rattle.theory.proofs.Sets.{member-empty, member-union, empty-below, union-below, same-members}
 use Rattle.theory.proofs.Tests.{clash, test, or-left, or-right}
-use Rattle.plan.specs.Walk.{placeFault, Next, on, bad, ruleOf, unless, stepOf, givenBy}
+use Rattle.plan.specs.Walk.{placeFault, heldFault, Next, on, bad, ruleOf, unless, stepOf, givenBy}
 use Rattle.plan.specs.Noting.{takenBy, handledBy, changeOf, addedBy, Added, bare, more, Noted}
 
 -- ---- a store above what is held
@@ -192,8 +192,8 @@ pub noted-or-none : (ds : List ℕ) (held : ℕ) (added : List ℕ) → Noted ds
 noted-or-none ds held added w true = w
 noted-or-none ds held added w false = none-noted added (w .long)
 
-module _ (n : ℕ) (ds : List ℕ) (held : ℕ) (added : List ℕ) (line : isLine board n ≡ true) (w : Noted ds held added)
-    (room : length ds < maxLines)
+module _ (midday : Bool) (n : ℕ) (ds : List ℕ) (held : ℕ) (added : List ℕ) (line : isLine (boardAt midday) n ≡ true)
+    (w : Noted ds held added) (room : length ds < maxLines)
     (last : isGive n ≡ true → opens n ≡ false → isLast (deviceBits n) ds ≡ true) where
   abbrev c : ℕ
   c = changeOf n held (getD added (length ds) 0)
@@ -205,7 +205,7 @@ module _ (n : ℕ) (ds : List ℕ) (held : ℕ) (added : List ℕ) (line : isLin
 
   -- the device is on the board
   small : (opens n || isGive n) ≡ true → deviceBits n < devices
-  small h = omega (arith, device-rest board (omega arith) n line h, device-line board n line h)
+  small h = omega (arith, device-rest (boardAt midday) (omega arith) n line h, device-line (boardAt midday) n line h)
 
   kept-long : length (set added (suc (length ds)) c) ≡ suc maxLines
   kept-long = length-set added (suc (length ds)) c ∙ w .long
@@ -317,19 +317,22 @@ rule-went i n ds first starter ds′ first′ starter′ e =
     go false false l true false p q r on-it is = clash true refl (on-it)
     go false false l false b p q r on-it is = (λ x y. clash (isGive n) x q, is)
 
-pub went : (S : Settings) (n i prev : ℕ) (held first starter held′ first′ starter′ : List ℕ)
-    → on held′ first′ starter′ ≡ stepOf S n i prev held first starter → Went S n i prev held held′
+pub went : (S : Settings) (n i prev named : ℕ) (early : Bool) (held first starter held′ first′ starter′ : List ℕ)
+    → on held′ first′ starter′ ≡ stepOf S n i prev named early held first starter → Went S n i prev held held′
 unfolding stepOf goesOn
-went S n i prev held first starter held′ first′ starter′ e = go (placeFault S n i prev) refl e
+went S n i prev named early held first starter held′ first′ starter′ e =
+    go (placeFault S n i prev) (heldFault n i prev named early starter) refl e
   where
-    go : (x : Option Refusal) → placeFault S n i prev ≡ x
+    go : (x y : Option Refusal) → placeFault S n i prev ≡ x
         → on held′ first′ starter′
         ≡ unless x
+        (unless y
         (ruleOf i n (cond (eqb (job n) prev) held [])
-        (set first (job n) (cond (eqb (job n) prev) (getD first (job n) 0) (lineNumber i))) starter)
+        (set first (job n) (cond (eqb (job n) prev) (getD first (job n) 0) (lineNumber i))) starter))
         → Went S n i prev held held′
-    go (some r) q f = clash true refl (ap goesOn f)
-    go none q f =
+    go (some r) y q f = clash true refl (ap goesOn f)
+    go none (some r) q f = clash true refl (ap goesOn f)
+    go none none q f =
         let r = rule-went i n (cond (eqb (job n) prev) held [])
         (set first (job n) (cond (eqb (job n) prev) (getD first (job n) 0) (lineNumber i))) starter held′ first′
         starter′ f in

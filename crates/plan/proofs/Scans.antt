@@ -4,7 +4,7 @@ use mathlib.Core.List.{List, []}
 use mathlib.Core.Option.{Option}
 use Prim.Native.Nat.{ℕ}
 use native.Mathlib.Omega.{arith}
-use Rattle.model.specs.Board.{board}
+use Rattle.model.specs.Line.{Settings}
 use Rattle.model.specs.Answers.{firstRefusal}
 use Rattle.model.specs.WellFormed.{firstFault, fault}
 use Rattle.model.specs.declared.Refusal.{Refusal}
@@ -19,31 +19,31 @@ use Rattle.plan.proofs.Answers.{told, untold}
 use Rattle.plan.proofs.LastFaults.{ends-find}
 use Rattle.plan.proofs.Tables.{firsts-are, starters-are}
 
-module _ (p first starter again left : List ℕ) where
+module _ (S : Settings) (p first starter again left : List ℕ) where
   -- a line is refused
-  pub at-a-line : (f s : List ℕ) (r : Refusal) → Walked p (Checked.Refused r) f s
-      → WholeAs p (Checked.Refused r) first starter again left
+  pub at-a-line : (f s : List ℕ) (r : Refusal) → Walked S p (Checked.Refused r) f s
+      → WholeAs S p (Checked.Refused r) first starter again left
   unfolding fault firstRefusal
   at-a-line f s r w =
-      let e = told (firstFault board [] p) r (w .answers) in record {
+      let e = told (firstFault S [] p) r (w .answers) in record {
         answers = rw e;
         tables = λ z. let v : _≡_ {A = ℕ} 0 1 = cc in absurd (omega arith);
       }
 
   -- no line is
-  pub past-the-lines : (r : Checked) → Walked p Checked.Fine first starter → NotesOf p again left
-      → EndsAs first starter r → WholeAs p r first starter again left
+  pub past-the-lines : (r : Checked) → Walked S p Checked.Fine first starter → NotesOf p again left
+      → EndsAs (S .midday) first starter r → WholeAs S p r first starter again left
   past-the-lines r w notes e =
       let t = w .tables refl in record {
-        answers = ends-find board p first starter t refl r e (untold (firstFault board [] p) (w .answers));
-        tables = λ z. (firsts-are board p first starter t, starters-are board p first starter t, notes);
+        answers = ends-find S p first starter t r e (untold (firstFault S [] p) (w .answers));
+        tables = λ z. (firsts-are S p first starter t, starters-are S p first starter t, notes);
       }
 
   -- what is left in the lent lists
-  pub scan-refused : (f s a h : List ℕ) (r : Refusal) → WholeAs p (Checked.Refused r) f s a h
-      → ScansHoldingAs p first starter again left (Checked.Refused r) first starter again left
+  pub scan-refused : (f s a h : List ℕ) (r : Refusal) → WholeAs S p (Checked.Refused r) f s a h
+      → ScansHoldingAs S p first starter again left (Checked.Refused r) first starter again left
   scan-refused f s a h r w =
-      let e = told (fault board p) r (w .answers) in record {
+      let e = told (fault S p) r (w .answers) in record {
         scanned = record {
           answers = w .answers;
           firsts = ap (λ (x : Option Refusal). leftBy x (firstLines p) first) (sym e);
@@ -53,10 +53,10 @@ module _ (p first starter again left : List ℕ) where
         held = cc;
       }
 
-  pub scan-fine : (f s a h : List ℕ) → WholeAs p Checked.Fine f s a h
-      → ScansHoldingAs p first starter again left Checked.Fine f s a h
+  pub scan-fine : (f s a h : List ℕ) → WholeAs S p Checked.Fine f s a h
+      → ScansHoldingAs S p first starter again left Checked.Fine f s a h
   scan-fine f s a h w =
-      let e = untold (fault board p) (w .answers) in
+      let e = untold (fault S p) (w .answers) in
       let t = w .tables refl in record {
         scanned = record {
           answers = w .answers;

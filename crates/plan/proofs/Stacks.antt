@@ -11,7 +11,7 @@ use lib.Dec.{eqb}
 use lib.ListN.{length, getD, set, length-set}
 use lib.Seq.{getD-set-same, getD-set-other}
 use borrow.Author.Tests.{eqb-true, eq-eqb, ne-eqb, not-true, not-false}
-use Rattle.model.specs.Board.{devices, board}
+use Rattle.model.specs.Board.{devices, boardAt}
 use Rattle.model.specs.Line.{opens, isGive, isStart, isLine, lineNumber, maxLines}
 use Rattle.model.specs.Sets.{empty, member}
 use Rattle.model.specs.WellFormed.{isLast}
@@ -110,11 +110,11 @@ given-known true o latest h = go (test (eqb latest o))
               (ap (λ (x : ℕ). member x o) q ∙ member-empty o)),
         )
 
-module _ (n depth : ℕ) (stack : List ℕ) (h : Stack stack) (line : isLine board n ≡ true) where
+module _ (n depth : ℕ) (stack : List ℕ) (h : Stack stack) (line : isLine (boardAt true) n ≡ true) where
   device : isGive n ≡ true → deviceBits n < devices
   device e =
       let g = or-right (opens n) (isGive n) e in
-      omega (arith, device-rest board (omega arith) n line g, device-line board n line g)
+      omega (arith, device-rest (boardAt true) (omega arith) n line g, device-line (boardAt true) n line g)
 
   abbrev wrong : Bool
   wrong = misgiven n (getD stack depth 0)

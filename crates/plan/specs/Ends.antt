@@ -1,14 +1,13 @@
 -- The tests after the last line as the code makes them, over the jobs: of the tables of first lines and of starters.
 -- That they find 5 and 6 of `model` is shown in proofs/. Then the outcome of a scan of the whole plan.
 use Prim.Native.Nat.{ℕ, _≤_, _<_}
-use mathlib.Core.Bool.{cond, not, _&&_, _||_}
+use mathlib.Core.Bool.{Bool, false, cond, not, _&&_, _||_}
 use mathlib.Core.List.{List}
 use mathlib.Core.Option.{Option, none, some}
 use mathlib.Core.Path.{_≡_}
 use lib.Dec.{eqb, ltb}
 use lib.ListN.{getD}
-use Rattle.model.specs.Board.{board}
-use Rattle.model.specs.Line.{maxJob}
+use Rattle.model.specs.Line.{Settings, maxJob}
 use Rattle.model.specs.WellFormed.{fault}
 use Rattle.model.specs.declared.Refusal.{Refusal}
 use Rattle.model.specs.declared.Refusal.the-variants.{BadStart, NeverStarted}
@@ -41,19 +40,19 @@ lowerOf low first starter =
 abbrev pub earlierOf : ℕ → ℕ → ℕ → ℕ
 earlierOf low first starter = cond (eqb low 0 && eqb starter 0) first low
 
--- 5 at the lowest such line, 6 at the first line of the lowest such job, or neither
-pub data EndsAs (first starter : List ℕ) : Checked → Type 0 where
+-- 5 at the lowest such line, 6 at the first line of the lowest such job, or neither; 6 is not given at midday
+pub data EndsAs (midday : Bool) (first starter : List ℕ) : Checked → Type 0 where
   empty : (j : ℕ) → Empty first starter j → ((k : ℕ) → Empty first starter k → getD starter j 0 ≤ getD starter k 0)
-      → EndsAs first starter (Checked.Refused (BadStart (getD starter j 0)))
-  never : ((k : ℕ) → Empty first starter k → ⊥) → (j : ℕ) → Unstarted first starter j
+      → EndsAs midday first starter (Checked.Refused (BadStart (getD starter j 0)))
+  never : midday ≡ false → ((k : ℕ) → Empty first starter k → ⊥) → (j : ℕ) → Unstarted first starter j
       → ((k : ℕ) → k < j → Unstarted first starter k → ⊥)
-      → EndsAs first starter (Checked.Refused (NeverStarted (getD first j 0)))
-  neither : ((k : ℕ) → Empty first starter k → ⊥) → ((k : ℕ) → Unstarted first starter k → ⊥)
-      → EndsAs first starter Checked.Fine
+      → EndsAs midday first starter (Checked.Refused (NeverStarted (getD first j 0)))
+  neither : ((k : ℕ) → Empty first starter k → ⊥) → (midday ≡ false → (k : ℕ) → Unstarted first starter k → ⊥)
+      → EndsAs midday first starter Checked.Fine
 
 -- what the walk and these tests find together: the fault, and the tables and notes where there is none
-pub record WholeAs (p : List ℕ) (answer : Checked) (first starter again left : List ℕ) : Type 0 where
-  pub answers : answer ≡ checked (fault board p)
+pub record WholeAs (S : Settings) (p : List ℕ) (answer : Checked) (first starter again left : List ℕ) : Type 0 where
+  pub answers : answer ≡ checked (fault S p)
   pub tables : answer ≡ Checked.Fine → (first ≡ firstLines p) × (starter ≡ starters p) × NotesOf p again left
 
 -- what a scan leaves in a lent list: the plan's, or, where it is refused, what stood there
@@ -62,15 +61,15 @@ leftBy none table lent = table
 leftBy (some r) table lent = lent
 
 -- the outcome of a scan: the fault, and the two tables and the flags where there is none
-pub record ScansAs (plan first starter again : List ℕ) (answer : Checked) (first′ starter′ again′ : List ℕ) : Type 0
-  where
-    pub answers : answer ≡ checked (fault board plan)
-    pub firsts : first′ ≡ leftBy (fault board plan) (firstLines plan) first
-    pub starts : starter′ ≡ leftBy (fault board plan) (starters plan) starter
-    pub agains : again′ ≡ leftBy (fault board plan) (againFlags plan) again
+pub record ScansAs (S : Settings) (plan first starter again : List ℕ) (answer : Checked)
+    (first′ starter′ again′ : List ℕ) : Type 0 where
+  pub answers : answer ≡ checked (fault S plan)
+  pub firsts : first′ ≡ leftBy (fault S plan) (firstLines plan) first
+  pub starts : starter′ ≡ leftBy (fault S plan) (starters plan) starter
+  pub agains : again′ ≡ leftBy (fault S plan) (againFlags plan) again
 
 -- the outcome of a scan that also tells what each job holds after the last line
-pub record ScansHoldingAs (plan first starter again lent : List ℕ) (answer : Checked)
+pub record ScansHoldingAs (S : Settings) (plan first starter again lent : List ℕ) (answer : Checked)
     (first′ starter′ again′ holdings′ : List ℕ) : Type 0 where
-  pub scanned : ScansAs plan first starter again answer first′ starter′ again′
-  pub held : holdings′ ≡ leftBy (fault board plan) (holdings plan) lent
+  pub scanned : ScansAs S plan first starter again answer first′ starter′ again′
+  pub held : holdings′ ≡ leftBy (fault S plan) (holdings plan) lent

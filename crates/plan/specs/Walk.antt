@@ -1,6 +1,7 @@
--- The walk along the lines as the code makes it: its state is the job of the line before (0 before the first), the
--- devices that this job holds (the latest first), and for each job the number of its first line and of the line that
--- starts it. That it finds the fault of `model` is shown in proofs/.
+-- The walk along the lines as the code makes it: its state is the job of the line before (0 before the first), the set
+-- of the devices of held lines (02, request 5), whether the line before is one, the devices that its job holds (the
+-- latest first), and for each job the number of its first line and of the line that starts it. That it finds the fault
+-- of `model` is shown in proofs/.
 use Prim.Native.Nat.{ℕ, zero, suc, _+_, _-_, _≤_}
 use mathlib.Core.Bool.{Bool, cond, not, _&&_, _||_}
 use mathlib.Core.List.{List, [], _∷_, tail}
@@ -9,13 +10,14 @@ use mathlib.Core.Path.{_≡_}
 use lib.Dec.{eqb, leb, ltb}
 use lib.ListN.{length, getD, set}
 use Rattle.model.specs.Answers.{refuseIf, firstRefusal}
-use Rattle.model.specs.Board.{devices, board}
-use Rattle.model.specs.Line.{Settings, job, operand, opens, isGive, isStart, isLine, lineNumber, maxLines, maxJob}
-use Rattle.model.specs.Sets.{empty}
+use Rattle.model.specs.Board.{devices}
+use Rattle.model.specs.Line.{Settings, job, operand, opens, isHeld, isGive, isStart, isLine, lineNumber, maxLines}
+use Rattle.model.specs.Line.{maxJob}
+use Rattle.model.specs.Sets.{empty, union, member}
 use Rattle.model.specs.WellFormed.{isLast, firstFault}
 use Rattle.model.specs.declared.Refusal.{Refusal}
 use Rattle.model.specs.declared.Refusal.the-variants.{Malformed, TooManyLines, JobOutOfSequence, BadStart}
-use Rattle.model.specs.declared.Refusal.the-variants.{GiveWithoutTake}
+use Rattle.model.specs.declared.Refusal.the-variants.{GiveWithoutTake, HeldTwice, HeldLate}
 use Rattle.line.specs.Device.{deviceBits}
 use Rattle.sets.specs.Both.{without}
 use Rattle.sets.specs.Only.{onlyOf}
@@ -35,6 +37,23 @@ placedBy i many line follows =
 
 unfoldable pub placeFault : Settings → ℕ → ℕ → ℕ → Option Refusal
 placeFault S n i prev = placedBy i (leb maxLines i) (isLine S n) (eqb (job n) prev || eqb (job n) (suc prev))
+
+-- 16, 17, by their tests; of a held line
+abbrev pub heldBoth : ℕ → Bool → Bool → Option Refusal
+heldBoth i twice tooLate =
+    firstRefusal (refuseIf twice (HeldTwice (lineNumber i)) ∷ refuseIf tooLate (HeldLate (lineNumber i)) ∷ [])
+
+-- a line of its job before it is not held, since the line before is not; or a line starts its job
+abbrev pub lateBy : ℕ → ℕ → Bool → List ℕ → Bool
+lateBy n prev early starter = (eqb (job n) prev && not early) || not (eqb (getD starter (job n) 0) 0)
+
+unfoldable pub heldFault : ℕ → ℕ → ℕ → ℕ → Bool → List ℕ → Option Refusal
+heldFault n i prev named early starter =
+    cond (isHeld n) (heldBoth i (member named (deviceBits n)) (lateBy n prev early starter)) none
+
+-- the devices of held lines, one line more
+unfoldable pub namedAfter : ℕ → ℕ → ℕ → ℕ
+namedAfter D n named = cond (isHeld n) (union named (onlyOf D (deviceBits n))) named
 
 -- what a line leads to: the devices held, the first lines and the starters; or a refusal
 pub data Next : Type 0 where
@@ -58,11 +77,12 @@ unless (some r) next = bad r
 unless none next = next
 
 -- all of it: a new job holds nothing, and has its first line here
-unfoldable pub stepOf : Settings → ℕ → ℕ → ℕ → List ℕ → List ℕ → List ℕ → Next
-stepOf S n i prev held first starter =
+unfoldable pub stepOf : Settings → ℕ → ℕ → ℕ → ℕ → Bool → List ℕ → List ℕ → List ℕ → Next
+stepOf S n i prev named early held first starter =
     unless (placeFault S n i prev)
+    (unless (heldFault n i prev named early starter)
     (ruleOf i n (cond (eqb (job n) prev) held [])
-    (set first (job n) (cond (eqb (job n) prev) (getD first (job n) 0) (lineNumber i))) starter)
+    (set first (job n) (cond (eqb (job n) prev) (getD first (job n) 0) (lineNumber i))) starter))
 
 -- ---- the devices held as the code has them
 
@@ -108,6 +128,6 @@ WalkingBy i (After.On depth) stack first starter = (depth ≤ suc i) × Walking 
 WalkingBy i (After.Bad r) stack first starter = Unit
 
 -- what the whole walk finds: the fault of the first line that has one, or the tables
-pub record Walked (p : List ℕ) (answer : Checked) (first starter : List ℕ) : Type 0 where
-  pub answers : answer ≡ checked (firstFault board [] p)
-  pub tables : answer ≡ Checked.Fine → Tables board p (length p) first starter
+pub record Walked (S : Settings) (p : List ℕ) (answer : Checked) (first starter : List ℕ) : Type 0 where
+  pub answers : answer ≡ checked (firstFault S [] p)
+  pub tables : answer ≡ Checked.Fine → Tables S p (length p) first starter

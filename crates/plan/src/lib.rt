@@ -1,7 +1,8 @@
-// The packed plan (01, "Rules of a well-formed plan" and "Refusal numbers", 2 to 7): the walk along its lines, each
-// tested for 3, 2, 4 and its verb's own rule; the tests after the last line; the line numbers of each job's first line
-// and of the line that starts it; the devices that each job holds after the last line; and which lines take again what
-// their job holds, or give such a take back (02, request 2).
+// The packed plan (01, "Rules of a well-formed plan" and "Refusal numbers", 2 to 7; 02, request 5, for 16 and 17): the
+// walk along its lines, each tested for 3, 2, 4 and its verb's own rule; the tests after the last line; the line
+// numbers of each job's first line and of the line that starts it; the devices that each job holds after the last line;
+// and which lines take again what their job holds, or give such a take back (02, request 2). A plan is one of the
+// morning or one taken up at midday, which may have held lines: the caller says which.
 use board::DEVICES;
 use board::EACH_JOB;
 use board::MOST_LINES;
@@ -16,14 +17,14 @@ ghost use lib.ListN.{length, getD};
 ghost use Rattle.model.specs.Line.{job, operand, isStart, isLine, maxLines, maxJob};
 ghost use Rattle.model.specs.Sets.{empty};
 ghost use Rattle.model.specs.WellFormed.{fault, firstFault};
-ghost use Rattle.model.specs.Board.{devices, board};
+ghost use Rattle.model.specs.Board.{devices, boardAt};
 ghost use Rattle.sets.specs.Both.{differ, without};
 ghost use Rattle.plan.specs.Checked.{checked};
 ghost use Rattle.plan.specs.Tables.{none-yet};
 ghost use Rattle.plan.specs.Ends.{lowerOf, earlierOf, EndsAs, WholeAs, ScansAs, ScansHoldingAs};
 ghost use Rattle.plan.specs.Again.{none-again};
 ghost use Rattle.plan.specs.Walk.{placeFault, ruleOf, stepOf, heldIn, misgiven, Stack, Walking, Walked};
-ghost use Rattle.plan.specs.Walk.{nextBy, StackBy, WalkingBy};
+ghost use Rattle.plan.specs.Walk.{heldFault, namedAfter, nextBy, StackBy, WalkingBy};
 ghost use Rattle.plan.specs.Noting.{changeOf, handledBy, NotesAs, NotesOf};
 ghost use Rattle.plan.specs.declared.Checked.{Checked};
 
@@ -48,19 +49,56 @@ const FLOOR: u8 = DEVICES as u8;
 // The first three tests of the line at position i, after a line of job `prev`, which is 0 before the first. No test
 // asks whether the job is the same, which cannot be foretold: the job less `prev` is 0 or 1, and that of a lower job
 // goes round the word's end and is far above.
-fn misplaced(i: usize, n: u32, prev: u32) -> Checked
-    ensures { λ r. ⌜ r ≡ checked (placeFault board n i prev) ⌝ }
+fn misplaced(i: usize, n: u32, prev: u32, midday: bool) -> Checked
+    ensures { λ r. ⌜ r ≡ checked (placeFault (boardAt midday) n i prev) ⌝ }
 {
     if MOST_LINES <= i {
         return Checked::Refused(Refusal::TooManyLines);
     }
-    if line::is_line(n, false) {
+    if line::is_line(n, midday) {
         if 1 < std::num::wrapping_sub_u32(line::job(n), prev) {
             return Checked::Refused(Refusal::JobOutOfSequence((i + 1) as u32));
         }
         return Checked::Fine;
     }
     Checked::Refused(Refusal::Malformed((i + 1) as u32))
+}
+
+// A held line's own rule, at position i, after a line of job `prev`: 16 where its device is among `named`, those of the
+// held lines before it; then 17 where a line of its job before it is not held, or a line starts its job. `early` says
+// that the line before is held, and so are then all of its job. In the morning no line is held, and the branch is never
+// taken.
+fn misheld(
+    i: usize,
+    n: u32,
+    prev: u32,
+    named: Set,
+    early: bool,
+    starter: &[u32; EACH_JOB],
+) -> Checked
+    requires { ⌜ (i < maxLines) × (job n ≤ maxJob) × (length (now starter) ≡ suc maxJob) ⌝ }
+    ensures { λ r. ⌜ r ≡ checked (heldFault n i prev named early (now (starter .entry))) ⌝ }
+{
+    if line::is_held(n) {
+        if sets::member(named, line::device(n)) {
+            return Checked::Refused(Refusal::HeldTwice((i + 1) as u32));
+        }
+        let j = line::job(n);
+        if ((j == prev) & !early) | (starter[j as usize] != 0) {
+            return Checked::Refused(Refusal::HeldLate((i + 1) as u32));
+        }
+    }
+    Checked::Fine
+}
+
+// The devices of held lines, one line more. The branch is the one above: in the morning it is never taken.
+fn named_after(named: Set, n: u32) -> Set
+    ensures { λ r. ⌜ r ≡ namedAfter devices n named ⌝ }
+{
+    if line::is_held(n) {
+        return sets::union(named, sets::only(line::device(n)));
+    }
+    named
 }
 
 // How many takes are open after a take, a give or neither.
@@ -80,10 +118,12 @@ fn misgives(n: u32, latest: u8) -> bool
     sets::without(given, sets::only(latest as u32)) != sets::NONE
 }
 
-// What a do, a take or a give leads to, at position i, without a branch on the verb; a give is of the device taken
-// last. The operand is stacked above the open takes whatever the verb; it counts where the depth goes up.
+// What a do, a take, a held line or a give leads to, at position i, without a branch on the verb; a give is of the
+// device taken last. The device is stacked above the open takes whatever the verb; it counts where the depth goes up.
+// A line of the morning is one at midday too, so that nobody is asked which it is.
 fn held_after(i: usize, n: u32, depth: u32, stack: &mut [u8; STACK_PLACES]) -> After
-    requires { ⌜ (i < maxLines) × (depth ≤ i) × (isLine board n ≡ true) × (isStart n ≡ false) × Stack (now stack)
+    requires { ⌜ (i < maxLines) × (depth ≤ i) × (isLine (boardAt true) n ≡ true) × (isStart n ≡ false) × Stack
+        (now stack)
         × (misgiven n (getD (now stack) depth 0) ≡ false) ⌝ }
     ensures led { λ r. ⌜ ((first starter : List ℕ) → nextBy r (now (stack .exit)) first starter
         ≡ ruleOf i n (heldIn depth (now (stack .entry))) first starter) ⌝ }
@@ -103,7 +143,7 @@ fn rule(
     stack: &mut [u8; STACK_PLACES],
     starter: &mut [u32; EACH_JOB],
 ) -> After
-    requires { ⌜ (i < maxLines) × (depth ≤ i) × (isLine board n ≡ true) × Stack (now stack)
+    requires { ⌜ (i < maxLines) × (depth ≤ i) × (isLine (boardAt true) n ≡ true) × Stack (now stack)
         × (length (now starter) ≡ suc maxJob) ⌝ }
     ensures led { λ r. ⌜ ((first : List ℕ) → nextBy r (now (stack .exit)) first (now (starter .exit))
         ≡ ruleOf i n (heldIn depth (now (stack .entry))) first (now (starter .entry))) ⌝ }
@@ -130,7 +170,10 @@ fn rule(
 fn checked_line(
     i: usize,
     n: u32,
+    midday: bool,
     prev: u32,
+    named: Set,
+    early: bool,
     depth: u32,
     stack: &mut [u8; STACK_PLACES],
     first: &mut [u32; EACH_JOB],
@@ -138,10 +181,14 @@ fn checked_line(
 ) -> After
     requires { ⌜ (depth ≤ i) × Walking (now stack) (now first) (now starter) ⌝ }
     ensures led { λ r. ⌜ nextBy r (now (stack .exit)) (now (first .exit)) (now (starter .exit))
-        ≡ stepOf board n i prev (heldIn depth (now (stack .entry))) (now (first .entry)) (now (starter .entry)) ⌝ }
+        ≡ stepOf (boardAt midday) n i prev named early (heldIn depth (now (stack .entry))) (now (first .entry))
+        (now (starter .entry)) ⌝ }
     ensures keeps { λ r. ⌜ WalkingBy i r (now (stack .exit)) (now (first .exit)) (now (starter .exit)) ⌝ }
 {
-    if let Checked::Refused(r) = misplaced(i, n, prev) {
+    if let Checked::Refused(r) = misplaced(i, n, prev, midday) {
+        return After::Bad(r);
+    }
+    if let Checked::Refused(r) = misheld(i, n, prev, named, early, starter) {
         return After::Bad(r);
     }
     let j = line::job(n);
@@ -249,6 +296,7 @@ fn fewer(a: usize, b: usize) -> usize
 // can be over it, and the compiler drops the test at each.
 fn walk(
     plan: &[u32],
+    midday: bool,
     noting: bool,
     first: &mut [u32; EACH_JOB],
     starter: &mut [u32; EACH_JOB],
@@ -257,7 +305,7 @@ fn walk(
 ) -> Checked
     requires { ⌜ (now first ≡ none-yet) × (now starter ≡ none-yet) × (now again ≡ none-again)
         × (now holdings ≡ none-yet) ⌝ }
-    ensures walked { λ r. ⌜ Walked (now (plan .entry)) r (now (first .exit)) (now (starter .exit)) ⌝ }
+    ensures walked { λ r. ⌜ Walked (boardAt midday) (now (plan .entry)) r (now (first .exit)) (now (starter .exit)) ⌝ }
     ensures noted { λ r. ⌜ (noting ≡ true → r ≡ Checked.Fine
         → NotesOf (now (plan .entry)) (now (again .exit)) (now (holdings .exit))) ⌝ }
 {
@@ -265,17 +313,32 @@ fn walk(
     let mut added = [sets::NONE; STACK_PLACES];
     let mut depth: u32 = 0;
     let mut held: Set = sets::NONE;
+    let mut named: Set = sets::NONE;
+    let mut early = false;
     let mut prev: u32 = 0;
     let mut i: usize = 0;
     let stop = fewer(plan.len(), MOST_LINES);
     while i < stop {
         let n = plan[i];
-        match checked_line(i, n, prev, depth, &mut stack, first, starter) {
+        match checked_line(
+            i,
+            n,
+            midday,
+            prev,
+            named,
+            early,
+            depth,
+            &mut stack,
+            first,
+            starter,
+        ) {
             After::Bad(r) => {
                 return Checked::Refused(r);
             }
             After::On(d) => {
                 held = note_if(noting, i, n, prev, depth, held, &mut added, again, holdings);
+                named = named_after(named, n);
+                early = line::is_held(n);
                 depth = d;
                 prev = line::job(n);
                 i += 1;
@@ -289,8 +352,8 @@ fn walk(
 }
 
 // The fault of the first line that has one, whatever comes after the last line.
-pub fn lines_fault(plan: &[u32]) -> Checked
-    ensures { λ r. ⌜ r ≡ checked (firstFault board [] (now (plan .entry))) ⌝ }
+pub fn lines_fault(plan: &[u32], midday: bool) -> Checked
+    ensures { λ r. ⌜ r ≡ checked (firstFault (boardAt midday) [] (now (plan .entry))) ⌝ }
 {
     let mut first = [0u32; EACH_JOB];
     let mut starter = [0u32; EACH_JOB];
@@ -298,6 +361,7 @@ pub fn lines_fault(plan: &[u32]) -> Checked
     let mut holdings = [sets::NONE; EACH_JOB];
     walk(
         plan,
+        midday,
         false,
         &mut first,
         &mut starter,
@@ -325,10 +389,10 @@ fn earlier(low: u32, first: u32, starter: u32) -> u32
 }
 
 // The tests after the last line, of every job but job 1, which no line starts: 5 where one that is started has no line,
-// and where none is so, 6.
-fn ends(first: &[u32; EACH_JOB], starter: &[u32; EACH_JOB]) -> Checked
+// and where none is so, 6; at midday a job that no line starts is already running.
+fn ends(first: &[u32; EACH_JOB], starter: &[u32; EACH_JOB], midday: bool) -> Checked
     requires { ⌜ (length (now first) ≡ suc maxJob) × (length (now starter) ≡ suc maxJob) ⌝ }
-    ensures { λ r. ⌜ EndsAs (now (first .entry)) (now (starter .entry)) r ⌝ }
+    ensures { λ r. ⌜ EndsAs midday (now (first .entry)) (now (starter .entry)) r ⌝ }
 {
     let mut empty: u32 = 0;
     let mut never: u32 = 0;
@@ -343,7 +407,7 @@ fn ends(first: &[u32; EACH_JOB], starter: &[u32; EACH_JOB]) -> Checked
     if empty != 0 {
         return Checked::Refused(Refusal::BadStart(empty));
     }
-    if never != 0 {
+    if (never != 0) & !midday {
         return Checked::Refused(Refusal::NeverStarted(never));
     }
     Checked::Fine
@@ -352,6 +416,7 @@ fn ends(first: &[u32; EACH_JOB], starter: &[u32; EACH_JOB]) -> Checked
 // The fault of a plan; where it has none, its tables and notes.
 fn whole(
     plan: &[u32],
+    midday: bool,
     first: &mut [u32; EACH_JOB],
     starter: &mut [u32; EACH_JOB],
     again: &mut [u8; MOST_LINES],
@@ -359,34 +424,36 @@ fn whole(
 ) -> Checked
     requires { ⌜ (now first ≡ none-yet) × (now starter ≡ none-yet) × (now again ≡ none-again)
         × (now holdings ≡ none-yet) ⌝ }
-    ensures { λ r. ⌜ WholeAs (now (plan .entry)) r (now (first .exit)) (now (starter .exit)) (now (again .exit))
-        (now (holdings .exit)) ⌝ }
+    ensures { λ r. ⌜ WholeAs (boardAt midday) (now (plan .entry)) r (now (first .exit)) (now (starter .exit))
+        (now (again .exit)) (now (holdings .exit)) ⌝ }
 {
-    if let Checked::Refused(r) = walk(plan, true, first, starter, again, holdings) {
+    if let Checked::Refused(r) = walk(plan, midday, true, first, starter, again, holdings) {
         return Checked::Refused(r);
     }
-    ends(first, starter)
+    ends(first, starter, midday)
 }
 
 // The fault of a plan; where it has none, the first line and the starter of each job, a flag for each line that takes
 // again or gives such a take back, and the devices that each job holds after the last line, in the lent lists.
 pub fn scan_holding(
     plan: &[u32],
+    midday: bool,
     first: &mut [u32; EACH_JOB],
     starter: &mut [u32; EACH_JOB],
     again: &mut [u8; MOST_LINES],
     holdings: &mut [Set; EACH_JOB],
 ) -> Checked
     ensures { λ r. ⌜
-        ScansHoldingAs (now (plan .entry)) (now (first .entry)) (now (starter .entry)) (now (again .entry))
-        (now (holdings .entry)) r (now (first .exit)) (now (starter .exit)) (now (again .exit)) (now (holdings .exit))
+        ScansHoldingAs (boardAt midday) (now (plan .entry)) (now (first .entry)) (now (starter .entry))
+        (now (again .entry)) (now (holdings .entry)) r (now (first .exit)) (now (starter .exit)) (now (again .exit))
+        (now (holdings .exit))
         ⌝ }
 {
     let mut f = [0u32; EACH_JOB];
     let mut s = [0u32; EACH_JOB];
     let mut a = [0u8; MOST_LINES];
     let mut h = [sets::NONE; EACH_JOB];
-    if let Checked::Refused(r) = whole(plan, &mut f, &mut s, &mut a, &mut h) {
+    if let Checked::Refused(r) = whole(plan, midday, &mut f, &mut s, &mut a, &mut h) {
         return Checked::Refused(r);
     }
     *first = f;
@@ -399,22 +466,23 @@ pub fn scan_holding(
 // The same for a caller who does not ask what the jobs hold.
 pub fn scan(
     plan: &[u32],
+    midday: bool,
     first: &mut [u32; EACH_JOB],
     starter: &mut [u32; EACH_JOB],
     again: &mut [u8; MOST_LINES],
 ) -> Checked
     ensures { λ r. ⌜
-        ScansAs (now (plan .entry)) (now (first .entry)) (now (starter .entry)) (now (again .entry))
-        r (now (first .exit)) (now (starter .exit)) (now (again .exit))
+        ScansAs (boardAt midday) (now (plan .entry)) (now (first .entry)) (now (starter .entry))
+        (now (again .entry)) r (now (first .exit)) (now (starter .exit)) (now (again .exit))
         ⌝ }
 {
     let mut holdings = [sets::NONE; EACH_JOB];
-    scan_holding(plan, first, starter, again, &mut holdings)
+    scan_holding(plan, midday, first, starter, again, &mut holdings)
 }
 
 // The fault of a plan, if it has one.
-pub fn fault(plan: &[u32]) -> Checked
-    ensures { λ r. ⌜ r ≡ checked (fault board (now (plan .entry))) ⌝ }
+pub fn fault(plan: &[u32], midday: bool) -> Checked
+    ensures { λ r. ⌜ r ≡ checked (fault (boardAt midday) (now (plan .entry))) ⌝ }
 {
     let mut first = [0u32; EACH_JOB];
     let mut starter = [0u32; EACH_JOB];
@@ -422,6 +490,7 @@ pub fn fault(plan: &[u32]) -> Checked
     let mut holdings = [sets::NONE; EACH_JOB];
     if let Checked::Refused(r) = walk(
         plan,
+        midday,
         false,
         &mut first,
         &mut starter,
@@ -430,5 +499,5 @@ pub fn fault(plan: &[u32]) -> Checked
     ) {
         return Checked::Refused(r);
     }
-    ends(&first, &starter)
+    ends(&first, &starter, midday)
 }

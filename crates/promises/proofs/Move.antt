@@ -1,9 +1,9 @@
 -- What follows from what `move_claim` promises, `MovesAs` (01, "Moving a claim" and "How tight the statements are"): a
 -- refusal exactly in a listed case, with nothing changed, nor does a move to the present device change anything; 9 and
--- 10 refuse none; a move changes sets on the way and under the take alone; from a plan without a fault and its own
--- table, an accepted move leaves what would be worked out afresh, with the count of the sets that differ; and so on
--- over any list of moves (demand 3).
-use Prim.Native.Nat.{ℕ, _≤_}
+-- 10 refuse none; a move changes sets on the way and under the take alone, and none before the way's end; from a plan
+-- without a fault and its own table, an accepted move leaves what would be worked out afresh, with the count of the
+-- sets that differ; and so on over any list of moves (demand 3).
+use Prim.Native.Nat.{ℕ, _<_, _≤_}
 use mathlib.Core.Bool.{Bool, true, false, not}
 use mathlib.Core.List.{List, [], _∷_}
 use mathlib.Core.Logic.{_≢_, _↔_}
@@ -14,13 +14,14 @@ use lib.Dec.{leb}
 use lib.ListN.{length, getD, drop}
 use lib.Seq.{take-at}
 use borrow.Author.Tests.{leb-true, leb-false, le-leb, lt-leb}
-use Rattle.model.specs.Lists.{has, over, firstOf}
+use Rattle.model.specs.Lists.{has, over, firstOf, lastOr}
 use Rattle.model.specs.Answers.{numberOf, refuseIf, refuseAt, firstRefusal}
 use Rattle.model.specs.Line.{Settings, lineNumber, heldFrom}
 use Rattle.model.specs.Mate.{deviceAt}
 use Rattle.model.specs.WellFormed.{WellFormed, fault}
 use Rattle.model.specs.Claims.{table}
-use Rattle.model.specs.Move.{edited, mayChange, fromLast, stale, rewritten, changed, askedAt, isTakeOf, moveRefusal}
+use Rattle.model.specs.Move.{edited, way, mayChange, fromLast, stale, rewritten, changed, askedAt, isTakeOf}
+use Rattle.model.specs.Move.{moveRefusal}
 use Rattle.model.specs.Entries.{Outcome, Lent, moving}
 use Rattle.model.specs.declared.Refusal.{Refusal}
 use Rattle.model.specs.declared.Refusal.the-variants.{NotATake, NoSuchDevice, StaleTable}
@@ -30,9 +31,10 @@ use Rattle.theory.specs.Move.{differing, Accepted, Step, refused, accepted, Ask
 use Rattle.theory.proofs.WellFormed.{fault-exactly, no-fault-exactly}
 use Rattle.theory.proofs.Claims.{length-table}
 use Rattle.theory.proofs.Answers.{one-move-answer}
-use Rattle.theory.proofs.Way.{from-last-same}
-use Rattle.theory.proofs.Move.{stale-exactly, tests-passed, move-step, rewritten-off, length-rewritten, own-long}
-use Rattle.theory.proofs.Move.{no-verdict-refuses, same-device-stays, same-device-passes, moves-keep}
+use Rattle.theory.proofs.Line.{take-line}
+use Rattle.theory.proofs.Way.{way-ends, before-last-kept, from-last-same}
+use Rattle.theory.proofs.Move.{asked-take, stale-exactly, tests-passed, move-step, rewritten-off, length-rewritten}
+use Rattle.theory.proofs.Move.{own-long, no-verdict-refuses, same-device-stays, same-device-passes, moves-keep}
 use Rattle.promises.specs.Outcome.{Refuses}
 use Rattle.promises.specs.Table.{OwnTable}
 use Rattle.promises.specs.Verdict.{Decided}
@@ -40,7 +42,7 @@ use Rattle.promises.specs.Move.{MovesAs, NotMoved, notATake, noSuchDevic
 use Rattle.promises.specs.Move.{Afresh, Moved, notMoved, isMoved, Moves, none-asked, one-more, StaysRight}
 use Rattle.promises.proofs.Tight.{the-outcome}
 use Rattle.promises.proofs.Outcome as one
-use Rattle.promises.proofs.Outcome.{Entry, moves, Came, kept, passed}
+use Rattle.promises.proofs.Outcome.{Entry, moves, not-both, Came, kept, passed}
 use Rattle.promises.proofs.Table.{tables-as}
 use Rattle.promises.proofs.Verdict.{decided}
 
@@ -152,6 +154,22 @@ module _ (S : Settings) (p t : List ℕ) (line device : ℕ) where
           ap (λ (l : Lent). length (l .sets)) f
           ∙ length-rewritten (edited p (askedAt line) device) t (fromLast p (askedAt line))
 
+  -- so it is at all lines before the way's end
+  pub before-running : (a : MoveAnswer) (p′ t′ : List ℕ) → MovesAs S p t line device a p′ t′ → (k : ℕ)
+      → k < lastOr (askedAt line) (way p (askedAt line)) → getD t′ k 0 ≡ getD t k 0
+  before-running a p′ t′ m k lt = elsewhere-stays a p′ t′ m k (before-last-kept p (askedAt line) k lt)
+
+  -- a line whose claim is moved is one of the plan
+  moved-line : (a : MoveAnswer) (p′ t′ : List ℕ) → MovesAs S p t line device a p′ t′ → (n : ℕ)
+      → a ≡ MoveAnswer.Changed n → askedAt line < length p
+  unfolding moving moveRefusal
+  moved-line a p′ t′ m n q = go (one.came (entry S p t line device) a (left p′ t′) m)
+    where
+      go : Came (entry S p t line device) a (left p′ t′) → askedAt line < length p
+      go (kept r h e f) = absurd (not-both moves n r (sym q ∙ e))
+      go (passed h e f) =
+          take-line p (askedAt line) (asked-take p line (tests-passed S p t line device h .1))
+
   -- unless a test refuses, a claim moved to where it is counts 0, and all stays
   pub unrefused-stays-put : moveRefusal S p t line device ≡ none → deviceAt p (askedAt line) ≡ device
       → (a : MoveAnswer) (p′ t′ : List ℕ) → MovesAs S p t line device a p′ t′
@@ -192,6 +210,12 @@ module _ (S : Settings) (small : S .devices ≤ heldFrom) (p t : List ℕ) (line
         tables = tables-as S p′ t t′ sound (omega (arith, long, own-long p t (own .own)))
             (sets-are ∙ c .afresh ∙ rw (← plan-is, length-table p′, long));
         elsewhere = elsewhere-stays S p t line device a p′ t′ m;
+        running = (
+          lastOr (askedAt line) (way p (askedAt line)),
+          way-ends p (own .sound .rules) (askedAt line)
+              (moved-line S p t line device a p′ t′ m (differing (o .left .sets) t) (same .0 ∙ c .count)),
+          before-running S p t line device a p′ t′ m,
+        );
         counts = ap (λ (s : List ℕ). differing s t) (sym sets-are);
         verdict = λ lent h b left j.
             subst (λ (q : List ℕ). Decided S q lent b left) (plan-is ∙ c .plan) (decided S p′ lent b left j sound h);

@@ -18,7 +18,7 @@ use Rattle.model.specs.declared.MoveAnswer.{MoveAnswer}
 use Rattle.model.specs.declared.TableAnswer.{TableAnswer}
 use Rattle.model.specs.declared.VerdictAnswer.{VerdictAnswer}
 use Rattle.theory.specs.WellFormed.{Broken}
-use Rattle.theory.specs.Move.{NearestStale, Refused, differing, Ask}
+use Rattle.theory.specs.Move.{WayEnds, NearestStale, Refused, differing, Ask}
 use Rattle.promises.specs.Outcome.{Meets, Listed}
 use Rattle.promises.specs.Table.{TablesAs, OwnTable}
 use Rattle.promises.specs.Verdict.{OrdersAs, Decided}
@@ -46,13 +46,15 @@ NoMove S p t line device =
 -- ---- from a plan without a fault and its own table
 
 -- what an accepted move leaves: the edited plan, without a fault; the table of it that `table` would leave in the list;
--- at lines that are neither on the way nor under the take the sets that were there. The count is the number of places
--- at which the sets differ from those before; and a verdict on the plan left decides about the edited plan.
+-- at lines that are neither on the way nor under the take the sets that were there, and so at all lines before the
+-- first line of the running job at which the way ends (02, request 5). The count is the number of places at which the
+-- sets differ from those before; and a verdict on the plan left decides about the edited plan.
 pub record Afresh (S : Settings) (p t : List ℕ) (line device count : ℕ) (p′ t′ : List ℕ) : Type 0 where
   pub plan : p′ ≡ edited p (askedAt line) device
   pub sound : WellFormed S p′
   pub tables : TablesAs S p′ t (TableAnswer.Lines (length p′)) t′
   pub elsewhere : (k : ℕ) → has k (mayChange p (askedAt line)) ≡ false → getD t′ k 0 ≡ getD t k 0
+  pub running : (r : ℕ) × WayEnds p (askedAt line) r × ((k : ℕ) → k < r → getD t′ k 0 ≡ getD t k 0)
   pub counts : count ≡ differing t′ t
   pub verdict : (lent : List ℕ) → length (steps p′) ≤ length lent → (a : VerdictAnswer) (left : List ℕ)
       → OrdersAs S p′ lent a left → Decided S (edited p (askedAt line) device) lent a left

@@ -11,7 +11,6 @@ use lib.Dec.{leb}
 use lib.ListN.{length, take, drop, length-append}
 use lib.Seq.{take-at}
 use Rattle.model.specs.Answers.{firstRefusal, refuseIf}
-use Rattle.model.specs.Board.{board}
 use Rattle.model.specs.Line.{Settings, isLine, lineNumber, maxLines}
 use Rattle.model.specs.Lists.{over}
 use Rattle.model.specs.Text.{packedLine, linesOf, spelt}
@@ -89,42 +88,42 @@ all-spelt S text e = all-found S 0 (linesOf text) e
 -- ---- what the answer says of the list
 
 -- its first n entries are the lines handed out
-pub record Front (text : List ℕ) (n : ℕ) (left : List ℕ) : Type 0 where
+pub record Front (S : Settings) (text : List ℕ) (n : ℕ) (left : List ℕ) : Type 0 where
   pub within : n ≤ length left
   pub few : n ≤ maxLines
-  pub lines : take n left ≡ handedOut board 0 (linesOf text)
+  pub lines : take n left ≡ handedOut S 0 (linesOf text)
 
-module _ (text lent left : List ℕ) (long : length lent ≡ maxLines) where
+module _ (S : Settings) (text lent left : List ℕ) (long : length lent ≡ maxLines) where
   abbrev out : List ℕ
-  out = handedOut board 0 (linesOf text)
+  out = handedOut S 0 (linesOf text)
 
-  front : (n : ℕ) (a : Gathered) → n ≡ length out → GathersAs text lent a left → Front text n left
+  front : (n : ℕ) (a : Gathered) → n ≡ length out → GathersAs S text lent a left → Front S text n left
   unfolding over
   front n a e g =
-      let few = all-room board (linesOf text) in
-      let l = gathers-over text lent a left long g in
+      let few = all-room S (linesOf text) in
+      let l = gathers-over S text lent a left long g in
       record {
         within = rw (l, length-append) (omega arith);
         few = omega arith;
         lines = rw l (take-at out (drop (length out) lent) n (sym e));
       }
 
-  pub stopped-front : (n : ℕ) (r : Refusal) → GathersAs text lent (Gathered.Stopped n r) left
-      → Front text n left × (stopsWith board 0 (linesOf text) ≡ some r)
+  pub stopped-front : (n : ℕ) (r : Refusal) → GathersAs S text lent (Gathered.Stopped n r) left
+      → Front S text n left × (stopsWith S 0 (linesOf text) ≡ some r)
   unfolding gathered
-  stopped-front n r g = go (stopsWith board 0 (linesOf text)) (g .answers)
+  stopped-front n r g = go (stopsWith S 0 (linesOf text)) (g .answers)
     where
       go : (o : Option Refusal) → Gathered.Stopped n r ≡ gathered (length out) o
-          → Front text n left × (o ≡ some r)
+          → Front S text n left × (o ≡ some r)
       go none e = let z : _≡_ {A = ℕ} 0 1 = cc in absurd (omega arith)
       go (some q) e = (front n (Gathered.Stopped n r) (cc) g, cc)
 
-  pub all-front : (n : ℕ) → GathersAs text lent (Gathered.All n) left
-      → Front text n left × (stopsWith board 0 (linesOf text) ≡ none)
+  pub all-front : (n : ℕ) → GathersAs S text lent (Gathered.All n) left
+      → Front S text n left × (stopsWith S 0 (linesOf text) ≡ none)
   unfolding gathered
-  all-front n g = go (stopsWith board 0 (linesOf text)) (g .answers)
+  all-front n g = go (stopsWith S 0 (linesOf text)) (g .answers)
     where
       go : (o : Option Refusal) → Gathered.All n ≡ gathered (length out) o
-          → Front text n left × (o ≡ none)
+          → Front S text n left × (o ≡ none)
       go none e = (front n (Gathered.All n) (cc) g, refl)
       go (some q) e = let z : _≡_ {A = ℕ} 0 1 = cc in absurd (omega arith)

@@ -34,7 +34,7 @@ fn copy_numbers(from: &[u32], to: &mut [u32])
 fn first_fault(lines: &[u32], r: Refusal) -> Refusal
     ensures { λ q. ⌜ q ≡ Option·getD (firstFault board [] (now (lines .entry))) r ⌝ }
 {
-    match plan::lines_fault(lines) {
+    match plan::lines_fault(lines, false) {
         Checked::Refused(q) => {
             return q;
         }
@@ -47,9 +47,9 @@ fn first_fault(lines: &[u32], r: Refusal) -> Refusal
 // All lines of a text into the lent list, if they are a plan without a fault and the list is long enough.
 fn keep(lines: &[u32], plan: &mut [u32]) -> ReadAnswer
     requires { ⌜ length (now lines) ≤ maxLines ⌝ }
-    ensures { λ r. ⌜ KeepsAs (now (lines .entry)) (now (plan .entry)) r (now (plan .exit)) ⌝ }
+    ensures { λ r. ⌜ KeepsAs board (now (lines .entry)) (now (plan .entry)) r (now (plan .exit)) ⌝ }
 {
-    match plan::fault(lines) {
+    match plan::fault(lines, false) {
         Checked::Refused(r) => {
             return ReadAnswer::Refused(r);
         }
@@ -70,7 +70,7 @@ pub fn read(text: &[u8], plan: &mut [u32]) -> ReadAnswer
         return ReadAnswer::Refused(Refusal::TextTooLong);
     }
     let mut found = [0u32; MOST_LINES];
-    match lines::gather(text, &mut found) {
+    match lines::gather(text, false, &mut found) {
         Gathered::Stopped(n, r) => {
             return ReadAnswer::Refused(first_fault(&found[..n], r));
         }

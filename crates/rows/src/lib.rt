@@ -198,6 +198,7 @@ pub fn held_to_end(plan: &[u32]) -> HoldsAnswer
     let mut holdings = [sets::NONE; EACH_JOB];
     if let Checked::Refused(r) = plan::scan_holding(
         plan,
+        false,
         &mut first,
         &mut starter,
         &mut again,
@@ -223,7 +224,7 @@ pub fn holds(
         ⌝ }
 {
     let mut starter = [0u32; EACH_JOB];
-    if let Checked::Refused(r) = plan::scan(plan, first, &mut starter, again) {
+    if let Checked::Refused(r) = plan::scan(plan, false, first, &mut starter, again) {
         return HoldsAnswer::Refused(r);
     }
     let made = walk_back(plan, again, rows, lasting, &mut []);
@@ -240,7 +241,7 @@ pub fn tabled(plan: &[u32], rows: &mut [Set; EACH_DEVICE], table: &mut [Set]) ->
     let mut starter = [0u32; EACH_JOB];
     let mut again = [0u8; MOST_LINES];
     let mut lasting = [0u8; MOST_LINES];
-    if let Checked::Refused(r) = plan::scan(plan, &mut first, &mut starter, &mut again) {
+    if let Checked::Refused(r) = plan::scan(plan, false, &mut first, &mut starter, &mut again) {
         return HoldsAnswer::Refused(r);
     }
     let made = walk_back(plan, &again, rows, &mut lasting, table);

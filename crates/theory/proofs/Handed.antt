@@ -1,7 +1,6 @@
--- From any state as it is between turns, in which nothing need be done and nothing undone, the turns of the order go
--- through to the end, in a well-formed plan with no device that two lines keep and none that leads back to itself. Turn
--- by turn: the lines of a turn may follow, what holds between turns holds again, and each turn
--- does a line, so the turns that the definition allows are enough.
+-- From any state as it is between turns the turns of the order go through to the end, in a well-formed plan with no
+-- device that two lines keep and none that leads back to itself. Turn by turn: the lines of a turn may follow, what
+-- holds between turns holds again, and each turn does a line, so the turns that the definition allows are enough.
 use Prim.Native.Nat.{ℕ, zero, suc, _-_, _<_, _≤_}
 use mathlib.Core.Bool.{true, false, cond, not, _&&_}
 use mathlib.Core.List.{List, [], _∷_, _++_, append-nil, append-assoc}

@@ -1,6 +1,7 @@
--- A take, its mate, and the lines between. All of them are of one job, every take between has its mate before that
--- mate, so no lasting take stands between a take and its give; and in a well-formed plan a mate names its take's
--- device. The order hands out a pair in one turn, and a move rewrites a pair, on the strength of this.
+-- A take or a held line, its mate, and the lines between. All of them are of one job, every take between has its mate
+-- before that mate, so no lasting take stands between a take and its give; and in a well-formed plan a mate names its
+-- take's device. The order hands out a pair in one turn, and a move rewrites a pair, on the strength of this. Below,
+-- the open takes of a job are its open held lines too.
 use Prim.Native.Nat.{ℕ, zero, suc, _+_, _-_, _<_, _≤_}
 use mathlib.Core.Bool.{Bool, true, false, _&&_}
 use mathlib.Core.List.{List, [], _∷_, map, tail}

@@ -31,7 +31,7 @@ use Rattle.model.specs.declared.Refusal.the-variants.{ListTooShort, NotATake, N
 use Rattle.model.specs.declared.MoveAnswer.{MoveAnswer}
 use Rattle.theory.specs.Move.{Refused, notATake, noSuchDevice, differing, Accepted, Step}
 use Rattle.theory.specs.Move.{refused, accepted, Ask, moved, movedBy, Kept, NearestStale}
-use Rattle.theory.proofs.Tests.{clash, test, or-left, or-neither}
+use Rattle.theory.proofs.Tests.{falsely, clash, test, or-left, or-neither}
 use Rattle.theory.proofs.Lists.{has-none, has-head, has-tail, has-cases, none-exactly}
 use Rattle.theory.proofs.Lists.{has-right, first-split, split-first}
 use Rattle.theory.proofs.Answers.{all-tests, also, first-each, none-refuses, not-refused, not-found}
@@ -291,19 +291,18 @@ module _ (S : Settings) (p t : List ℕ) (line device : ℕ) (w : WellFormed S p
       go true false a b =
           rw (none-stale p t mine i (take-line p i (asked-take p line a))) (passes a (leb-false (S .devices) device b))
 
-  -- a held line is not moved: 12
-  pub held-refused : isHeld (at p (askedAt line)) ≡ true → moveRefusal S p t line device ≡ some (NotATake line)
-  held-refused h = go (moveRefusal S p t line device) test-view
-    where
-      no-take : isTakeOf p line ≡ true → {A : Type 0} → A
-      no-take a =
-          let i : ℕ = askedAt line in
-          clash (isHeld (at p i)) h (take-no-held (at p i) (asked-take p line a))
-
-      go : (x : Option Refusal) → TestView S p line device x → x ≡ some (NotATake line)
-      go none (passes a b) = no-take a
-      go (some r) (refuses s (notATake a)) = refl
-      go (some r) (refuses s (noSuchDevice a b)) = no-take a
+-- a held line is not moved, whatever stands in the table: 12
+pub held-refused : (S : Settings) (p t : List ℕ) (line device : ℕ) → WellFormed S p → length p ≤ length t
+    → isHeld (at p (askedAt line)) ≡ true → moveRefusal S p t line device ≡ some (NotATake line)
+unfolding moveRefusal firstRefusal tooShort refuseIf
+held-refused S p t line device w room h =
+    rw (
+      no-fault-exactly S p .1 w,
+      le-ltb (length t) (length p) room,
+      falsely (isTakeOf p line)
+          (λ a. clash (isHeld (at p (askedAt line))) h
+          (take-no-held (at p (askedAt line)) (asked-take p line a))),
+    )
 
 -- ---- the tests of any move
 

@@ -1,4 +1,4 @@
--- If some order is legal, no device has two lasting takes and no device leads back to itself. The argument: every
+-- If some order is legal, no device is kept by two lines and no device leads back to itself. The argument: every
 -- take of a device stands at or before its lasting take, so along rows the places of lasting takes grow, and round a
 -- circle a place would come after itself.
 use Prim.Native.Nat.{ℕ, suc, _+_, _<_, _≤_}

@@ -1,4 +1,4 @@
--- In a legal order each line has one place. What has to come before a line stands before it, and every other take of
+-- In a legal order each step has one place. What has to come before a line stands before it, and every other take of
 -- a device stands before its lasting take.
 use Prim.Native.Nat.{ℕ, suc, _<_, _≤_}
 use mathlib.Core.Bool.{Bool, true, false, not, _&&_}

@@ -1,4 +1,4 @@
--- While a line is undone, (a) or (b) finds a line, if no device has two lasting takes and none leads back to itself.
+-- While a line is undone, (a) or (b) finds a line, if no device is kept by two lines and none leads back to itself.
 -- For otherwise every job that can go on stands at a lasting take whose device another undone line takes; that line
 -- is reached from some standing line, so every standing device lies in the row of a standing device; and going back
 -- from row to row there would be more devices than there are.

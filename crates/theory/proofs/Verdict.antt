@@ -440,3 +440,32 @@ module _ (S : Settings) (p : List ℕ) (sound : fault S p ≡ none) where
       to l none e = e
       to l (some r) e =
           absurd (no-legal-order D p (well-formed .rules) r (refused-exactly r .0 e) (l .0) (l .1))
+
+  -- Where no device is kept twice and none leads back, 10 comes exactly where there is no legal order, and with the
+  -- lowest device that a held line names.
+  pub else-exactly : ((e : ℕ) → e < D → LastsTwice p e → ⊥) → ((e : ℕ) → e < D → Leads (rows D p) e e → ⊥) → (d : ℕ)
+      → (noOrder D p ≡ some (LeadsBack d))
+      ↔ (((o : List ℕ) → Legal p o → ⊥) × HeldDevice p d × ((e : ℕ) → e < d → HeldDevice p e → ⊥))
+  else-exactly no-two no-circle d = (λ e. to (refused-exactly (LeadsBack d) .0 e), from)
+    where
+      to : NoOrder D p (LeadsBack d)
+          → ((o : List ℕ) → Legal p o → ⊥) × HeldDevice p d × ((e : ℕ) → e < d → HeldDevice p e → ⊥)
+      to (byRows r (back x f l c low)) = absurd (no-circle x l c)
+      to (byHeld x f g h l n low) =
+          (no-legal-order D p (well-formed .rules) (LeadsBack x) (byHeld x f g h l n low), n, low)
+
+      same : (r : Refusal) → NoOrder D p r → HeldDevice p d → ((e : ℕ) → e < d → HeldDevice p e → ⊥)
+          → r ≡ LeadsBack d
+      same r (byRows s (twice x l u low)) h under = absurd (no-two x l u)
+      same r (byRows s (back x f l c low)) h under = absurd (no-circle x l c)
+      same r (byHeld x f g k l n low) h under =
+          ap {B = Refusal} LeadsBack (lowest-one (HeldDevice p) x d n h low under)
+
+      from : ((o : List ℕ) → Legal p o → ⊥) × HeldDevice p d × ((e : ℕ) → e < d → HeldDevice p e → ⊥)
+          → noOrder D p ≡ some (LeadsBack d)
+      from h = go (noOrder D p) refl
+        where
+          go : (x : Option Refusal) → noOrder D p ≡ x → noOrder D p ≡ some (LeadsBack d)
+          go none e = absurd (h .0 (handed p) (accepted-is-legal e))
+          go (some r) e =
+              e ∙ ap {B = Option Refusal} some (same r (refused-exactly r .0 e) (h .1) (h .2))

@@ -1,12 +1,12 @@
 -- The way of a line: it begins with the line and falls to the first line of a running job, which in a plan of the
--- morning is line 1; and with a line it has all that come before that one. So a line off the way has no successor on
+-- morning is line 1; and it has exactly the lines that lead to the line. So a line off the way has no successor on
 -- it. The lines that a move may change are the way of the moved take and the lines under it; together they are the way
 -- of the last of these, so that what holds of a way holds of them, and a move, which rewrites their sets from the last
 -- one back, leaves the rest right.
 use Prim.Native.Nat.{ℕ, zero, suc, _+_, _-_, _<_, _≤_}
 use mathlib.Core.Bool.{Bool, true, false, _||_}
 use mathlib.Core.List.{List, [], _∷_, _++_, append-nil}
-use mathlib.Core.Logic.{_⊎_, inl, inr, _≢_}
+use mathlib.Core.Logic.{_⊎_, inl, inr, _≢_, _↔_}
 use mathlib.Core.Option.{Option, none, some, Option·getD}
 use mathlib.Core.Path.{_≡_, refl, sym, _∙_, ap, subst}
 use native.Mathlib.Omega.{arith}
@@ -20,12 +20,14 @@ use Rattle.model.specs.Legal.{precedes}
 use Rattle.model.specs.Claims.{successors}
 use Rattle.model.specs.Mate.{mate}
 use Rattle.model.specs.Move.{wayIn, way, until, under, mayChange, fromLast}
-use Rattle.theory.specs.Move.{Falls, ends, falls, Running}
+use Rattle.theory.specs.Claims.{Reach, here, step}
+use Rattle.theory.specs.Move.{Falls, ends, falls, Running, WayEnds}
 use Rattle.theory.proofs.Tests.{clash, test, falsely, or-split, or-right, or-neither, le-or-lt}
 use Rattle.theory.proofs.Lists.{has-none, has-head, has-tail, has-cases, has-left, has-right, has-append}
 use Rattle.theory.proofs.Lists.{has-upFrom, upFrom-has, has-those, those-has}
 use Rattle.theory.proofs.WellFormed.{start-line, any-line}
-use Rattle.theory.proofs.Successors.{Why, sameJob, starter, why, successor-after, jobs-grow}
+use Rattle.theory.proofs.Successors.{Why, sameJob, starter, why, earlier-precedes, start-precedes}
+use Rattle.theory.proofs.Successors.{successor-after, jobs-grow, precedes-reaches}
 use Rattle.theory.proofs.Mate.{pair}
 
 pub falls-below : (n k : ℕ) (xs : List ℕ) → Falls n xs → has k xs ≡ true → k < n
@@ -234,6 +236,80 @@ pub last-on-way : (p : List ℕ) (i : ℕ) → has (lastOr i (way p i)) (way p i
 unfolding lastOr
 last-on-way p i = rw (way-first p i) (last-has i (wayIn p (job (at p i)) i))
 
+-- of numbers that fall the last is the lowest
+last-below : (x : ℕ) (xs : List ℕ) → Falls x xs → lastOr x xs ≤ x
+unfolding lastOr
+last-below x xs (ends n) = omega arith
+last-below x xs (falls n y ys lt f) = omega (arith, last-below y ys f)
+
+last-lowest : (n x k : ℕ) (xs : List ℕ) → Falls n xs → has k xs ≡ true → lastOr x xs ≤ k
+unfolding lastOr
+last-lowest n x k xs (ends m) h = has-none k h
+last-lowest n x k xs (falls m y ys lt f) h = go (has-cases k y ys h) (last-lowest y y k ys f)
+  where
+    go : (k ≡ y) ⊎ (has k ys ≡ true) → (has k ys ≡ true → lastOr y ys ≤ k) → lastOr y ys ≤ k
+    go (inl e) ih = omega (arith, last-below y ys f)
+    go (inr e) ih = ih e
+
+-- no line before the last of the way is on it
+pub before-last-off : (p : List ℕ) (i k : ℕ) → k < lastOr i (way p i) → has k (way p i) ≡ false
+before-last-off p i k lt =
+    falsely (has k (way p i)) (λ h. omega (arith, last-lowest (suc i) i k (way p i) (way-falls p i) h))
+
+-- ---- the way has exactly the lines that lead to its first
+
+join : (p : List ℕ) (i b k : ℕ) → Reach p i b → Reach p b k → Reach p i k
+join p i b k (here x) r = r
+join p i b k (step x o y h s) r = step i o k h (join p (suc i + o) b k s r)
+
+module _ (p : List ℕ) (rules : Rules p) where
+  -- what the walk back for the job of line i meets leads to line i
+  leads-on : (n k i : ℕ) → n ≤ i → i < length p → has k (wayIn p (job (at p i)) n) ≡ true → Reach p k i
+  unfolding wayIn onto
+  leads-on zero k i le h m = has-none k m
+  leads-on (suc n) k i le h m = go (test (onto p (job (at p i)) n)) (leads-on n k)
+    where
+      before : (eqb (job (at p n)) (job (at p i)) ≡ true) ⊎ (starts (at p n) (job (at p i)) ≡ true)
+          → precedes p n i ≡ true
+      before (inl e) = earlier-precedes p n i (omega arith) (eqb-true (job (at p n)) (job (at p i)) e)
+      before (inr e) = start-precedes p n i e
+
+      go : (onto p (job (at p i)) n ≡ true) ⊎ (onto p (job (at p i)) n ≡ false)
+          → ((i : ℕ) → n ≤ i → i < length p → has k (wayIn p (job (at p i)) n) ≡ true → Reach p k i) → Reach p k i
+      go (inr x) ih = ih i (omega arith) h (rw (way-past p (job (at p i)) n x) at m)
+      go (inl x) ih =
+          met (has-cases k n (wayIn p (job (at p n)) n) (rw (way-on p (job (at p i)) n x) at m))
+        where
+          reaches : Reach p n i
+          reaches =
+              precedes-reaches p rules n i (omega arith) h
+              (before (or-split (eqb (job (at p n)) (job (at p i))) (starts (at p n) (job (at p i))) x)) .1
+
+          met : (k ≡ n) ⊎ (has k (wayIn p (job (at p n)) n) ≡ true) → Reach p k i
+          met (inl e) = rw e reaches
+          met (inr e) = join p k n i (ih n (omega arith) (omega arith) e) reaches
+
+  reach-on-way : (i k : ℕ) → Reach p k i → has k (way p i) ≡ true
+  reach-on-way i k (here x) = line-on-way p i
+  reach-on-way i k (step x o y h r) =
+      way-closed p rules i k (suc k + o) (omega arith) (successor-after p k o h .1) (reach-on-way i (suc k + o) r)
+
+  -- The theorem: a line is on the way exactly if it leads there.
+  pub way-exactly : (i k : ℕ) → i < length p → (has k (way p i) ≡ true) ↔ Reach p k i
+  way-exactly i k h = (λ m. go (has-cases k i (wayIn p (job (at p i)) i) (rw (way-first p i) at m)), reach-on-way i k)
+    where
+      go : (k ≡ i) ⊎ (has k (wayIn p (job (at p i)) i) ≡ true) → Reach p k i
+      go (inl e) = rw e (here i)
+      go (inr e) = leads-on i k i (omega arith) h e
+
+  -- so the way ends where no line before leads there: at the first line of a running job
+  pub way-ends : (i : ℕ) → i < length p → WayEnds p i (lastOr i (way p i))
+  way-ends i h = record {
+    running = way-to-running p rules i h;
+    leads = way-exactly i (lastOr i (way p i)) h .0 (last-on-way p i);
+    first = λ k r. last-lowest (suc i) i k (way p i) (way-falls p i) (reach-on-way i k r);
+  }
+
 -- In a plan of the morning that is line 1.
 module _ (D : ℕ) (p : List ℕ) (w : WellFormed (morning D) p) where
   runs-first : (k : ℕ) → Running p k → k ≡ 0
@@ -286,6 +362,20 @@ module _ (p : List ℕ) (i : ℕ) where
       go : (has k (way p i) ≡ true) ⊎ (has k (under p i) ≡ true) → k < length p
       go (inl a) = omega (arith, falls-below (suc i) k (way p i) (way-falls p i) a)
       go (inr a) = omega (arith, has-under k a .1, until-in-plan)
+
+  -- a move changes no line before the way's end
+  pub before-last-kept : (k : ℕ) → k < lastOr i (way p i) → has k (mayChange p i) ≡ false
+  unfolding mayChange
+  before-last-kept k lt = falsely (has k (mayChange p i)) (λ m. go (has-append k (way p i) (under p i) m))
+    where
+      go : (has k (way p i) ≡ true) ⊎ (has k (under p i) ≡ true) → ⊥
+      go (inl a) = clash (has k (way p i)) a (before-last-off p i k lt)
+      go (inr a) =
+          omega (
+            arith,
+            has-under k a .0,
+            falls-below (suc i) (lastOr i (way p i)) (way p i) (way-falls p i) (last-on-way p i),
+          )
 
 -- where in a list a number stands makes no difference
 has-moved : (k a : ℕ) (xs ys : List ℕ) → has k (xs ++ (a ∷ ys)) ≡ has k (a ∷ xs ++ ys)

@@ -3,6 +3,7 @@ pub mod Line
 pub mod WellFormed
 pub mod Outer
 pub mod Claims
+pub mod Chosen
 pub mod Verdict
 pub mod Move
 pub mod Kept

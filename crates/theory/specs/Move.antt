@@ -18,6 +18,7 @@ use Rattle.model.specs.Entries.{Outcome, Lent, moving}
 use Rattle.model.specs.declared.Refusal.{Refusal}
 use Rattle.model.specs.declared.Refusal.the-variants.{NotATake, NoSuchDevice}
 use Rattle.model.specs.declared.MoveAnswer.{MoveAnswer}
+use Rattle.theory.specs.Claims.{Reach}
 
 -- ---- the lines that a move may change
 
@@ -27,6 +28,13 @@ pub record Running (p : List ℕ) (k : ℕ) : Type 0 where
   pub line : k < length p
   pub first : (i : ℕ) → i < k → job (at p i) ≢ job (at p k)
   pub unstarted : (i : ℕ) → starts (at p i) (job (at p k)) ≡ false
+
+-- the way of the line at i ends at line r: that is the first line of a running job, it leads to line i, and no line
+-- before it does
+pub record WayEnds (p : List ℕ) (i r : ℕ) : Type 0 where
+  pub running : Running p r
+  pub leads : Reach p r i
+  pub first : (k : ℕ) → Reach p k i → r ≤ k
 
 -- numbers that fall, all below n
 pub data Falls : ℕ → List ℕ → Type 0 where

@@ -13,7 +13,7 @@ use Rattle.model.specs.Verdict.{staysOpen}
 use Rattle.model.specs.declared.Refusal.{Refusal}
 use Rattle.model.specs.declared.Refusal.the-variants.{TwoLasting, LeadsBack}
 
--- two lines that keep a device to the end: lasting takes, or held lines without a give
+-- two lines that keep a device to the end: lasting takes, or one of them a held line without a give
 pub record LastsTwice (p : List ℕ) (d : ℕ) : Type 0 where
   pub i : ℕ
   pub k : ℕ

@@ -11,9 +11,9 @@ use lib.Dec.{ltb}
 use lib.ListN.{length, set, length-append, length-replicate}
 use lib.Seq.{set-set}
 use borrow.Author.Tests.{lt-ltb, le-ltb}
-use Rattle.model.specs.Line.{job, kind, operand, isHeld}
+use Rattle.model.specs.Line.{job, verbOf, deviceOf}
 use Rattle.model.specs.Text.{tab, newline, decimal, verb, tabbed, lineText}
-use Rattle.theory.proofs.Line.{kind-small, verb-kind, own-device}
+use Rattle.theory.proofs.Line.{verb-small, device-small}
 use Rattle.theory.proofs.Numbers.{decimal-small, decimal-step}
 use Rattle.theory.proofs.Tests.{le-or-lt}
 use Rattle.fields.specs.Puts.{PutsAs, placeAfter}
@@ -88,12 +88,11 @@ module _ (n at : ℕ) (old : List ℕ) (h : n ≤ 255) (room : at + length (deci
 -- a line and its three parts, and room for it at a place
 pub record Asked (l at : ℕ) (old : List ℕ) (j k o : ℕ) : Type 0 where
   pub short : job l ≤ 255
-  pub unheld : isHeld l ≡ false
   pub bound : length old < 2 ^ 63
   pub room : at + length (lineText l) ≤ length old
   pub is-job : j ≡ job l
-  pub is-kind : k ≡ kind l
-  pub is-operand : o ≡ operand l
+  pub is-verb : k ≡ verbOf l
+  pub is-named : o ≡ deviceOf l
 
 -- there is room for one byte more
 abbrev pub More : ℕ → List ℕ → Type 0
@@ -107,16 +106,15 @@ record Lengths (at : ℕ) (old : List ℕ) (j k o : ℕ) : Type 0 where
   pub digit : 1 ≤ length (decimal o)
 
 module _ {l at : ℕ} {old : List ℕ} {j k o : ℕ} (q : Asked l at old j k o) where
-  pub kind-fits : k < 4
-  kind-fits = rw (q .is-kind) (kind-small l)
+  pub verb-fits : k < 5
+  verb-fits = rw (q .is-verb) (verb-small l)
 
   operand-short : o ≤ 255
-  unfolding operand
-  operand-short = omega (arith, q .is-operand)
+  operand-short = omega (arith, q .is-named, device-small l)
 
   whole : lineText l ≡ decimal j ++ (tab ∷ (verb k ++ (tab ∷ (decimal o ++ (newline ∷ [])))))
   unfolding lineText tabbed
-  whole = rw (verb-kind l (q .unheld), own-device l (q .unheld), q .is-job, q .is-kind, q .is-operand)
+  whole = rw (q .is-job, q .is-verb, q .is-named)
 
   lengths : Lengths at old j k o
   lengths =
@@ -124,8 +122,8 @@ module _ {l at : ℕ} {old : List ℕ} {j k o : ℕ} (q : Asked l at old j k o) 
       ap length whole ∙ simp length-append (omega arith) in
       record {
         all = omega (arith, n, q .room);
-        low = row-of k kind-fits .low;
-        high = row-of k kind-fits .high;
+        low = row-of k verb-fits .low;
+        high = row-of k verb-fits .high;
         digit = omega (arith, digits-asked o operand-short);
       }
 

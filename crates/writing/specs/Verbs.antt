@@ -3,7 +3,7 @@
 use Prim.Native.Nat.{ℕ, _+_, _-_, _*_}
 use mathlib.Core.List.{List, [], _∷_, _++_, flatMap}
 use mathlib.Core.Path.{_≡_}
-use lib.ListN.{length, take, replicate}
+use lib.ListN.{length, replicate}
 use Rattle.model.specs.Text.{verbs, verb}
 use Rattle.fields.specs.Puts.{withBytes}
 
@@ -14,12 +14,11 @@ spare word = replicate (5 - length word) 0
 unfoldable pub row : List ℕ → List ℕ
 row word = word ++ spare word ++ (length word ∷ [])
 
--- those that a plan of the morning has
 unfoldable pub verbTable : List ℕ
 unfolding row verbs flatMap
-verbTable = flatMap row (take 4 verbs)
+verbTable = flatMap row verbs
 
--- a table with a verb in the row of its kind
+-- a table with a verb in the row of its number
 unfoldable pub withRow : ℕ → List ℕ → List ℕ → List ℕ
 unfolding withBytes
 withRow k word table = withBytes (length word ∷ []) (k * 6 + 5) (withBytes word (k * 6) table)

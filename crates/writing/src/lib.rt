@@ -1,15 +1,14 @@
 // Writing a plan as text (01, "The plan as text"; "Refusal numbers" as far as it is on writing).
 use board::MOST_BYTES;
-use line::EACH_KIND;
+use line::EACH_VERB;
 use model::Refusal;
 use model::WriteAnswer;
 use plan::Checked;
 ghost use Prim.Native.Nat.{ℕ, _+_, _≤_, _<_};
-ghost use mathlib.Core.Bool.{true, false};
 ghost use mathlib.Core.Path.{_≡_};
 ghost use lib.ListN.{length};
 ghost use Rattle.model.specs.Board.{board};
-ghost use Rattle.model.specs.Line.{at, isLine, isHeld, job};
+ghost use Rattle.model.specs.Line.{at, job};
 ghost use Rattle.model.specs.Text.{decimal, lineText, textOf};
 ghost use Rattle.fields.specs.Puts.{PutsAs};
 ghost use Rattle.promises.specs.Text.{WritesAs};
@@ -23,9 +22,9 @@ const LONGEST: usize = 5;
 // A verb's row in their table: as many bytes as the longest has, the verb's first, and how many are the verb's.
 const ROW: usize = LONGEST + 1;
 
-// A verb into the row of its kind.
+// A verb into the row of its number.
 fn set_row(table: &mut [u8], k: usize, verb: &[u8])
-    requires { ⌜ (k < 4) × (length (now verb) ≤ 5) ⌝ }
+    requires { ⌜ (k < 5) × (length (now verb) ≤ 5) ⌝ }
     ensures { λ r. ⌜ now (table .exit) ≡ withRow k (now (verb .entry)) (now (table .entry)) ⌝ }
 {
     fields::put_word(table, k * ROW, verb);
@@ -33,23 +32,24 @@ fn set_row(table: &mut [u8], k: usize, verb: &[u8])
 }
 
 // The table of verbs, a verb a line. It is made once for a text.
-fn verb_table() -> [u8; EACH_KIND * ROW]
+fn verb_table() -> [u8; EACH_VERB * ROW]
     ensures { λ r. ⌜ r ≡ verbTable ⌝ }
 {
-    let mut table = [0u8; EACH_KIND * ROW];
+    let mut table = [0u8; EACH_VERB * ROW];
     set_row(&mut table, 0, b"do");
     set_row(&mut table, 1, b"take");
     set_row(&mut table, 2, b"give");
     set_row(&mut table, 3, b"start");
+    set_row(&mut table, 4, b"held");
     table
 }
 
 // ---- one line
 
-// The verb of a kind: as many bytes as the longest has, so that no branch asks for the kind, which cannot be foretold.
+// The verb of a number: as many bytes as the longest has, so that no branch asks which it is, which cannot be foretold.
 // What stands behind a shorter verb is written over by what comes next.
 fn put_verb(made: &mut [u8], at: usize, table: &[u8], k: u32) -> usize
-    requires { ⌜ (k < 4) × (at + 5 ≤ length (now made)) × (now table ≡ verbTable) ⌝ }
+    requires { ⌜ (k < 5) × (at + 5 ≤ length (now made)) × (now table ≡ verbTable) ⌝ }
     ensures { λ r. ⌜ Lays k at (now (made .entry)) r (now (made .exit)) ⌝ }
 {
     let from = k as usize * ROW;
@@ -74,13 +74,12 @@ fn put_small(made: &mut [u8], at: usize, n: u32) -> usize
 
 // A line: a job and a verb, each with its tab, and an operand with its newline.
 fn put_line(made: &mut [u8], at: usize, table: &[u8], l: u32) -> usize
-    requires { ⌜ (job l ≤ 255) × (isHeld l ≡ false) × (at + length (lineText l) ≤ length (now made))
-        × (now table ≡ verbTable) ⌝ }
+    requires { ⌜ (job l ≤ 255) × (at + length (lineText l) ≤ length (now made)) × (now table ≡ verbTable) ⌝ }
     ensures { λ r. ⌜ PutsAs (lineText l) at (now (made .entry)) r (now (made .exit)) ⌝ }
 {
     let j = line::job(l);
-    let k = line::kind(l);
-    let o = line::operand(l);
+    let k = line::verb(l);
+    let o = line::named(l);
     let a = put_small(made, at, j);
     made[a] = b'\t';
     let b = put_verb(made, a + 1, table, k);
@@ -94,7 +93,7 @@ fn put_line(made: &mut [u8], at: usize, table: &[u8], l: u32) -> usize
 
 // The lines of a plan, one behind another.
 fn make(plan: &[u32], made: &mut [u8]) -> usize
-    requires { ⌜ ((k : ℕ) → k < length (now plan) → isLine board (at (now plan) k) ≡ true)
+    requires { ⌜ ((k : ℕ) → k < length (now plan) → job (at (now plan) k) ≤ 255)
         × (length (textOf (now plan)) ≤ length (now made)) ⌝ }
     ensures { λ r. ⌜ PutsAs (textOf (now (plan .entry))) 0 (now (made .entry)) r (now (made .exit)) ⌝ }
 {
@@ -113,7 +112,7 @@ fn make(plan: &[u32], made: &mut [u8]) -> usize
 pub fn write(plan: &[u32], text: &mut [u8]) -> WriteAnswer
     ensures { λ r. ⌜ WritesAs board (now (plan .entry)) (now (text .entry)) r (now (text .exit)) ⌝ }
 {
-    if let Checked::Refused(r) = plan::fault(plan) {
+    if let Checked::Refused(r) = plan::fault(plan, false) {
         return WriteAnswer::Refused(r);
     }
     let mut made = [0u8; MOST_BYTES];

@@ -25,7 +25,7 @@ well-formed : (c : tie.After-enum-told) → WellFormed board (entry c .args .pla
 well-formed c = no-fault-exactly board (entry c .args .plan .now) .0 (no-fault c)
 
 -- and the flags are its
-flags : (c : tie.After-enum-told) → c .before .before .scan .last .1 .1 .1 .0 ≡ againFlags (entry c .args .plan .now)
+flags : (c : tie.After-enum-told) → c .before .before .scan .last .1 .1 .1 .1 .0 ≡ againFlags (entry c .args .plan .now)
 flags c = rw (no-fault c) at (c .before .before .scan .ensures .agains)
 
 -- 2 to 7

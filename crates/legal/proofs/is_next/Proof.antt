@@ -1,12 +1,12 @@
 -- `legal::is_next` meets its contract: what its callees answer, put together.
+use native.Mathlib.Omega.{arith}
 use borrow.Author.Needs.{needs}
 use Rattle.legal.specs.Steps.{isNext}
-use Rattle.legal.proofs.Entries.{job-place}
 use Rattle.legal.proofs.is_next.Statement.{statement}
 use Rattle.legal.proofs.is_next.Tie as tie
 
 its-job : tie.Need-element-copy-out-stands
-its-job c = rw (c .job .ensures) (job-place (c .before .args .l) (c .before .pre))
+its-job c = rw (c .job .ensures) (omega (arith, c .before .pre))
 
 returns : tie.Need-returns
 unfolding isNext

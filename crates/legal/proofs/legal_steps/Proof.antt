@@ -1,31 +1,28 @@
 -- `legal::legal_steps` meets its contract: with k entries passed, the list of next lines and the set tell of their
 -- lines, and the whole answer is that of the entries left.
-use mathlib.Core.Path.{_≡_, sym, _∙_}
+use mathlib.Core.Path.{_≡_}
 use mathlib.Core.List.{List}
 use Prim.Native.Nat.{ℕ, suc, _-_, _<_, _≤_}
 use native.Mathlib.Omega.{arith}
 use lib.ListN.{length, getD}
 use borrow.Author.Needs.{needs}
-use borrow.Author.Tests.{not-true, not-false}
-use Rattle.model.specs.Board.{board}
+use Rattle.model.specs.Board.{boardAt}
 use Rattle.model.specs.Line.{maxLines}
-use Rattle.model.specs.Sets.{empty}
 use Rattle.model.specs.WellFormed.{WellFormed}
-use Rattle.legal.proofs.Entries.{numbered, Names, named, counted-line}
-use Rattle.legal.proofs.Standing.{atFirst}
+use Rattle.legal.proofs.Entries.{numbered, Names, named, counted-job, counted-start, test-passed}
+use Rattle.legal.proofs.Entries.{test-failed}
 use Rattle.legal.proofs.Loop.{Following, formed, follows-first, all-passed, no-number, no-step, follows-on}
 use Rattle.legal.proofs.legal_steps.Statement.{statement}
 use Rattle.legal.proofs.legal_steps.Tie as tie
 
 abbrev Inv-loop : tie.InvT-loop
-Inv-loop plan first again order next₀ held₀ k₀ next held k = Following plan first order next held k
+Inv-loop plan first again next₀ order held₀ k₀ next held k = Following plan first order next held k
 
 abbrev μ-loop : tie.MeasureT-loop
-μ-loop plan first again order next₀ held₀ k₀ next held k = length order - k
+μ-loop plan first again next₀ order held₀ k₀ next held k = length order - k
 
 loop-holds : tie.Need-loop-holds Inv-loop μ-loop
-unfolding atFirst empty
-loop-holds c = let start = c .before .before in follows-first (start .args .order .now) (start .pre .0)
+loop-holds c = let start = c .before .before in follows-first (start .args .order .now) (start .pre)
 
 -- where an entry is tested
 abbrev start : tie.After-shared-slice-known3 Inv-loop μ-loop → tie.Start Inv-loop μ-loop
@@ -47,8 +44,8 @@ number : (c : tie.Else1 Inv-loop μ-loop)
     → (entry (c .before) ≡ suc (entry (c .before) - 1)) × (entry (c .before) - 1 < length (plan (c .before)))
 number c = numbered (entry (c .before)) (length (plan (c .before))) (c .if1 .left)
 
-well : (c : tie.Else1 Inv-loop μ-loop) → WellFormed board (plan (c .before))
-well c = formed (start (c .before) .pre .0)
+well : (c : tie.Else1 Inv-loop μ-loop) → WellFormed (boardAt (start (c .before) .pre .midday)) (plan (c .before))
+well c = formed (start (c .before) .pre)
 
 small : (c : tie.Else1 Inv-loop μ-loop) → entry (c .before) ≤ maxLines
 small c = omega (arith, number c .0, number c .1, well c .few)
@@ -61,14 +58,14 @@ counted : (c : tie.After-plain Inv-loop μ-loop)
     → Names (plan (at-entry c .before)) (entry (at-entry c .before)) (c .plain .result)
 counted c =
     let here = at-entry c in
-    named (well here) (entry (here .before)) (c .plain .result) (start (here .before) .pre .1) (here .if1 .left)
+    named (well here) (entry (here .before)) (c .plain .result) (start (here .before) .pre .agains) (here .if1 .left)
     (c .plain .ensures)
 
 is-next-requires : tie.Need-is-next-requires Inv-loop μ-loop
 is-next-requires c κs =
     let line = c .before in
     let here = at-entry line in
-    counted-line (well here) (entry (here .before)) (line .plain .result) (counted line)
+    counted-job (well here) (entry (here .before)) (line .plain .result) (counted line)
 
 -- it is no legal step
 returns-2 : tie.Need-returns-2 Inv-loop μ-loop
@@ -76,13 +73,16 @@ returns-2 c =
     let line = c .before .before .before in
     let test = at-entry line .before .before in
     no-step (test .before .loop .inv) (test .loop-test .taken) (counted line)
-    (sym (c .before .is-next .ensures) ∙ not-true (c .before .is-next .result) (c .if2 .taken))
+    (test-failed (c .before .is-next .result) _ (c .before .is-next .ensures) (c .if2 .taken))
 
 pass-requires : tie.Need-pass-requires Inv-loop μ-loop
 pass-requires c κs =
     let line = c .before .before .before .before in
-    let here = at-entry line in
-    (counted-line (well here) (entry (here .before)) (line .plain .result) (counted line), small here)
+    let here = at-entry line in (
+      counted-job (well here) (entry (here .before)) (line .plain .result) (counted line),
+      counted-start (well here) (entry (here .before)) (line .plain .result) (counted line),
+      small here,
+    )
 
 -- it is done
 loop-again : tie.Need-loop-again Inv-loop μ-loop
@@ -92,7 +92,7 @@ loop-again c =
     let line = tested .before .before in
     let test = at-entry line .before .before in
     follows-on (test .before .loop .inv) (test .loop-test .taken) (counted line)
-    (sym (tested .is-next .ensures) ∙ not-false (tested .is-next .result) (passed .before .before .if2 .left))
+    (test-passed (tested .is-next .result) _ (tested .is-next .ensures) (passed .before .before .if2 .left))
     (passed .pass .ensures) (c .held-after .ensures)
 
 -- no entry is left
@@ -105,7 +105,6 @@ legal-steps-spec =
     (tie.spec
     Inv-loop
     μ-loop
-    (λ c. search needs)
     loop-holds
     (λ c. search needs)
     (λ c. search needs)

@@ -1,13 +1,14 @@
 -- `legal::pass` meets its contract: a line's job has a place in the list, and so has the job that it starts, or 0.
 use mathlib.Core.Path.{_≡_}
+use native.Mathlib.Omega.{arith}
 use borrow.Author.Needs.{needs}
 use Rattle.legal.specs.Steps.{startedBy}
-use Rattle.legal.proofs.Entries.{job-place, started-place, chosen-place, stored-next}
+use Rattle.legal.proofs.Entries.{chosen-place, stored-next}
 use Rattle.legal.proofs.pass.Statement.{statement}
 use Rattle.legal.proofs.pass.Tie as tie
 
 its-job : tie.Need-element-write-next
-its-job c = rw (c .job .ensures) (job-place (c .before .args .l) (c .before .pre .0))
+its-job c = rw (c .job .ensures) (omega (arith, c .before .pre .0))
 
 -- where the job that it starts is known
 abbrev start : tie.After-choose → tie.Start
@@ -19,10 +20,10 @@ started c =
     (c .choose .result) (c .choose .ensures) (c .before .before .is-start .ensures) (c .before .operand .ensures)
 
 started-job : tie.Need-element-copy-out-next
-started-job c = rw (started c) (started-place (start c .args .l) (start c .pre .0))
+started-job c = rw (started c) (omega (arith, start c .pre .1))
 
 started-job-2 : tie.Need-element-write-next-2
-started-job-2 c = let here = c .before in rw (started here) (started-place (start here .args .l) (start here .pre .0))
+started-job-2 c = let here = c .before in rw (started here) (omega (arith, start here .pre .1))
 
 returns : tie.Need-returns
 returns c =

@@ -24,7 +24,7 @@ no-fault c = refused-none _ _ (c .enum-told .given .1) (c .before .before .scan-
 
 scanned : (c : tie.After-enum-told)
     → let s = c .before .before .scan-holding .last in
-    Scanned (entry c .args .plan .now) (s .1 .0) (s .1 .1 .0) (s .1 .1 .1 .0)
+    Scanned (entry c .args .plan .now) (s .1 .1 .0) (s .1 .1 .1 .0) (s .1 .1 .1 .1 .0)
 scanned c =
     is-scanned (entry c .args .plan .now) _ _ _ _ _ _ _ (c .before .before .scan-holding .ensures .scanned) (no-fault c)
 

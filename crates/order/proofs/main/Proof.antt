@@ -5,6 +5,7 @@ use native.Mathlib.Omega.{arith}
 use lib.ListN.{length, replicate, length-replicate}
 use lib.Seq.{length-take-le}
 use borrow.Author.Needs.{needs}
+use Rattle.model.specs.Board.{board}
 use Rattle.model.specs.Printed.{screenRoom}
 use Rattle.shell.specs.Input.{Within}
 use Rattle.shell.specs.declared.Input.{Input}
@@ -26,12 +27,17 @@ room = length-replicate {A = ℕ} screenRoom 0
 array-share-prefix-out : tie.Need-array-share-prefix-out
 array-share-prefix-out c =
     let p = c .before .print in
-    omega (arith, never-more _ _ (p .result) (p .last .1 .1 .1 .0) (p .ensures .screens), p .kept, room)
+    omega (
+      arith,
+      never-more board _ _ (p .result) (p .last .1 .1 .1 .0) (p .ensures .screens) (omega arith),
+      p .kept,
+      room,
+    )
 
 write-printed-requires : tie.Need-write-printed-requires
 write-printed-requires c κs =
     let p = c .before .before .print in
-    front-printed _ _ (p .result) (p .last .1 .1 .1 .0) (p .ensures .screens) (omega (arith, room))
+    front-printed board _ _ (p .result) (p .last .1 .1 .1 .0) (p .ensures .screens) (omega (arith, room))
 
 pub main-spec : {M : Type 1} → statement M
 main-spec =

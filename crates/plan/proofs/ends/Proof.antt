@@ -10,11 +10,11 @@ use Rattle.plan.proofs.ends.Statement.{statement}
 use Rattle.plan.proofs.ends.Tie as tie
 
 abbrev Inv-loop : tie.InvT-loop
-Inv-loop first starter empty₀ never₀ j₀ empty never j =
+Inv-loop first starter midday empty₀ never₀ j₀ empty never j =
     (2 ≤ j) × (j ≤ suc maxJob) × Low first starter j empty × Never first starter j never
 
 abbrev μ-loop : tie.MeasureT-loop
-μ-loop first starter empty₀ never₀ j₀ empty never j = suc maxJob - j
+μ-loop first starter midday empty₀ never₀ j₀ empty never j = suc maxJob - j
 
 loop-holds : tie.Need-loop-holds Inv-loop μ-loop
 loop-holds c =
@@ -54,21 +54,24 @@ never-at c = let e : c .before .loop .j ≡ suc maxJob = omega arith in rw e at 
 returns : tie.Need-returns Inv-loop μ-loop
 returns c =
     let l = c .before .before in
-    told-5 (l .before .args .first .now) (l .before .args .starter .now) (l .loop .empty) (low-at (c .before))
+    told-5 (l .before .args .midday) (l .before .args .first .now) (l .before .args .starter .now) (l .loop .empty)
+    (low-at (c .before))
     (c .if1 .taken)
 
 -- 6
 returns-2 : tie.Need-returns-2 Inv-loop μ-loop
 returns-2 c =
     let l = c .before .before .before in
-    told-6 (l .before .args .first .now) (l .before .args .starter .now) (l .loop .empty) (l .loop .never)
+    told-6 (l .before .args .midday) (l .before .args .first .now) (l .before .args .starter .now) (l .loop .empty)
+    (l .loop .never)
     (low-at (c .before .before)) (c .before .if1 .left) (never-at (c .before .before)) (c .if2 .taken)
 
 -- neither
 returns-3 : tie.Need-returns-3 Inv-loop μ-loop
 returns-3 c =
     let l = c .before .before .before in
-    told-none (l .before .args .first .now) (l .before .args .starter .now) (l .loop .empty) (l .loop .never)
+    told-none (l .before .args .midday) (l .before .args .first .now) (l .before .args .starter .now) (l .loop .empty)
+    (l .loop .never)
     (low-at (c .before .before)) (c .before .if1 .left) (never-at (c .before .before)) (c .if2 .left)
 
 pub ends-spec : {M : Type 1} → statement M

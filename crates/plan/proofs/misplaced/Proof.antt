@@ -9,7 +9,7 @@ use native.Mathlib.Numerals.{add-one}
 use lib.Dec.{eqb}
 use borrow.Author.Tests.{le-leb, lt-leb, eqb-false, eq-eqb, ne-eqb}
 use Rattle.model.specs.Answers.{firstRefusal, refuseIf}
-use Rattle.model.specs.Board.{board}
+use Rattle.model.specs.Board.{boardAt}
 use Rattle.model.specs.Line.{job, isLine, lineNumber, maxLines}
 use Rattle.model.specs.declared.Refusal.the-variants.{JobOutOfSequence}
 use Rattle.plan.specs.Checked.{checked}
@@ -37,10 +37,11 @@ returns : tie.Need-returns
 unfolding placeFault firstRefusal refuseIf
 returns c = rw (le-leb maxLines (c .before .args .i) (c .if1 .taken))
 
-placed : (n i prev j : ℕ) (b : Bool) → i < maxLines → isLine board n ≡ true → j ≡ job n
-    → (eqb j prev || eqb j (suc prev)) ≡ b → placeFault board n i prev ≡ refuseIf (not b) (JobOutOfSequence (i + 1))
+placed : (midday : Bool) (n i prev j : ℕ) (b : Bool) → i < maxLines → isLine (boardAt midday) n ≡ true → j ≡ job n
+    → (eqb j prev || eqb j (suc prev)) ≡ b
+    → placeFault (boardAt midday) n i prev ≡ refuseIf (not b) (JobOutOfSequence (i + 1))
 unfolding placeFault firstRefusal refuseIf lineNumber
-placed n i prev j b few line e t =
+placed midday n i prev j b few line e t =
     let is : (eqb (job n) prev || eqb (job n) (suc prev)) ≡ b = rw e at t in
     rw (lt-leb maxLines i few, line, is, add-one) (go b)
   where
@@ -54,12 +55,13 @@ at-job : (c : tie.After-job) (b : Bool)
     → (eqb (c .job .result) (c .before .before .before .before .args .prev)
     || eqb (c .job .result) (suc (c .before .before .before .before .args .prev)))
     ≡ b
-    → placeFault board (c .before .before .before .before .args .n) (c .before .before .before .before .args .i)
+    → placeFault (boardAt (c .before .before .before .before .args .midday))
+    (c .before .before .before .before .args .n) (c .before .before .before .before .args .i)
     (c .before .before .before .before .args .prev)
     ≡ refuseIf (not b) (JobOutOfSequence (c .before .before .before .before .args .i + 1))
 at-job c b e =
     let a = c .before .before .before .before .args in
-    placed (a .n) (a .i) (a .prev) (c .job .result) b (c .before .before .before .if1 .left)
+    placed (a .midday) (a .n) (a .i) (a .prev) (c .job .result) b (c .before .before .before .if1 .left)
     (sym (c .before .before .is-line .ensures) ∙ c .before .if2 .taken) (c .job .ensures) e
 
 -- a line's job is 1 at least
@@ -69,7 +71,8 @@ job-least c =
     omega (
       arith,
       c .job .ensures,
-      line-parts board (l .before .before .args .n) (sym (l .is-line .ensures) ∙ c .before .if2 .taken),
+      line-parts (boardAt (l .before .before .args .midday)) (l .before .before .args .n)
+          (sym (l .is-line .ensures) ∙ c .before .if2 .taken),
     )
 
 -- out of sequence

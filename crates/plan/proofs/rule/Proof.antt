@@ -8,7 +8,7 @@ use native.Mathlib.Omega.{arith}
 use lib.Dec.{eqb, ltb}
 use lib.ListN.{getD, set, length-set}
 use borrow.Author.Tests.{eqb-true}
-use Rattle.model.specs.Board.{board}
+use Rattle.model.specs.Board.{boardAt}
 use Rattle.model.specs.Line.{job, kind, operand, opens, isGive, isStart, lineNumber}
 use Rattle.model.specs.declared.Refusal.the-variants.{BadStart}
 use Rattle.theory.proofs.Line.{start-operand, opens-no-start, give-no-start}
@@ -62,7 +62,7 @@ element-copy-out-if3 c =
     omega (
       arith,
       c .before .operand .ensures,
-      start-operand board (s .args .n) (s .pre .2)
+      start-operand (boardAt true) (s .args .n) (s .pre .2)
           (eqb-true (kind (s .args .n)) 3 (sym (f .is-start .ensures) ∙ c .before .before .if2 .taken)),
     )
 

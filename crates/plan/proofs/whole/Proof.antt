@@ -1,5 +1,6 @@
 -- `plan::whole` meets its contract, by the laws of `Scans`.
 use mathlib.Core.Path.{refl}
+use Rattle.model.specs.Board.{boardAt}
 use Rattle.plan.proofs.Scans.{at-a-line, past-the-lines}
 use borrow.Author.Needs.{needs}
 use Rattle.plan.proofs.whole.Statement.{statement}
@@ -9,7 +10,8 @@ returns : tie.Need-returns
 returns c =
     let w = c .before .before .before .walk in
     let r = c .before .r .given in
-    at-a-line (c .before .before .before .before .before .before .before .before .before .args .plan .now)
+    let a = c .before .before .before .before .before .before .before .before .before .args in
+    at-a-line (boardAt (a .midday)) (a .plan .now)
     _ _ _ _ _ _ (r .0 .0) (rw (r .1) at (w .ensures .0))
 
 ends-requires : tie.Need-ends-requires
@@ -21,7 +23,8 @@ returns-2 : tie.Need-returns-2
 returns-2 c =
     let w = c .before .before .before .before .before in
     let e = c .before .before .before .enum-told .given .1 in
-    past-the-lines (w .before .before .before .before .before .before .args .plan .now) _ _ _ _ (c .ends .result)
+    let a = w .before .before .before .before .before .before .args in
+    past-the-lines (boardAt (a .midday)) (a .plan .now) _ _ _ _ (c .ends .result)
     (rw e at (w .walk .ensures .0)) (w .walk .ensures .1 refl e) (c .ends .ensures)
 
 pub whole-spec : {M : Type 1} → statement M

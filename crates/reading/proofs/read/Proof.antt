@@ -13,23 +13,23 @@ use Rattle.reading.proofs.read.Tie as tie
 
 -- 1
 returns : tie.Need-returns
-returns c = let a = c .before .before .before .args in reads-long (a .text .now) (a .plan .now) (c .if1 .taken)
+returns c = let a = c .before .before .before .args in reads-long board (a .text .now) (a .plan .now) (c .if1 .taken)
 
 -- the lines handed out stand in front of the list, up to a refusal or to the end
 stopped : (c : tie.After-known-told)
     → let g = c .before .before .before in
     let a = g .before .before .before .before .before .args in
-    Front (a .text .now) (c .before .n .given .0 .0) (g .gather .last .1 .0)
+    Front board (a .text .now) (c .before .n .given .0 .0) (g .gather .last .1 .1 .0)
     × (stopsWith board 0 (linesOf (a .text .now)) ≡ some (c .before .n .given .0 .1 .0))
 stopped c =
-    stopped-front _ _ _ refl _ _ (rw (c .before .n .given .1) at (c .before .before .before .gather .ensures))
+    stopped-front board _ _ _ refl _ _ (rw (c .before .n .given .1) at (c .before .before .before .gather .ensures))
 
 all : (c : tie.After-known-told2)
     → let g = c .before .before .before in
     let a = g .before .before .before .before .before .args in
-    Front (a .text .now) (c .before .n2 .given .0 .0) (g .gather .last .1 .0)
+    Front board (a .text .now) (c .before .n2 .given .0 .0) (g .gather .last .1 .1 .0)
     × (stopsWith board 0 (linesOf (a .text .now)) ≡ none)
-all c = all-front _ _ _ refl _ (rw (c .before .n2 .given .1) at (c .before .before .before .gather .ensures))
+all c = all-front board _ _ _ refl _ (rw (c .before .n2 .given .1) at (c .before .before .before .gather .ensures))
 
 -- where the reader stopped
 returns-2 : tie.Need-returns-2
@@ -38,7 +38,8 @@ returns-2 c =
     let short = n .before .before .before .before .before in
     let a = short .before .before .before .args in
     let s = stopped n in
-    rw (c .first-fault .ensures, s .0 .lines) (reads-stopped (a .text .now) (a .plan .now) (short .if1 .left) _ (s .1))
+    rw (c .first-fault .ensures, s .0 .lines)
+    (reads-stopped board (a .text .now) (a .plan .now) (short .if1 .left) _ (s .1))
 
 -- where it came to the end
 returns-3 : tie.Need-returns-3
@@ -48,7 +49,8 @@ returns-3 c =
     let short = n .before .before .before .before .before in
     let a = short .before .before .before .args in
     let s = all n in
-    reads-kept (a .text .now) (a .plan .now) (short .if1 .left) (s .1) _ _ (rw (s .0 .lines) at (k .keep .ensures))
+    reads-kept board (a .text .now) (a .plan .now) (short .if1 .left) (s .1) _ _
+    (rw (s .0 .lines) at (k .keep .ensures))
 
 pub read-spec : {M : Type 1} → statement M
 read-spec =

@@ -29,7 +29,7 @@ returns c =
 
 -- what the jobs hold is the plan's
 held-is : (c : tie.After-enum-told)
-    → c .before .before .scan-holding .last .1 .1 .1 .1 .0 ≡ holdings (entry c .args .plan .now)
+    → c .before .before .scan-holding .last .1 .1 .1 .1 .1 .0 ≡ holdings (entry c .args .plan .now)
 held-is c = rw (no-fault c) at (c .before .before .scan-holding .ensures .held)
 
 over-jobs-requires : tie.Need-over-jobs-requires

@@ -5,10 +5,7 @@ use mathlib.Core.Path.{sym, _∙_, ap}
 use native.Mathlib.Omega.{arith}
 use lib.ListN.{length}
 use borrow.Author.Needs.{needs}
-use Rattle.model.specs.Board.{devices, board}
-use Rattle.model.specs.Line.{at}
 use Rattle.model.specs.Text.{lineText, textOf}
-use Rattle.theory.proofs.Line.{line-parts, morning-line}
 use Rattle.fields.specs.Puts.{PutsAs}
 use Rattle.fields.proofs.Putting.{kept, put-none}
 use Rattle.fields.proofs.Pieces.{pieces, pieces-all, next-room, put-more}
@@ -42,8 +39,7 @@ put-line-requires c κs =
     let p = s .args .plan .now in
     let i = at-loop .loop .i in
     let h = c .before .before .before .loop-test .taken in (
-      omega (arith, line-parts board (at p i) (s .pre .0 i h) .1),
-      morning-line devices (at p i) (s .pre .0 i h),
+      s .pre .0 i h,
       next-room lineText p i h (at-loop .loop .inv) (room s),
       at-loop .before .verb-table .ensures,
     )

@@ -2,26 +2,25 @@
 use native.Mathlib.Omega.{arith}
 use borrow.Author.Needs.{needs}
 use Rattle.fields.proofs.Putting.{kept}
-use Rattle.writing.proofs.Making.{Asked, More, kind-fits, job-asked, tab-room, verb-room, tab2-room}
+use Rattle.writing.proofs.Making.{Asked, More, verb-fits, job-asked, tab-room, verb-room, tab2-room}
 use Rattle.writing.proofs.Making.{operand-asked, newline-room, line-put}
 use Rattle.writing.proofs.put_line.Statement.{statement}
 use Rattle.writing.proofs.put_line.Tie as tie
 
 -- the function's entry, from where the line is taken apart
-abbrev entry : tie.After-operand → tie.Start
+abbrev entry : tie.After-named → tie.Start
 entry c = c .before .before .before .before .before
 
-asked : (c : tie.After-operand)
+asked : (c : tie.After-named)
     → Asked (entry c .args .l) (entry c .args .at) (entry c .args .made .now) (c .before .before .job .result)
-    (c .before .kind .result) (c .operand .result)
+    (c .before .verb .result) (c .named .result)
 asked c = record {
   short = entry c .pre .0;
-  unheld = entry c .pre .1;
   bound = omega (arith, entry c .good);
-  room = entry c .pre .2;
+  room = entry c .pre .1;
   is-job = c .before .before .job .ensures;
-  is-kind = c .before .kind .ensures;
-  is-operand = c .operand .ensures;
+  is-verb = c .before .verb .ensures;
+  is-named = c .named .ensures;
 }
 
 -- there is room for the byte behind each part
@@ -43,7 +42,7 @@ put-verb-requires : tie.Need-put-verb-requires
 put-verb-requires c κs =
     let j = c .before .before .before in
     let q = asked (j .before .before) in
-    (kind-fits q, verb-room q (j .put-small .ensures), entry (j .before .before) .pre .3)
+    (verb-fits q, verb-room q (j .put-small .ensures), entry (j .before .before) .pre .2)
 
 put-small-requires-2 : tie.Need-put-small-requires-2
 put-small-requires-2 c κs =

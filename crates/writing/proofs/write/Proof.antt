@@ -7,9 +7,10 @@ use native.Mathlib.Omega.{arith}
 use lib.ListN.{length, take}
 use borrow.Author.Needs.{needs}
 use Rattle.model.specs.Board.{board}
-use Rattle.model.specs.Line.{maxBytes}
+use Rattle.model.specs.Line.{at, maxBytes}
 use Rattle.model.specs.Text.{textOf}
 use Rattle.model.specs.WellFormed.{fault}
+use Rattle.theory.proofs.Line.{line-parts}
 use Rattle.theory.proofs.WellFormed.{no-fault-exactly}
 use Rattle.plan.proofs.Answers.{told, untold}
 use Rattle.fields.proofs.Putting.{kept, moves, put-at-start, front-at-start}
@@ -38,7 +39,8 @@ returns c =
 make-requires : tie.Need-make-requires
 make-requires c κs =
     let p = entry (c .before) .args .plan .now in
-    (no-fault-exactly board p .0 (no-fault (c .before)) .lines, text-fits p (no-fault (c .before)))
+    let lines = no-fault-exactly board p .0 (no-fault (c .before)) .lines in
+    (λ k h. omega (arith, line-parts board (at p k) (lines k h) .1), text-fits p (no-fault (c .before)))
 
 -- the text, in the front of the array
 abbrev text : tie.After-make → List ℕ
