@@ -1,10 +1,10 @@
 //! Damage done to texts, packed lists and tables, so that refusals come from what is nearly right.
 //!
 //! Reads, of document 01: "The plan as text", the cases 2 to 7 of "Refusal numbers", and the stale
-//! sets of "Moving a claim", for what can go wrong; whether a piece of damage makes a fault is left
-//! to the readings.
+//! sets of "Moving a claim", and of document 02: request 5, for what can go wrong; whether a piece of
+//! damage makes a fault is left to the readings.
 
-use crate::line::{Line, Verb, DEVICES, LINES};
+use crate::line::{Line, Settings, Verb, DEVICES, LINES, MIDDAY, MORNING};
 use crate::plain::{gives, under, way};
 use crate::random::{Move, Random};
 use crate::read::write;
@@ -58,6 +58,75 @@ pub fn damaged_packed(random: &mut Random, plan: &[u32]) -> Vec<u32> {
         _ => list[at] = list[at].wrapping_add(1_024),
     }
     list
+}
+
+/// The packed number of a held line less its job and device.
+const HELD: u32 = 256 + 128;
+
+/// Damages a packed list of a resumed plan: a held line comes, comes twice, gets another device, or comes
+/// of a take, or its job is started; or it is damaged as any other list is.
+pub fn damaged_resumed(random: &mut Random, plan: &[u32]) -> Vec<u32> {
+    let mut list = plan.to_vec();
+    if list.is_empty() {
+        return vec![1_024 + HELD + random.below(40) as u32];
+    }
+    let at = random.below(list.len());
+    let device = match random.below(8) {
+        0 => random.below(128) as u32,
+        _ => random.below(4) as u32,
+    };
+    let of_job = |number: u32| number / 1_024 * 1_024;
+    match random.below(8) {
+        0 => list.insert(at, of_job(list[at]) + HELD + device),
+        1 => list.insert(at + 1, of_job(list[at]) + HELD + device),
+        2 => repeat_held(random, &mut list),
+        3 => hold_other(random, &mut list, device),
+        4 => hold_a_take(random, &mut list),
+        5 => start_running(random, &mut list),
+        _ => list = damaged_packed(random, plan),
+    }
+    list
+}
+
+/// The places of the held lines.
+fn held(list: &[u32]) -> Vec<usize> {
+    (0..list.len()).filter(|&at| list[at] % 1_024 / 128 == HELD / 128).collect()
+}
+
+/// Holds once more what is held, in any job, at its beginning or later.
+fn repeat_held(random: &mut Random, list: &mut Vec<u32>) {
+    let (held, at) = (held(list), random.below(list.len()));
+    if !held.is_empty() {
+        let device = list[random.one_of(&held)] % 128;
+        list.insert(at + random.below(2), list[at] / 1_024 * 1_024 + HELD + device);
+    }
+}
+
+/// Gives a held line another device.
+fn hold_other(random: &mut Random, list: &mut [u32], device: u32) {
+    let held = held(list);
+    if !held.is_empty() {
+        let at = random.one_of(&held);
+        list[at] = list[at] / 128 * 128 + device;
+    }
+}
+
+/// Makes a held line of a take.
+fn hold_a_take(random: &mut Random, list: &mut [u32]) {
+    let takes = of_kind(list, 1);
+    if !takes.is_empty() {
+        list[random.one_of(&takes)] |= 128;
+    }
+}
+
+/// Starts a job that is running: from a line of a lower job.
+fn start_running(random: &mut Random, list: &mut Vec<u32>) {
+    let job = list[random.below(list.len())] / 1_024;
+    let above: Vec<usize> = (0..list.len()).filter(|&at| list[at] / 1_024 < job).collect();
+    if !above.is_empty() {
+        let at = random.one_of(&above);
+        list.insert(at + 1, list[at] / 1_024 * 1_024 + 3 * 256 + job % 256);
+    }
 }
 
 /// Lets the last job go on past the longest plan. What stands there need be no line at all.
@@ -133,14 +202,22 @@ pub fn stale_table(random: &mut Random, plan: &[Line], to: Move, sets: &[u32]) -
     stale
 }
 
-/// A packed list as a text, line by line. What is the number of no line is spelt all the same,
-/// with its job, its verb and its operand, and makes a malformed line.
+/// A packed list of the morning as a text, line by line. What is the number of no line is spelt all the
+/// same, with its job, its verb and its operand, and makes a malformed line.
 pub fn spelt(list: &[u32]) -> Vec<u8> {
-    let spell = |&number: &u32| match Line::unpacked(number) {
+    spelt_by(MORNING, list)
+}
+
+/// A packed list as a text, likewise.
+pub fn spelt_by(settings: Settings, list: &[u32]) -> Vec<u8> {
+    let spell = |&number: &u32| match Line::unpacked_by(settings, number) {
         Some(line) => write(&[line]),
         None => {
+            let (job, operand) = (number / 1_024, number % 256);
             let verb = ["do", "take", "give", "start"][(number / 256 % 4) as usize];
-            format!("{}\t{verb}\t{}\n", number / 1_024, number % 256).into_bytes()
+            let is_held = settings == MIDDAY && verb == "take" && operand >= 128;
+            let (verb, operand) = if is_held { ("held", operand - 128) } else { (verb, operand) };
+            format!("{job}\t{verb}\t{operand}\n").into_bytes()
         }
     };
     list.iter().flat_map(spell).collect()

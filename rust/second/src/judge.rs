@@ -1,24 +1,25 @@
 //! The judge of orders from elsewhere: each entry is asked every rule anew.
 //!
-//! Reads, of document 02: requests 1 and 2, and of document 01: "Legal orders". From one entry to the
-//! next nothing is kept but which lines are done. Line numbers and positions count from 1; 0 stands
-//! for an entry that is never legal.
+//! Reads, of document 02: requests 1, 2 and 5, and of document 01: "Legal orders". From one entry to the
+//! next nothing is kept but which lines are done; held lines are so before the first. Line numbers and
+//! positions count from 1; 0 stands for an entry that is never legal.
 
-use crate::line::{Line, Refusal, Verb};
-use crate::read::{check_packed, read};
+use crate::line::{Line, Refusal, Settings, Verb, MORNING};
+use crate::read::{check_packed_by, read};
 
 /// A sentence of "Legal orders" that an entry breaks, with the line that shows it.
 #[derive(Clone, Copy, Debug, PartialEq, Eq, PartialOrd, Ord)]
 pub enum Rule {
     /// The entry is the number of no line.
     NoLine,
-    /// Its line is done already.
+    /// Its line is done already, as a held line is from the beginning.
     Again,
     /// This line starts its job, and is not done.
     NotStarted(usize),
     /// This line stands before it in its job, and is not done.
     Earlier(usize),
-    /// It takes a device that another job took at this line, which is done, and did not give back.
+    /// It takes a device that another job took at this line, which is done, and did not give back; at a
+    /// held line it took it before the plan was taken up.
     Held(usize),
 }
 
@@ -44,22 +45,25 @@ pub fn broken(plan: &[Line], done: &[bool], entry: usize) -> Vec<Rule> {
     broken
 }
 
-/// Whether a take that is done keeps this line from coming: the line takes the same device in another
-/// job, and the give of the take is not done. What its own job holds a job may take again.
+/// Whether a take or held line that is done keeps this line from coming: the line takes the same device
+/// in another job, and the give is not done. What its own job holds a job may take again.
 fn is_in_the_way(plan: &[Line], done: &[bool], take: usize, at: usize) -> bool {
-    let device = plan[at].takes();
-    let same_device = device.is_some() && plan[take].takes() == device;
+    let same_device = plan[at].takes().is_some_and(|device| {
+        let Line { verb, .. } = plan[take];
+        verb == Verb::Take(device) || verb == Verb::Held(device)
+    });
     same_device && plan[take].job != plan[at].job && done[take] && !is_given(plan, done, take)
 }
 
-/// Whether the give of a take is done. A give is that of the take made last in its job, so that the
-/// takes from this one on are counted until none is left open; a take without a give is never given.
+/// Whether the give of a take or a held line is done. A give is that of the take made last in its job,
+/// so that the takes from this one on are counted, and the held lines, until none is left open; what has
+/// no give is never given.
 fn is_given(plan: &[Line], done: &[bool], take: usize) -> bool {
     let mut open = 0;
     let mut job = (take..plan.len()).filter(|&other| plan[other].job == plan[take].job);
     let give = job.find(|&other| {
         match plan[other].verb {
-            Verb::Take(_) => open += 1,
+            Verb::Take(_) | Verb::Held(_) => open += 1,
             Verb::Give(_) => open -= 1,
             Verb::Do(_) | Verb::Start(_) => {}
         }
@@ -80,7 +84,7 @@ pub struct Astray {
 
 /// Where a list goes astray; nothing for a legal order.
 pub fn astray(plan: &[Line], entries: &[usize]) -> Option<Astray> {
-    let mut done = vec![false; plan.len()];
+    let mut done: Vec<bool> = plan.iter().map(|line| line.is_held()).collect();
     for (before, &entry) in entries.iter().enumerate() {
         let rules = broken(plan, &done, entry);
         if !rules.is_empty() {
@@ -100,10 +104,15 @@ fn judged(plan: &[Line], entries: &[usize]) -> Result<(), Refusal> {
     }
 }
 
-/// Judges a list of line numbers for a packed plan: the plan's own faults come first.
+/// Judges a list of line numbers for a packed plan of the morning.
 pub fn judge(plan: &[u32], order: &[u16]) -> Result<(), Refusal> {
+    judge_by(MORNING, plan, order)
+}
+
+/// Judges a list of line numbers for a packed plan: the plan's own faults come first.
+pub fn judge_by(settings: Settings, plan: &[u32], order: &[u16]) -> Result<(), Refusal> {
     let entries: Vec<usize> = order.iter().map(|&entry| entry.into()).collect();
-    judged(&check_packed(plan)?, &entries)
+    judged(&check_packed_by(settings, plan)?, &entries)
 }
 
 /// Judges a text: a plan, the first line that is two hyphens, and the entries one a line.

@@ -11,10 +11,11 @@
 //!
 //! [`orders`], [`judge`] and [`read`] never call [`plain`], and [`plain`] never calls [`orders`] or
 //! [`judge`], which do not call each other either; the run `readings` is the only place where their
-//! answers meet. [`random`] makes the plans for it, [`damage`] spoils them, [`small`] brings every
-//! small one, [`listed`] those of document 01 with their answers, [`elsewhere`] makes and spoils
-//! orders, [`leading`] makes rows, [`planted`] plans that have given rows, [`shapes`] tells what a
-//! plan takes again, and [`tally`] counts what was seen.
+//! answers meet. [`random`] and, for plans taken up at midday, [`resumed`] make the plans for it,
+//! [`damage`] spoils them, [`small`] brings every small one, [`listed`] those of document 01 with their
+//! answers, [`midday`] what is left of a plan that has begun, [`elsewhere`] makes and spoils orders,
+//! [`leading`] makes rows, [`planted`] plans that have given rows, [`shapes`] tells what a plan takes
+//! again, and [`tally`] counts what was seen.
 
 #![forbid(unsafe_code)]
 #![warn(missing_docs)]
@@ -25,11 +26,13 @@ pub mod judge;
 pub mod leading;
 pub mod line;
 pub mod listed;
+pub mod midday;
 pub mod orders;
 pub mod plain;
 pub mod planted;
 pub mod random;
 pub mod read;
+pub mod resumed;
 pub mod shapes;
 pub mod small;
 pub mod tally;

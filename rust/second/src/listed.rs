@@ -136,14 +136,21 @@ pub fn text(short: &str) -> Vec<u8> {
     lines(short).map(|line| line.replace(' ', "\t") + "\n").collect::<String>().into_bytes()
 }
 
-/// Its packed numbers, made by the formula alone, also where a number is that of no line.
+/// Its packed numbers, made by the formula alone, also where a number is that of no line. Held lines have
+/// the kind of takes, and 128 more.
 pub fn packed(short: &str) -> Vec<u32> {
     let number = |field: &str| field.parse::<u32>().expect("a plan has numbers");
-    let kind = |verb: &str| ["do", "take", "give", "start"].iter().position(|&kind| kind == verb);
+    let verb = |verb: &str| match verb {
+        "do" => 0,
+        "take" => 256,
+        "held" => 256 + 128,
+        "give" => 2 * 256,
+        "start" => 3 * 256,
+        _ => panic!("a plan has verbs"),
+    };
     let packed = |line: &str| {
         let fields: Vec<&str> = line.split(' ').collect();
-        let kind = kind(fields[1]).expect("a plan has verbs") as u32;
-        number(fields[0]) * 1_024 + kind * 256 + number(fields[2])
+        number(fields[0]) * 1_024 + verb(fields[1]) + number(fields[2])
     };
     lines(short).map(packed).collect()
 }

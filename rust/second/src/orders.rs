@@ -1,8 +1,9 @@
 //! The first reading, part two: all orders, tried one step after another.
 //!
 //! Reads, of document 01: "Legal orders", and of document 02: request 2, what it says of devices that
-//! are free. Claims, rows and circles are unknown here on purpose: what this file finds is what the
-//! other reading is held against.
+//! are free, and request 5, by which a resumed plan begins with its held lines done. Claims, rows,
+//! circles and segments are unknown here on purpose: what this file finds is what the other reading is
+//! held against.
 //!
 //! The plans are well-formed; line numbers count from 1 outside and from nought inside.
 
@@ -12,7 +13,7 @@ use std::collections::HashSet;
 /// What has to be known of a plan before its orders can be judged.
 struct Plan<'a> {
     lines: &'a [Line],
-    /// For each line the one its own job, or its job's start, puts before it.
+    /// For each line the one its own job, or its job's start, puts before it. A running job has none.
     before: Vec<Option<usize>>,
 }
 
@@ -63,7 +64,12 @@ struct Course {
 impl Course {
     fn new(plan: &Plan) -> Course {
         let devices = [Monitor::default(); DEVICES as usize];
-        Course { done: vec![false; plan.lines.len()], devices }
+        let mut course = Course { done: vec![false; plan.lines.len()], devices };
+        // What is held was taken before: such a line is done, and is no step.
+        for at in (0..plan.lines.len()).filter(|&at| plan.lines[at].is_held()) {
+            course.come(plan, at);
+        }
+        course
     }
 
     /// Whether the line may come next. One line before it is enough to look at: that one has
@@ -83,9 +89,11 @@ impl Course {
         let Line { job, verb } = plan.lines[at];
         self.done[at] = true;
         match verb {
-            Verb::Take(device) => self.devices[usize::from(device)].enter(job),
+            Verb::Take(device) | Verb::Held(device) => {
+                self.devices[usize::from(device)].enter(job);
+            }
             Verb::Give(device) => self.devices[usize::from(device)].leave(),
-            _ => {}
+            Verb::Do(_) | Verb::Start(_) => {}
         }
     }
 
@@ -167,14 +175,13 @@ struct Search<'a> {
 
 impl Search<'_> {
     fn reaches_the_end(&mut self, done: u128) -> bool {
-        let lines = self.plan.lines.len();
-        if self.order.len() == lines {
+        if !self.course.done.contains(&false) {
             return true;
         }
         if self.nowhere.contains(&done) {
             return false;
         }
-        for at in 0..lines {
+        for at in 0..self.plan.lines.len() {
             if self.course.may_come(&self.plan, at) {
                 self.course.come(&self.plan, at);
                 self.order.push(at + 1);
@@ -193,9 +200,83 @@ impl Search<'_> {
 /// Some legal order of the plan, or nothing when every order has been tried and none is legal.
 /// The plan has at most 128 lines, the width of a set of lines.
 pub fn some_legal_order(plan: &[Line]) -> Option<Vec<usize>> {
+    some_legal_end(plan, &[])
+}
+
+/// What may come after these entries, each of which may come after those before it, so that the whole
+/// is a legal order; nothing where they cannot be gone on with to the end.
+pub fn some_legal_end(plan: &[Line], begun: &[usize]) -> Option<Vec<usize>> {
     assert!(plan.len() <= 128, "too many lines for trying all orders");
     let plan = Plan::new(plan);
-    let course = Course::new(&plan);
+    let course = begun_course(&plan, begun);
+    // Only lines that come later are put into the sets: the others are done in all of them.
     let mut search = Search { plan, course, order: Vec::new(), nowhere: HashSet::new() };
     search.reaches_the_end(0).then_some(search.order)
+}
+
+/// The course after entries that may come one after another.
+fn begun_course(plan: &Plan, begun: &[usize]) -> Course {
+    let mut course = Course::new(plan);
+    for &number in begun {
+        assert!(course.may_come(plan, number - 1), "what has begun could come");
+        course.come(plan, number - 1);
+    }
+    course
+}
+
+/// Every legal end of these entries, each of which may come after those before it. They are many: this
+/// is for small plans.
+pub fn all_legal_ends(plan: &[Line], begun: &[usize]) -> Vec<Vec<usize>> {
+    let plan = Plan::new(plan);
+    let mut course = begun_course(&plan, begun);
+    let mut ends = Vec::new();
+    gather(&plan, &mut course, &mut Vec::new(), &mut ends);
+    ends
+}
+
+/// Shows a beginning, in which each entry may come after those before it, for every set of lines that
+/// one can bring. How the rest goes hangs on the set alone.
+pub fn each_beginning(plan: &[Line], show: &mut dyn FnMut(&[usize])) {
+    let plan = Plan::new(plan);
+    let mut course = Course::new(&plan);
+    begin(&plan, &mut course, &mut Vec::new(), &mut HashSet::new(), show);
+}
+
+/// Shows those that go on from this one, and were not shown.
+fn begin(
+    plan: &Plan,
+    course: &mut Course,
+    begun: &mut Vec<usize>,
+    shown: &mut HashSet<Vec<bool>>,
+    show: &mut dyn FnMut(&[usize]),
+) {
+    if !shown.insert(course.done.clone()) {
+        return;
+    }
+    show(begun);
+    for at in 0..plan.lines.len() {
+        if course.may_come(plan, at) {
+            course.come(plan, at);
+            begun.push(at + 1);
+            begin(plan, course, begun, shown, show);
+            begun.pop();
+            course.go_back(plan, at);
+        }
+    }
+}
+
+/// Gathers the legal ends that begin so.
+fn gather(plan: &Plan, course: &mut Course, end: &mut Vec<usize>, ends: &mut Vec<Vec<usize>>) {
+    if !course.done.contains(&false) {
+        ends.push(end.clone());
+    }
+    for at in 0..plan.lines.len() {
+        if course.may_come(plan, at) {
+            course.come(plan, at);
+            end.push(at + 1);
+            gather(plan, course, end, ends);
+            end.pop();
+            course.go_back(plan, at);
+        }
+    }
 }

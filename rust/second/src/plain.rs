@@ -1,21 +1,27 @@
 //! The second reading: claims, rows, the verdict and the order handed out, in plain words.
 //!
 //! Reads, of document 01: "Claims and rows", "The order handed out", and of "Refusal numbers" the
-//! cases 9 and 10; of document 02: request 2, by which these speak of outermost takes alone. The
-//! move stands in `plain/moving.rs`, the entries with lent lists and what is printed in
-//! `plain/lent.rs`, the rows that are kept beside the table in `plain/kept.rs`; all are reached from
-//! here.
+//! cases 9 and 10; of document 02: request 2, by which these speak of outermost takes alone, and
+//! request 5, for plans with held lines. What these keep others from, and the stretches that are closed
+//! first, stand in `plain/closing.rs`, the move in `plain/moving.rs`, the entries with lent lists and
+//! what is printed in `plain/lent.rs`, the rows that are kept beside the table in `plain/kept.rs`; all
+//! are reached from here.
 //!
 //! It knows nothing of trying orders. The plans given as lines are well-formed; places count from
 //! nought inside and from 1 outside.
 
+mod closing;
 mod kept;
 mod lent;
 mod moving;
 
+pub use closing::{closing, hindrance, named, Closing, Hindrance, Segment};
 pub use kept::{build, concerned, move_kept, quick, Beside};
 pub use lent::{printed, read_into, screen, table_into, verdict_into, write_into, SCREEN};
-pub use moving::{edited, move_claim, stale, under, way};
+pub use lent::{
+    printed_by, read_into_by, screen_by, table_into_by, verdict_into_by, write_into_by,
+};
+pub use moving::{edited, move_claim, move_claim_by, stale, under, way};
 
 use crate::line::{Line, Refusal, Verb, DEVICES};
 use std::collections::BTreeMap;
@@ -56,8 +62,8 @@ pub fn successors(plan: &[Line], at: usize) -> Vec<usize> {
     after
 }
 
-/// For each take how often its job has taken the device before and not given it back; lines that are
-/// no takes have no number.
+/// For each take how often its job has taken the device before and not given it back, where to hold it
+/// from the beginning counts as once; lines that are no takes have no number.
 pub fn depths(plan: &[Line]) -> Vec<Option<usize>> {
     let mut job = 0;
     let mut open = [0; DEVICES as usize];
@@ -69,6 +75,10 @@ pub fn depths(plan: &[Line]) -> Vec<Option<usize>> {
             Verb::Take(device) => {
                 open[usize::from(device)] += 1;
                 Some(open[usize::from(device)] - 1)
+            }
+            Verb::Held(device) => {
+                open[usize::from(device)] += 1;
+                None
             }
             Verb::Give(device) => {
                 open[usize::from(device)] -= 1;
@@ -105,14 +115,15 @@ pub fn table(plan: &[Line]) -> Vec<u32> {
     sets
 }
 
-/// For each take the line of its give, whether it is an outermost one or not: a give is that of the
-/// take made last of those that wait for theirs. Other lines, and takes never given back, have none.
+/// For each take, whether it is an outermost one or not, and each held line, the line of its give: a
+/// give is that of what was taken or held last of those that wait for theirs. Other lines, and those of
+/// devices never given back, have none.
 pub fn gives(plan: &[Line]) -> Vec<Option<usize>> {
     let mut gives = vec![None; plan.len()];
     let mut waiting = Vec::new();
     for (at, line) in plan.iter().enumerate() {
         match line.verb {
-            Verb::Take(_) => waiting.push(at),
+            Verb::Take(_) | Verb::Held(_) => waiting.push(at),
             // What an earlier job never gives back stays at the bottom, where no give reaches.
             Verb::Give(_) => gives[waiting.pop().expect("a give has its take")] = Some(at),
             Verb::Do(_) | Verb::Start(_) => {}
@@ -184,10 +195,11 @@ pub struct Order {
     pub held: u32,
 }
 
-/// The devices held to the end, and those of them that have two lasting takes or more.
+/// The devices held to the end, and those of them that are so by two lines or more: lasting takes, and
+/// held lines without a give.
 pub fn held_to_end(plan: &[Line]) -> (u32, u32) {
     let (mut once, mut twice) = (0, 0);
-    for device in lasting(plan).into_iter().flatten() {
+    for device in lasting(plan).into_iter().chain(closing::kept(plan)).flatten() {
         twice |= once & only(device);
         once |= only(device);
     }
@@ -206,9 +218,14 @@ fn still_held(plan: &[Line], rows: &Rows) -> Result<u32, Refusal> {
     Ok(held.count_ones())
 }
 
-/// The verdict on a plan: its order, or refusal 9 or 10.
+/// The verdict on a plan: its order, or refusal 9 or 10. Where no device leads back to itself, 10 tells
+/// of what is held from the beginning, at the lowest such device.
 pub fn verdict(plan: &[Line]) -> Result<Order, Refusal> {
     let held = still_held(plan, &rows(plan))?;
+    if hindrance(plan).is_some() {
+        let device = lowest(named(plan)).expect("something is held that hinders");
+        return Err(Refusal::at(10, device));
+    }
     Ok(Order { lines: Course::run(plan).order, held })
 }
 
@@ -216,6 +233,20 @@ pub fn verdict(plan: &[Line]) -> Result<Order, Refusal> {
 /// lower device stands next too, but is blocked.
 pub fn passes_over(plan: &[Line]) -> bool {
     Course::run(plan).passed_over
+}
+
+/// The first step of each job that no line starts: job 1, and those that are running.
+fn standing_first(plan: &[Line]) -> BTreeMap<u8, usize> {
+    let mut standing = BTreeMap::new();
+    for (at, line) in plan.iter().enumerate().filter(|(_, line)| !line.is_held()) {
+        standing.entry(line.job).or_insert(at);
+    }
+    for line in plan {
+        if let Verb::Start(job) = line.verb {
+            standing.remove(&job);
+        }
+    }
+    standing
 }
 
 /// The order as far as it has been handed out.
@@ -232,19 +263,23 @@ struct Course<'a> {
 }
 
 impl<'a> Course<'a> {
-    /// Hands out the whole order. Where neither (a) nor (b) finds a line it ends short, and a
-    /// short order is no legal one: so a wrong verdict would come to light.
+    /// Hands out the whole order: what is under way is closed first, then come (a) and (b). Where
+    /// neither finds a line it ends short, and a short order is no legal one: so a wrong verdict would
+    /// come to light.
     fn run(plan: &'a [Line]) -> Course<'a> {
         let mut course = Course {
             plan,
             gives: gives(plan),
             outermost: outermost(plan),
             lasting: lasting(plan),
-            standing: plan.first().map(|line| (line.job, 0)).into_iter().collect(),
-            done: vec![false; plan.len()],
+            standing: standing_first(plan),
+            done: plan.iter().map(|line| line.is_held()).collect(),
             order: Vec::new(),
             passed_over: false,
         };
+        for line in closing(plan).segments.into_iter().flat_map(|segment| segment.lines) {
+            course.step(line);
+        }
         while course.go_on() || course.take_to_the_end() {}
         course
     }

@@ -67,9 +67,12 @@ pub(crate) enum Step {
     Give(u8),
     /// Starts the job with this place in the sketch.
     Start(usize),
+    /// Stands before all other steps of its job.
+    Held(u8),
 }
 
-/// Jobs without numbers. The one at place 0 is the first; every other is started once.
+/// Jobs without numbers. Each is started once or, in a resumed plan, running; in one of the morning
+/// the job at place 0 alone is not started.
 #[derive(Clone, Debug)]
 pub(crate) struct Sketch {
     pub(crate) jobs: Vec<Vec<Step>>,
@@ -80,7 +83,7 @@ impl Sketch {
     pub(crate) fn numbered(&self, random: &mut Random) -> Vec<Line> {
         let mut number = vec![0; self.jobs.len()];
         let mut sequence = Vec::new();
-        let mut open = vec![0];
+        let mut open = self.running();
         while !open.is_empty() {
             let job = open.swap_remove(random.below(open.len()));
             sequence.push(job);
@@ -99,10 +102,22 @@ impl Sketch {
                 Step::Take(device) => Verb::Take(device),
                 Step::Give(device) => Verb::Give(device),
                 Step::Start(started) => Verb::Start(number[started]),
+                Step::Held(device) => Verb::Held(device),
             },
         };
         let lines = |&job: &usize| self.jobs[job].iter().map(move |step| line(job, step));
         sequence.iter().flat_map(lines).collect()
+    }
+
+    /// The jobs that none starts.
+    fn running(&self) -> Vec<usize> {
+        let mut running = vec![true; self.jobs.len()];
+        for step in self.jobs.iter().flatten() {
+            if let Step::Start(started) = step {
+                running[*started] = false;
+            }
+        }
+        (0..self.jobs.len()).filter(|&job| running[job]).collect()
     }
 }
 
@@ -135,10 +150,22 @@ pub fn plan(random: &mut Random, wish: Wish) -> Vec<Line> {
     let starts = starts(random, wish);
     let lengths = lengths(random, wish, &starts);
     let devices = random.devices(wish.devices);
-    let mut maker = Maker { random, wish, devices, lasted: Vec::new(), floor: vec![0; wish.jobs] };
-    let jobs = (0..wish.jobs).map(|job| maker.job(job, lengths[job], &starts[job]));
+    let mut maker = Maker::new(random, wish, devices);
+    let holds = Holds::default();
+    let jobs = (0..wish.jobs).map(|job| maker.job(job, lengths[job], &starts[job], &holds));
     let sketch = Sketch { jobs: jobs.collect() };
     sketch.numbered(random)
+}
+
+/// What a running job holds from the beginning, and what it is not to take.
+#[derive(Clone, Debug, Default)]
+pub(crate) struct Holds {
+    /// The devices that it keeps to the end. Gives go backwards, so that these are the oldest.
+    pub(crate) kept: Vec<u8>,
+    /// The devices that it gives back, the oldest first.
+    pub(crate) open: Vec<u8>,
+    /// The devices that it is to keep clear of.
+    pub(crate) barred: Vec<u8>,
 }
 
 /// For each job those it starts. Where the lines wished for are too few, the jobs start one
@@ -167,12 +194,12 @@ fn lengths(random: &mut Random, wish: Wish, starts: &[Vec<usize>]) -> Vec<usize>
 }
 
 /// Makes the jobs of one plan, one after another.
-struct Maker<'a> {
-    random: &'a mut Random,
+pub(crate) struct Maker<'a> {
+    pub(crate) random: &'a mut Random,
     wish: Wish,
     devices: Vec<u8>,
-    /// The devices of lasting takes so far.
-    lasted: Vec<u8>,
+    /// The devices of lasting takes so far, and of what running jobs keep to the end.
+    pub(crate) lasted: Vec<u8>,
     /// For each job the first device (as a place in `devices`) that it may take, in a rising plan.
     floor: Vec<usize>,
 }
@@ -184,17 +211,32 @@ struct Making {
     open: Vec<u8>,
     /// Devices of this job's lasting takes.
     kept: Vec<u8>,
+    /// Devices that this job is to keep clear of.
+    barred: Vec<u8>,
     /// Jobs still to be started.
     starts: Vec<usize>,
     floor: usize,
 }
 
-impl Maker<'_> {
-    fn job(&mut self, job: usize, length: usize, starts: &[usize]) -> Vec<Step> {
+impl<'a> Maker<'a> {
+    /// Begins a plan over these devices.
+    pub(crate) fn new(random: &'a mut Random, wish: Wish, devices: Vec<u8>) -> Maker<'a> {
+        Maker { random, wish, devices, lasted: Vec::new(), floor: vec![0; wish.jobs] }
+    }
+
+    /// Makes a job of so many lines, those for what it holds among them.
+    pub(crate) fn job(
+        &mut self,
+        job: usize,
+        length: usize,
+        starts: &[usize],
+        holds: &Holds,
+    ) -> Vec<Step> {
         let mut making = Making {
-            steps: Vec::new(),
-            open: Vec::new(),
-            kept: Vec::new(),
+            steps: holds.kept.iter().chain(&holds.open).map(|&device| Step::Held(device)).collect(),
+            open: holds.open.clone(),
+            kept: holds.kept.clone(),
+            barred: holds.barred.clone(),
             starts: starts.to_vec(),
             floor: self.floor[job],
         };
@@ -261,7 +303,10 @@ impl Maker<'_> {
         let place = making.floor + self.random.below(count - making.floor);
         let device = self.devices[place];
         let held = making.open.contains(&device) || making.kept.contains(&device);
-        if held || (lasting && self.wish.single && self.lasted.contains(&device)) {
+        if held
+            || making.barred.contains(&device)
+            || (lasting && self.wish.single && self.lasted.contains(&device))
+        {
             return None;
         }
         if lasting {
@@ -397,7 +442,7 @@ fn plant_start(random: &mut Random, jobs: &mut [Vec<Step>], job: usize) {
 
 /// Scatters actions, and pairs of devices that nobody else takes. A device is used for one pair
 /// only, so that no pair comes to stand inside another of the same device.
-fn make_noise(random: &mut Random, jobs: &mut [Vec<Step>], devices: &[u8]) {
+pub(crate) fn make_noise(random: &mut Random, jobs: &mut [Vec<Step>], devices: &[u8]) {
     for &device in devices {
         let job = random.below(jobs.len());
         let place = random.below(jobs[job].len() + 1);
@@ -416,7 +461,11 @@ fn make_noise(random: &mut Random, jobs: &mut [Vec<Step>], devices: &[u8]) {
 /// any lines between that can be. The plan goes as it came where no job holds anything.
 pub fn take_again(random: &mut Random, plan: &[Line]) -> Vec<Line> {
     let open = open_takes(plan);
-    let places: Vec<usize> = (0..plan.len()).filter(|&at| !open[at].is_empty()).collect();
+    // Among held lines no take can stand.
+    let is_held =
+        |at: usize, job: u8| plan.get(at).is_some_and(|line| line.is_held() && line.job == job);
+    let may_follow = |at: &usize| !open[*at].is_empty() && !is_held(at + 1, plan[*at].job);
+    let places: Vec<usize> = (0..plan.len()).filter(may_follow).collect();
     let mut lines = plan.to_vec();
     if places.is_empty() {
         return lines;
@@ -432,17 +481,17 @@ pub fn take_again(random: &mut Random, plan: &[Line]) -> Vec<Line> {
         let give = Line { job, verb: Verb::Give(verb.operand()) };
         lines.insert(random.one_of(&ends) + 1, give);
     }
-    lines.insert(above + 1, Line { job, verb });
+    lines.insert(above + 1, Line { job, verb: Verb::Take(verb.operand()) });
     lines
 }
 
-/// After each line the takes of its job that are not given back, the one made last at the end.
+/// After each line the takes and held lines of its job that are not given back, the last at the end.
 fn open_takes(plan: &[Line]) -> Vec<Vec<usize>> {
     let mut open: Vec<usize> = Vec::new();
     let after = |(at, line): (usize, &Line)| {
         open.retain(|&take| plan[take].job == line.job);
         match line.verb {
-            Verb::Take(_) => open.push(at),
+            Verb::Take(_) | Verb::Held(_) => open.push(at),
             Verb::Give(_) => drop(open.pop()),
             Verb::Do(_) | Verb::Start(_) => {}
         }

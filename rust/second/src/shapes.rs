@@ -65,6 +65,10 @@ pub fn of_plan(plan: &[Line]) -> Vec<&'static str> {
                 under_lasting |= gives[outer[usize::from(device)]].is_none();
                 open.push(at);
             }
+            Verb::Held(device) => {
+                outer[usize::from(device)] = at;
+                open.push(at);
+            }
             Verb::Give(_) => drop(open.pop()),
             Verb::Start(_) => start_inside |= open.iter().any(|&take| depths[take] > Some(0)),
             Verb::Do(_) => {}

@@ -5,7 +5,8 @@
 //! small plan. The paragraphs concerned are "Legal orders" against "Claims and rows" and "The
 //! order handed out", and "Moving a claim" against working out the edited plan afresh; and, of
 //! document 02, request 1 against orders followed step by step, request 2 against plans that have
-//! actions where others take again, and request 4 against rows worked out from the stretches of takes.
+//! actions where others take again, request 4 against rows worked out from the stretches of takes, and
+//! request 5 against the gives that have to come before others.
 //!
 //! Prints its seed, the number of plans by class, and each check with its number of comparisons. A
 //! difference is printed with its plan and both answers. The seed is taken from the environment
@@ -19,6 +20,8 @@ mod judged;
 mod kept;
 #[path = "readings/lists.rs"]
 mod lists;
+#[path = "readings/midday.rs"]
+mod midday;
 #[path = "readings/moves.rs"]
 mod moves;
 
@@ -70,7 +73,8 @@ fn classes() -> impl Iterator<Item = (String, u64)> {
     let kept = kept::CLASSES.map(str::to_string);
     let some = CLASSES.map(str::to_string).into_iter().chain(plans).chain(moves);
     let some = some.chain(kept).chain([order]);
-    some.map(|class| (class, LEAST)).chain([(ALL_SMALL.to_string(), how_many(SMALL))])
+    let all_small = [(ALL_SMALL.to_string(), how_many(SMALL))];
+    some.map(|class| (class, LEAST)).chain(all_small).chain(midday::classes())
 }
 
 /// Counts the plan in its classes.
@@ -248,6 +252,7 @@ fn main() -> ExitCode {
         kept::kept(&mut tally, &mut random);
         kept::all_kept(&mut tally);
         judged::judged(&mut tally, &mut random);
+        midday::midday_plans(&mut tally, &mut random);
         print_small(&all_small(&mut tally));
         tally.print()
     })

@@ -1,29 +1,23 @@
 //! The second reading, the move of a claim.
 //!
 //! Reads, of document 01: "Moving a claim", and of "Refusal numbers" the cases 11 to 14; of document
-//! 02: request 2, which adds the lines under the moved take and asks the edited plan for nothing.
+//! 02: request 2, which adds the lines under the moved take and asks the edited plan for nothing, and
+//! request 5, by which a way may end in a running job and a held line stays where it is.
 
 use super::{gives, joined, lent::room, outermost};
-use crate::line::{pack, Line, Refusal, Verb, DEVICES};
-use crate::read::check_packed;
+use crate::line::{pack, Line, Refusal, Settings, Verb, DEVICES, MORNING};
+use crate::read::check_packed_by;
 
 /// The way of a line: the line, those above it in its job, the line that starts the job, those
-/// above that one in its job, and so on up to the first line of the plan. All places count from
-/// nought.
+/// above that one in its job, and so on up to the first line of a job that no line starts, which in the
+/// morning is the first line of the plan. All places count from nought.
 pub fn way(plan: &[Line], at: usize) -> Vec<usize> {
-    let mut way = vec![at];
-    let mut here = at;
-    while here > 0 {
-        here = match plan[here].job {
-            job if plan[here - 1].job == job => here - 1,
-            job => {
-                let start = plan.iter().position(|line| line.verb == Verb::Start(job));
-                start.expect("every job but the first is started")
-            }
-        };
-        way.push(here);
-    }
-    way
+    let before = |&here: &usize| {
+        let job = plan[here].job;
+        let above = here.checked_sub(1).filter(|&above| plan[above].job == job);
+        above.or_else(|| plan.iter().position(|line| line.verb == Verb::Start(job)))
+    };
+    std::iter::successors(Some(at), before).collect()
 }
 
 /// The lines under a take, going down: the further lines of its job as far as the give, which is not
@@ -42,15 +36,26 @@ pub fn stale(plan: &[Line], sets: &[u32]) -> Vec<bool> {
     (0..plan.len()).map(|at| sets[at] != joined(plan, &outermost, sets, at)).collect()
 }
 
-/// Gives the take that is line number `line`, and its give, another device, in the packed plan
-/// and in the table. The answer counts the lines that got another set.
+/// Moves a claim in a plan of the morning.
 pub fn move_claim(
     plan: &mut [u32],
     sets: &mut [u32],
     line: u32,
     device: u32,
 ) -> Result<u32, Refusal> {
-    let lines = check_packed(plan)?;
+    move_claim_by(MORNING, plan, sets, line, device)
+}
+
+/// Gives the take that is line number `line`, and its give, another device, in the packed plan
+/// and in the table. The answer counts the lines that got another set.
+pub fn move_claim_by(
+    settings: Settings,
+    plan: &mut [u32],
+    sets: &mut [u32],
+    line: u32,
+    device: u32,
+) -> Result<u32, Refusal> {
+    let lines = check_packed_by(settings, plan)?;
     room(sets.len(), lines.len())?;
     let at = take_asked(&lines, line)?;
     let device = device_asked(device)?;
@@ -79,7 +84,8 @@ fn rewrite(plan: &[Line], sets: &mut [u32], lines: impl Iterator<Item = usize>) 
     changed
 }
 
-/// The place of the line asked, if that line is a take. Any number may be asked.
+/// The place of the line asked, if that line is a take, which a held line is not. Any number may be
+/// asked.
 fn take_asked(plan: &[Line], line: u32) -> Result<usize, Refusal> {
     let refusal = Refusal::at(12, line);
     let at = (line as usize).checked_sub(1).ok_or(refusal)?;

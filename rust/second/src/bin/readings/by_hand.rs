@@ -2,7 +2,8 @@
 //! reading does not use: claims and refusal from what is bound to come later by the paragraph
 //! "Legal orders" of document 01 and from the closing sentence of "Claims and rows", the order
 //! by asking (a) and (b) of "The order handed out" anew of all that has been done so far. What
-//! request 2 of document 02 says of takes inside others goes by the stretches that takes hold.
+//! request 2 of document 02 says of takes inside others goes by the stretches that takes hold, and what
+//! request 5 says of held lines by the gives that have to come before others.
 
 use second::line::DEVICES;
 use second::{Line, Refusal, Verb};
@@ -23,14 +24,14 @@ pub fn bound_after(plan: &[Line], at: usize) -> Vec<bool> {
     bound
 }
 
-/// The line after a take up to which as many gives as takes have passed, which is its give; none
-/// where the job ends before.
+/// The line after a take or held line up to which as many gives as such lines have passed, which is its
+/// give; none where the job ends before.
 pub fn give_of(plan: &[Line], take: usize) -> Option<usize> {
     let mut open = 0;
     let mut of_job = (take..plan.len()).take_while(|&line| plan[line].job == plan[take].job);
     of_job.find(|&line| {
         match plan[line].verb {
-            Verb::Take(_) => open += 1,
+            Verb::Take(_) | Verb::Held(_) => open += 1,
             Verb::Give(_) => open -= 1,
             Verb::Do(_) | Verb::Start(_) => {}
         }
@@ -44,17 +45,36 @@ pub fn stretch(plan: &[Line], take: usize) -> Vec<usize> {
     (take + 1..end).filter(|&line| plan[line].job == plan[take].job).collect()
 }
 
-/// For each line the device it takes, if it stands in the stretch of no take of that device.
+/// For each line the device it takes, if it stands in no stretch in which its job has that device.
 pub fn outermost_takes(plan: &[Line]) -> Vec<Option<u8>> {
     let mut takes: Vec<Option<u8>> = plan.iter().map(|line| line.takes()).collect();
-    for outer in (0..plan.len()).filter(|&line| plan[line].takes().is_some()) {
+    let has = |line: usize| matches!(plan[line].verb, Verb::Take(_) | Verb::Held(_));
+    for outer in (0..plan.len()).filter(|&line| has(line)) {
+        let device = plan[outer].verb.operand();
         for inner in stretch(plan, outer) {
-            if plan[inner].verb == plan[outer].verb {
+            if plan[inner].verb == Verb::Take(device) {
                 takes[inner] = None;
             }
         }
     }
     takes
+}
+
+/// The held lines.
+fn held_lines(plan: &[Line]) -> impl Iterator<Item = usize> + '_ {
+    (0..plan.len()).filter(|&line| plan[line].is_held())
+}
+
+/// Closes a relation by steps over each of its members in turn.
+fn close(leads: &mut [Vec<bool>]) {
+    for over in 0..leads.len() {
+        let through = leads[over].clone();
+        for far in leads.iter_mut().filter(|far| far[over]) {
+            for (far, led) in far.iter_mut().zip(&through) {
+                *far |= led;
+            }
+        }
+    }
 }
 
 /// A plan, by hand.
@@ -84,10 +104,13 @@ impl ByHand<'_> {
     }
 
     /// The refusal of a verdict, worked out by other means: which device is bound to be taken after
-    /// which lasting one, closed by steps over each device in turn.
+    /// which lasting one, closed by steps over each device in turn; and last what is held.
     pub fn refusal(&self) -> Option<Refusal> {
         let mut times = [0; DEVICES as usize];
-        let mut leads = [[false; DEVICES as usize]; DEVICES as usize];
+        let mut leads = vec![vec![false; DEVICES as usize]; DEVICES as usize];
+        for at in held_lines(self.plan).filter(|&at| give_of(self.plan, at).is_none()) {
+            times[usize::from(self.plan[at].verb.operand())] += 1;
+        }
         for at in 0..self.plan.len() {
             let Some(from) = self.lasting(at).map(usize::from) else { continue };
             times[from] += 1;
@@ -99,23 +122,67 @@ impl ByHand<'_> {
             }
         }
         let devices = 0..DEVICES as usize;
-        for over in devices.clone() {
-            let through = leads[over];
-            for far in leads.iter_mut().filter(|far| far[over]) {
-                for (device, led) in through.iter().enumerate() {
-                    far[device] |= led;
-                }
-            }
-        }
+        close(&mut leads);
         let twice = devices.clone().find(|&device| times[device] > 1);
         let back = || devices.clone().find(|&device| leads[device][device]);
         let nine = twice.map(|device| Refusal::at(9, device));
-        nine.or_else(|| back().map(|device| Refusal::at(10, device)))
+        let ten = || back().or_else(|| self.held_in_the_way());
+        nine.or_else(|| ten().map(|device| Refusal::at(10, device)))
     }
 
-    /// The order by (a) and (b). It ends short where neither finds a line.
+    /// The lowest held device, where held lines leave no order: one is kept to the end that somebody is
+    /// to take, or the gives of two would each have to come before that of the other.
+    fn held_in_the_way(&self) -> Option<usize> {
+        let held: Vec<usize> = held_lines(self.plan).collect();
+        let gives: Vec<Option<usize>> = held.iter().map(|&at| give_of(self.plan, at)).collect();
+        let device = |of: usize| self.plan[held[of]].verb.operand();
+        let takes = |of: usize| {
+            (0..self.plan.len()).filter(move |&at| self.outermost[at] == Some(device(of)))
+        };
+        // What one wants before its give has to be given back by the other before that.
+        let after = |of: usize, other: usize| {
+            let Some(give) = gives[of] else { return false };
+            let wants = |at: usize| at < give && self.plan[at].job == self.plan[give].job;
+            self.plan[held[of]].job != self.plan[held[other]].job && takes(other).any(wants)
+        };
+        let all = 0..held.len();
+        let row = |of: usize| all.clone().map(|other| after(of, other)).collect();
+        let mut waits: Vec<Vec<bool>> = all.clone().map(row).collect();
+        close(&mut waits);
+        let kept_and_wanted = |of: usize| gives[of].is_none() && takes(of).next().is_some();
+        let in_the_way = all.clone().any(|of| waits[of][of] || kept_and_wanted(of));
+        in_the_way.then(|| all.map(|of| usize::from(device(of))).min()).flatten()
+    }
+
+    /// The first give of a held line that is still to come and up to which its job wants nothing that
+    /// another's held line has.
+    fn can_be_closed(&self, done: &[usize]) -> Option<usize> {
+        let is_open =
+            |held: usize| give_of(self.plan, held).is_none_or(|give| !done.contains(&give));
+        let has = |job: u8, device: u8| {
+            let of = |&held: &usize| self.plan[held].verb == Verb::Held(device);
+            held_lines(self.plan).filter(of).any(|held| self.plan[held].job != job && is_open(held))
+        };
+        let is_free = |give: usize| {
+            let job = self.plan[give].job;
+            let steps = (0..give).filter(|at| self.plan[*at].job == job && !done.contains(at));
+            steps.filter_map(|at| self.outermost[at]).all(|device| !has(job, device))
+        };
+        let gives = held_lines(self.plan).filter(|&held| is_open(held));
+        gives.filter_map(|held| give_of(self.plan, held)).filter(|&give| is_free(give)).min()
+    }
+
+    /// The order by (a) and (b), once what is under way is closed. It ends short where neither finds a
+    /// line.
     pub fn order(&self) -> Vec<u16> {
-        let mut done: Vec<usize> = Vec::new();
+        let held: Vec<usize> = held_lines(self.plan).collect();
+        let mut done = held.clone();
+        while let Some(give) = self.can_be_closed(&done) {
+            let job = self.plan[give].job;
+            let steps = (0..=give).filter(|at| self.plan[*at].job == job && !done.contains(at));
+            let steps: Vec<usize> = steps.collect();
+            done.extend(steps);
+        }
         while done.len() < self.plan.len() {
             let standing = standing(self.plan, &done);
             if let Some(&at) = standing.iter().find(|&&at| self.lasting(at).is_none()) {
@@ -133,7 +200,7 @@ impl ByHand<'_> {
                 None => break,
             }
         }
-        done.iter().map(|&at| at as u16 + 1).collect()
+        done[held.len()..].iter().map(|&at| at as u16 + 1).collect()
     }
 
     /// The last line of what is done at one go by (a).
@@ -145,9 +212,10 @@ impl ByHand<'_> {
     }
 }
 
-/// The next line of each started job that has one, lowest job first.
+/// The next line of each job that has one and is started or was running, lowest job first.
 fn standing(plan: &[Line], done: &[usize]) -> Vec<usize> {
-    let started = |job: u8| job == 1 || done.iter().any(|&at| plan[at].verb == Verb::Start(job));
+    let start = |job: u8| plan.iter().position(|line| line.verb == Verb::Start(job));
+    let started = |job: u8| start(job).is_none_or(|start| done.contains(&start));
     let undone = |job: u8| (0..plan.len()).find(|at| plan[*at].job == job && !done.contains(at));
     (1..=64).filter(|&job| started(job)).filter_map(undone).collect()
 }

@@ -1,13 +1,13 @@
 //! Comparisons of moves: each is worked out another way, and where the table was right before, it
 //! has to be that of the edited plan afterwards. The paragraphs are "Moving a claim" of document 01
-//! and request 2 of document 02.
+//! and requests 2 and 5 of document 02.
 
 use crate::by_hand::{bound_after, give_of, outermost_takes, stretch};
 use second::damage::stale_table;
-use second::line::{pack, DEVICES};
-use second::plain::{move_claim, table};
+use second::line::{pack, Settings, DEVICES, MORNING};
+use second::plain::{move_claim_by, table};
 use second::random::{plan, some_move, wish, Move, Random};
-use second::read::check_packed;
+use second::read::check_packed_by;
 use second::small::small_plans;
 use second::tally::Tally;
 use second::{shapes, Line, Refusal, Verb};
@@ -17,10 +17,18 @@ const SMALL: usize = 5;
 
 /// A move as the caller sees it: what is lent, and what is asked.
 #[derive(Clone)]
-struct Asked {
-    plan: Vec<u32>,
-    sets: Vec<u32>,
-    to: Move,
+pub struct Asked {
+    pub settings: Settings,
+    pub plan: Vec<u32>,
+    pub sets: Vec<u32>,
+    pub to: Move,
+}
+
+impl Asked {
+    /// The plan, which is well-formed.
+    fn lines(&self) -> Vec<Line> {
+        check_packed_by(self.settings, &self.plan).expect("the plan is well-formed")
+    }
 }
 
 /// The outcome of a move: the lists afterwards, and the answer.
@@ -72,7 +80,7 @@ fn move_by_hand(asked: &Asked) -> Outcome {
         let answer = Err(Refusal::at(number, place));
         (asked.plan.clone(), asked.sets.clone(), answer)
     };
-    let plan = check_packed(&asked.plan).expect("the plan is well-formed");
+    let plan = asked.lines();
     if asked.sets.len() < plan.len() {
         return refused(11, plan.len());
     }
@@ -108,26 +116,30 @@ fn sort_move(tally: &mut Tally, plan: &[Line], asked: &Asked, answer: Result<u32
 
 /// Compares one move. Where the table was that of the plan, it has to be that of the edited plan
 /// afterwards, worked out afresh. Carries the lists on to the next move.
-fn compare_move(tally: &mut Tally, asked: &mut Asked) {
-    let plan = check_packed(&asked.plan).expect("the plan is well-formed");
+pub fn compare_move(tally: &mut Tally, asked: &mut Asked) -> Result<u32, Refusal> {
+    let plan = asked.lines();
     let (before, wanted) = (asked.clone(), move_by_hand(asked));
-    let answer = move_claim(&mut asked.plan, &mut asked.sets, asked.to.line, asked.to.device);
-    sort_move(tally, &plan, &before, answer);
+    let Asked { settings, plan: packed, sets, to } = asked;
+    let answer = move_claim_by(*settings, packed, sets, to.line, to.device);
+    if *settings == MORNING {
+        sort_move(tally, &plan, &before, answer);
+    }
     let outcome = (asked.plan.clone(), asked.sets.clone(), answer);
     let name = "moves: answer, plan and table as worked out by hand";
     tally.compare(name, &plan, wanted, outcome);
-    let after = check_packed(&asked.plan);
+    let after = check_packed_by(asked.settings, &asked.plan);
     tally.compare("moves: the plan stays well-formed", &plan, true, after.is_ok());
     if let (Ok(after), true) = (after, before.sets.starts_with(&table(&plan))) {
         let name = "moves: the table afterwards is that of the plan, worked out afresh";
         let sets = asked.sets[..after.len()].to_vec();
         tally.compare(name, &plan, table(&after), sets);
     }
+    answer
 }
 
 /// A table of any sort: right, longer than the plan, too short, and with sets that are not what they
 /// should be, about the take that is to be moved or anywhere.
-fn some_table(random: &mut Random, plan: &[Line], to: Move) -> Vec<u32> {
+pub fn some_table(random: &mut Random, plan: &[Line], to: Move) -> Vec<u32> {
     let mut sets = table(plan);
     if random.once_in(3) {
         sets = stale_table(random, plan, to, &sets);
@@ -150,9 +162,9 @@ pub fn moves(tally: &mut Tally, random: &mut Random) {
         let plan = plan(random, wish);
         let to = some_move(random, &pack(&plan));
         let sets = some_table(random, &plan, to);
-        let mut asked = Asked { plan: pack(&plan), sets, to };
+        let mut asked = Asked { settings: MORNING, plan: pack(&plan), sets, to };
         for _ in 0..4 {
-            compare_move(tally, &mut asked);
+            let _ = compare_move(tally, &mut asked);
             asked.to = some_move(random, &asked.plan);
         }
     }
@@ -176,7 +188,8 @@ pub fn all_moves(tally: &mut Tally) {
         for sets in own_and_spoilt(table(plan)) {
             for at in 0..3 * plan.len() as u32 {
                 let to = Move { line: at / 3 + 1, device: at % 3 };
-                compare_move(tally, &mut Asked { plan: pack(plan), sets: sets.clone(), to });
+                let (settings, plan, sets) = (MORNING, pack(plan), sets.clone());
+                let _ = compare_move(tally, &mut Asked { settings, plan, sets, to });
             }
         }
     });
