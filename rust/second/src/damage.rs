@@ -13,7 +13,7 @@ use crate::read::write;
 pub fn damaged_text(random: &mut Random, text: &[u8]) -> Vec<u8> {
     let mut bytes = text.to_vec();
     let mut lines: Vec<&[u8]> = text.split_inclusive(|&byte| byte == b'\n').collect();
-    let byte = random.one_of(b"0123456789\t\n\r dotakegivestart\0");
+    let byte = random.one_of(b"0123456789\t\n\r dotakegivestartheld\0");
     let place = random.below(bytes.len() + 1);
     if bytes.len() == place {
         bytes.push(byte);

@@ -89,10 +89,8 @@ impl Outline {
         for &device in held.iter().take(midday.held) {
             let job = random.one_of(&running);
             let mut holds = self.holds[job].clone();
-            match random.below(100) < midday.kept {
-                true => holds.kept.push(device),
-                false => holds.open.push(device),
-            }
+            let is_kept = random.below(100) < midday.kept;
+            if is_kept { &mut holds.kept } else { &mut holds.open }.push(device);
             let before = std::mem::replace(&mut self.holds[job], holds);
             if self.least() > midday.wish.lines {
                 self.holds[job] = before;

@@ -26,7 +26,7 @@ mod midday;
 mod moves;
 
 use by_hand::ByHand;
-use second::line::{pack, LINES};
+use second::line::{pack, LINES, MIDDAY, MORNING};
 use second::plain::{passes_over, table, verdict, Order};
 use second::random::{deep_wish, plan, ring, share, take_again, wish, Cut, Random, Wish};
 use second::read::{check_packed, read, write};
@@ -245,8 +245,10 @@ fn main() -> ExitCode {
         random_plans(&mut tally, &mut random);
         rings(&mut tally, &mut random);
         large_plans(&mut tally, &mut random);
-        lists::damaged_texts(&mut tally, &mut random);
-        lists::lent_lists(&mut tally, &mut random);
+        for settings in [MORNING, MIDDAY] {
+            lists::damaged_texts(&mut tally, &mut random, settings);
+            lists::lent_lists(&mut tally, &mut random, settings);
+        }
         moves::moves(&mut tally, &mut random);
         moves::all_moves(&mut tally);
         kept::kept(&mut tally, &mut random);

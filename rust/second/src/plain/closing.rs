@@ -6,7 +6,7 @@
 
 use super::{gives, only, outermost};
 use crate::line::{Line, Verb, DEVICES};
-use std::collections::{BTreeMap, VecDeque};
+use std::collections::BTreeMap;
 use std::ops::Range;
 
 /// What a job has to do up to the next give of what it holds from the beginning, that give included.
@@ -71,31 +71,28 @@ pub fn hindrance(plan: &[Line]) -> Option<Hindrance> {
 /// Closes the stretches that are under way as far as that goes: always the segment of the lowest job
 /// whose segment can be done.
 pub fn closing(plan: &[Line]) -> Closing {
-    let mut waiting = waiting(plan);
-    let (outermost, mut keepers) = (outermost(plan), keepers(plan));
-    let mut closing = Closing { segments: Vec::new(), is_through: true, passed_over: false };
-    while !waiting.is_empty() {
-        let can_be_done = |segments: &VecDeque<Segment>| {
-            let Segment { job, lines } = &segments[0];
-            let mut takes = outermost[lines.clone()].iter().flatten();
-            takes.all(|&device| keepers[usize::from(device)].is_none_or(|keeper| keeper == *job))
-        };
-        let Some(place) = waiting.values().position(can_be_done) else {
-            closing.is_through = false;
-            break;
-        };
+    let (outermost, mut keepers, mut waiting) = (outermost(plan), keepers(plan), waiting(plan));
+    let can_be_done = |keepers: &Keepers, Segment { job, lines }: &Segment| {
+        let mut takes = outermost[lines.clone()].iter().flatten();
+        takes.all(|&device| keepers[usize::from(device)].is_none_or(|keeper| keeper == *job))
+    };
+    let mut closing = Closing { segments: Vec::new(), is_through: false, passed_over: false };
+    while let Some(place) = waiting.iter().position(|next| can_be_done(&keepers, &next[0])) {
+        let done = waiting[place].remove(0);
+        waiting.retain(|segments| !segments.is_empty());
         closing.passed_over |= place > 0;
-        let mut entry = waiting.iter_mut().nth(place).map(|(_, segments)| segments);
-        let done = entry.as_mut().and_then(|segments| segments.pop_front()).expect("one waits");
         keepers[usize::from(plan[done.lines.end - 1].verb.operand())] = None;
         closing.segments.push(done);
-        waiting.retain(|_, segments| !segments.is_empty());
     }
+    closing.is_through = waiting.is_empty();
     closing
 }
 
 /// For each device the job whose held line keeps it.
-fn keepers(plan: &[Line]) -> [Option<u8>; DEVICES as usize] {
+type Keepers = [Option<u8>; DEVICES as usize];
+
+/// The keepers before the first step.
+fn keepers(plan: &[Line]) -> Keepers {
     let mut keepers = [None; DEVICES as usize];
     for line in plan {
         if let Some(device) = held(line) {
@@ -105,21 +102,20 @@ fn keepers(plan: &[Line]) -> [Option<u8>; DEVICES as usize] {
     keepers
 }
 
-/// The segments of each job that has some, the next one first: they end at the gives of its held lines,
-/// and the first begins behind these lines.
-fn waiting(plan: &[Line]) -> BTreeMap<u8, VecDeque<Segment>> {
-    let gives = gives(plan);
-    let mut ends: Vec<usize> = Vec::new();
-    ends.extend((0..plan.len()).filter(|&at| plan[at].is_held()).filter_map(|at| gives[at]));
+/// The segments of each job that has some, lowest job first and in each the next one first: they end at
+/// the gives of its held lines, and the first begins behind these lines.
+fn waiting(plan: &[Line]) -> Vec<Vec<Segment>> {
+    let held = plan.iter().zip(gives(plan)).filter(|(line, _)| line.is_held());
+    let mut ends: Vec<usize> = held.filter_map(|(_, give)| give).collect();
     ends.sort_unstable();
-    let mut waiting: BTreeMap<u8, VecDeque<Segment>> = BTreeMap::new();
+    let mut waiting: BTreeMap<u8, Vec<Segment>> = BTreeMap::new();
     for end in ends {
         let job = plan[end].job;
         let segments = waiting.entry(job).or_default();
         let first_step = || plan.iter().position(|line| line.job == job && !line.is_held());
-        let begin = segments.back().map(|before| before.lines.end).or_else(first_step);
-        let begin = begin.expect("the give is a step");
-        segments.push_back(Segment { job, lines: begin..end + 1 });
+        let begin = segments.last().map(|before| before.lines.end).or_else(first_step);
+        let lines = begin.expect("the give is a step")..end + 1;
+        segments.push(Segment { job, lines });
     }
-    waiting
+    waiting.into_values().collect()
 }
