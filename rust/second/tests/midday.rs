@@ -100,6 +100,20 @@ fn the_hand_cases_are_what_they_are_for() {
 }
 
 #[test]
+fn segments_go_by_the_lowest_job_that_can_and_before_all_else() {
+    // Both can be done: the lower job goes first.
+    accepted("1 held 0; 1 give 0; 2 held 1; 2 give 1", &[2, 4], 0);
+    // After each it is asked again from the lowest job on.
+    let short = "1 held 0; 1 take 1; 1 give 1; 1 give 0; 2 held 1; 2 give 1; 3 held 2; 3 give 2";
+    accepted(short, &[6, 2, 3, 4, 8], 0);
+    // What is under way is closed before a lower job goes on, and one job's segments follow each other.
+    accepted("1 do 7; 2 held 0; 2 do 8; 2 give 0; 2 do 9", &[3, 4, 1, 5], 0);
+    accepted("1 held 0; 1 held 1; 1 give 1; 1 give 0; 2 held 2; 2 give 2", &[3, 4, 6], 0);
+    // A job that a segment starts waits until all are closed, and what is taken for good comes last.
+    accepted("1 held 0; 1 start 2; 1 give 0; 2 take 0; 3 held 1; 3 give 1", &[2, 3, 6, 4], 1);
+}
+
+#[test]
 fn the_tables_have_what_follows_a_held_line() {
     assert_eq!(table(&plan(HELD_AGAIN)), [0, 0, 0, 0, 1, 0]);
     assert_eq!(table(&plan(MOVED)), [1, 0, 2, 2, 0]);
@@ -213,6 +227,19 @@ fn all_small_plans_are_accepted_exactly_if_some_order_is_legal() {
             assert_eq!(judge_by(MIDDAY, &pack(plan), &order.lines), Ok(()), "{plan:?}");
         }
     });
+}
+
+#[test]
+fn it_takes_eight_lines_to_be_stuck() {
+    // Two jobs at least, each of which holds, takes, gives and gives.
+    let mut random = Random::new(50);
+    for _ in 0..10_000 {
+        let midday = midday(&mut random, 7, 4, 3);
+        let plan = resumed::plan(&mut random, midday);
+        assert_ne!(hindrance(&plan), Some(Hindrance::Stuck), "{plan:?}");
+    }
+    small_resumed(5, &mut |plan| assert_ne!(hindrance(plan), Some(Hindrance::Stuck), "{plan:?}"));
+    assert_eq!(plan(CROSSED).len(), 8);
 }
 
 #[test]
