@@ -103,6 +103,11 @@ unfolding _holds_ _takes_ _gives_
 givesFirst =
     1 holds 5 ∷ 1 takes 3 ∷ 1 gives 3 ∷ 1 gives 5 ∷ 2 holds 3 ∷ 2 gives 3 ∷ 2 takes 5 ∷ 2 gives 5 ∷ []
 
+-- Both segments can be done, and the lower job's goes first.
+pub lowestFirst : List ℕ
+unfolding _holds_ _gives_
+lowestFirst = 1 holds 0 ∷ 1 gives 0 ∷ 2 holds 1 ∷ 2 gives 1 ∷ []
+
 -- Job 1 holds 4 to the end, and line 5 takes it for a while: no order is legal. All stretches that have a give can be
 -- closed, so the kept device alone is why. 10 comes with the lowest device that is held, which is 2.
 pub takenElsewhere : List ℕ
@@ -164,6 +169,7 @@ startedMove d = 1 takes 0 ∷ 1 gives 0 ∷ 2 holds 3 ∷ 2 starts 3 ∷ 3 takes
 pub record Verdicts : Type 0 where
   pub is-crossed : verdictOn crossed ≡ refused 10 3 crossed
   pub gives-first : verdictOn givesFirst ≡ accepted 0 (6 ∷ 2 ∷ 3 ∷ 4 ∷ 7 ∷ 8 ∷ [])
+  pub lowest-first : verdictOn lowestFirst ≡ accepted 0 (2 ∷ 4 ∷ [])
   pub goes-between : verdictOn between ≡ accepted 0 (3 ∷ 8 ∷ 9 ∷ 10 ∷ 4 ∷ 5 ∷ 6 ∷ [])
   pub is-running : verdictOn running ≡ accepted 1 (1 ∷ 3 ∷ [])
   pub held-again : verdictOn heldAgain ≡ accepted 0 (2 ∷ 3 ∷ 4 ∷ 5 ∷ 6 ∷ [])
@@ -172,11 +178,12 @@ pub record Verdicts : Type 0 where
   pub room : roomFor 6 givesFirst ≡ 0 ∷ 0 ∷ []
 
 pub verdicts : Verdicts
-unfolding verdictOn roomFor refused lent accepted crossed givesFirst between running heldAgain
+unfolding verdictOn roomFor refused lent accepted crossed givesFirst lowestFirst between running heldAgain
 verdicts =
     record {
       is-crossed = refl;
       gives-first = refl;
+      lowest-first = refl;
       goes-between = refl;
       is-running = refl;
       held-again = refl;

@@ -232,7 +232,7 @@ fn steps(run: &mut Run, lines: &[Line]) {
     run.tally.compare("steps: one by one", lines, steps, by_line);
     let devices = lines.iter().map(|line| match line.verb {
         Verb::Take(device) | Verb::Give(device) => Some(device),
-        Verb::Do(_) | Verb::Start(_) => None,
+        Verb::Do(_) | Verb::Start(_) | Verb::Held(_) => None,
     });
     let said = plan.steps().map(Step::device).collect();
     run.tally.compare("steps: the device of each", lines, devices.collect::<Vec<_>>(), said);
