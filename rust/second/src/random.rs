@@ -334,6 +334,19 @@ pub fn wish(random: &mut Random, most_lines: usize, most_jobs: usize, devices: u
     }
 }
 
+/// A wish for a plan up to the limits, which mostly has an order.
+pub fn large_wish(random: &mut Random) -> Wish {
+    Wish {
+        lines: 500 + random.below(LINES - 499),
+        jobs: 1 + random.below(64),
+        devices: 1 + random.below(32),
+        single: !random.once_in(8),
+        rising: !random.once_in(8),
+        lasting: 2 + random.below(8),
+        again: share(random),
+    }
+}
+
 /// How many of a hundred takes, where the job holds something, are to be of what it holds: none in a
 /// quarter of all plans, and so that of all takes it comes to about a fifth.
 pub fn share(random: &mut Random) -> usize {

@@ -5,8 +5,8 @@
 //! "Rules of a well-formed plan". What a ring is for is told by the segments of request 5: it takes eight
 //! lines at least until the stretches under way cannot be closed.
 
-use crate::line::{Line, Verb, LINES};
-use crate::random::{make_noise, share, wish, Cut, Holds, Maker, Random, Sketch, Step, Wish};
+use crate::line::{Line, Verb};
+use crate::random::{large_wish, make_noise, wish, Cut, Holds, Maker, Random, Sketch, Step, Wish};
 
 /// What a random resumed plan is to be like.
 #[derive(Clone, Copy, Debug)]
@@ -138,15 +138,7 @@ pub fn midday(random: &mut Random, lines: usize, jobs: usize, devices: usize) ->
 
 /// A wish for a plan up to the limits, which mostly has an order.
 pub fn large_midday(random: &mut Random) -> Midday {
-    let wish = Wish {
-        lines: 500 + random.below(LINES - 499),
-        jobs: 1 + random.below(64),
-        devices: 1 + random.below(32),
-        single: !random.once_in(8),
-        rising: !random.once_in(8),
-        lasting: 2 + random.below(8),
-        again: share(random),
-    };
+    let wish = large_wish(random);
     Midday {
         wish,
         running: random.one_of(&[0, 30, 80, 100]),

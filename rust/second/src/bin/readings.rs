@@ -26,9 +26,9 @@ mod midday;
 mod moves;
 
 use by_hand::ByHand;
-use second::line::{pack, LINES, MIDDAY, MORNING};
+use second::line::{pack, MIDDAY, MORNING};
 use second::plain::{passes_over, table, verdict, Order};
-use second::random::{deep_wish, plan, ring, share, take_again, wish, Cut, Random, Wish};
+use second::random::{deep_wish, large_wish, plan, ring, take_again, wish, Cut, Random};
 use second::read::{check_packed, read, write};
 use second::shapes::{self, takes_again};
 use second::small::{how_many, small_plans};
@@ -193,15 +193,7 @@ fn rings(tally: &mut Tally, random: &mut Random) {
 /// Plans up to the limits. Trying all orders is out of the question for them; the rest is not.
 fn large_plans(tally: &mut Tally, random: &mut Random) {
     for _ in 0..500 {
-        let wish = Wish {
-            lines: 500 + random.below(LINES - 499),
-            jobs: 1 + random.below(64),
-            devices: 1 + random.below(32),
-            single: !random.once_in(8),
-            rising: !random.once_in(8),
-            lasting: 2 + random.below(8),
-            again: share(random),
-        };
+        let wish = large_wish(random);
         large_plan(tally, "large plans", &plan(random, wish));
     }
     for _ in 0..400 {
