@@ -1,13 +1,12 @@
 /*
  * A screen in C: shows a plan with its lines, its order and its claims, judges an order of another's making, moves a
- * claim with a quick verdict before and after, and then moves it once more by the table alone. A resumed plan, one that
- * is taken up at midday, is shown by the entries for such plans.
+ * claim with a quick verdict before and after, and then moves it once more by the table alone.
  *
  *   example [FILE [LINE DEVICE]]
  *
- * The plan is the text in FILE; without one the two below are shown, one of the morning and one of midday. The claim of
- * LINE moves to DEVICE, line 5 to device 2 if not told. The exit status is 0 if nothing was refused, 1 if something
- * was, and 2 if the use is wrong, the file cannot be read or the output cannot be written.
+ * The plan is the text in FILE, or the one below. The claim of LINE moves to DEVICE, line 5 to device 2 if not told.
+ * The exit status is 0 if nothing was refused, 1 if something was, and 2 if the use is wrong, the file cannot be read
+ * or the output cannot be written.
  */
 #include "gimmerskip.h"
 
@@ -24,31 +23,6 @@ static const char PLAN[] = "1\tstart\t2\n"
                            "2\ttake\t1\n"
                            "2\tgive\t1\n";
 
-/* Job 1 is in a stretch with device 0 and wants device 1, which job 2 has to give back before: its give comes first. */
-static const char RESUMED[] = "1\theld\t0\n"
-                              "1\ttake\t1\n"
-                              "1\tgive\t1\n"
-                              "1\tgive\t0\n"
-                              "2\theld\t1\n"
-                              "2\tgive\t1\n"
-                              "2\ttake\t0\n";
-
-/* The entries for plans of the morning, and their siblings for resumed plans. */
-struct entries {
-    size_t (*screen)(const uint8_t *, size_t, uint8_t *, size_t);
-    uint64_t (*read)(const uint8_t *, size_t, uint32_t *, size_t);
-    uint64_t (*write)(const uint32_t *, size_t, uint8_t *, size_t);
-    uint64_t (*table)(const uint32_t *, size_t, uint32_t *, size_t);
-    uint64_t (*verdict)(const uint32_t *, size_t, uint16_t *, size_t);
-    uint64_t (*judge)(const uint32_t *, size_t, const uint16_t *, size_t);
-    uint64_t (*move)(uint32_t *, size_t, uint32_t *, size_t, uint32_t, uint32_t);
-};
-static const struct entries MORNING = {gimmerskip_order,   gimmerskip_read,  gimmerskip_write, gimmerskip_table,
-                                       gimmerskip_verdict, gimmerskip_judge, gimmerskip_move};
-static const struct entries MIDDAY = {gimmerskip_resume,         gimmerskip_resume_read,    gimmerskip_resume_write,
-                                      gimmerskip_resume_table,   gimmerskip_resume_verdict, gimmerskip_resume_judge,
-                                      gimmerskip_resume_move};
-
 /* The verbs, by their kinds. */
 static const char *const VERBS[] = {"do", "take", "give", "start"};
 
@@ -62,14 +36,12 @@ static const char *const WORDS[][2] = {
     [GIMMERSKIP_NEVER_STARTED] = {"line ", " begins a job that no line starts"},
     [GIMMERSKIP_GIVE_WITHOUT_TAKE] = {"line ", " gives a device that is not the latest its job still holds"},
     [GIMMERSKIP_TWO_LASTING] = {"two jobs would hold device ", " to the end"},
-    [GIMMERSKIP_LEADS_BACK] = {"device ", " leads back to itself, or is the lowest of those held that leave no order"},
+    [GIMMERSKIP_LEADS_BACK] = {"device ", " leads back to itself"},
     [GIMMERSKIP_LIST_TOO_SHORT] = {"a list is too short, it needs a length of ", ""},
     [GIMMERSKIP_NOT_A_TAKE] = {"line ", " is no take of the plan"},
     [GIMMERSKIP_NO_SUCH_DEVICE] = {"there is no device ", ""},
     [GIMMERSKIP_STALE_TABLE] = {"line ", " has a stale set in the table"},
     [GIMMERSKIP_ILLEGAL_STEP] = {"entry ", " of the order is no legal next step, or the order stops before it"},
-    [GIMMERSKIP_HELD_TWICE] = {"line ", " holds a device that an earlier line holds already"},
-    [GIMMERSKIP_HELD_LATE] = {"line ", " is a held line behind another verb, or in a job that a line starts"},
 };
 
 /* Says what was refused and why, if the answer is a refusal. Only an answer that is none is a count. */
@@ -105,9 +77,9 @@ static void show_sets(const uint32_t *sets, size_t lines) {
 }
 
 /* The outcome as the screens get it, byte for byte. It is never of no bytes, since the room is as large as is asked. */
-static int show_screen(const struct entries *by, const uint8_t *text, size_t n) {
+static int show_screen(const uint8_t *text, size_t n) {
     uint8_t out[GIMMERSKIP_SCREEN_ROOM];
-    size_t count = by->screen(text, n, out, sizeof out);
+    size_t count = gimmerskip_order(text, n, out, sizeof out);
     if (count == 0 || count > sizeof out)
         return 1;
     printf("screen, %zu bytes:\n", count);
@@ -129,41 +101,27 @@ static int show_lines(const uint8_t *text, size_t n) {
     return refused("line", line);
 }
 
-/* Whether a packed line is a held one: such a line is no step. */
-static int is_held(uint32_t line) {
-    return line / 256 % 4 == 1 && line % 256 >= GIMMERSKIP_HELD;
-}
-
-/* The numbers of the steps just as they stand; answers how many there are. */
-static size_t as_they_stand(const uint32_t *plan, size_t lines, uint16_t *order) {
-    size_t steps = 0;
-    for (size_t i = 0; i < lines; i++)
-        if (!is_held(plan[i]))
-            order[steps++] = (uint16_t)(i + 1);
-    return steps;
-}
-
 /* The order through the port. */
-static int show_order(const struct entries *by, const uint32_t *plan, size_t lines) {
+static int show_order(const uint32_t *plan, size_t lines) {
     uint16_t order[GIMMERSKIP_MAX_LINES];
-    size_t steps = as_they_stand(plan, lines, order);
-    uint64_t held = by->verdict(plan, lines, order, GIMMERSKIP_MAX_LINES);
+    uint64_t held = gimmerskip_verdict(plan, lines, order, GIMMERSKIP_MAX_LINES);
     if (refused("verdict", held))
         return 1;
     printf("verdict: order");
-    for (size_t i = 0; i < steps; i++)
+    for (size_t i = 0; i < lines; i++)
         printf(" %u", (unsigned)order[i]);
     printf("; %u held\n", (unsigned)held);
-    return refused("judge", by->judge(plan, lines, order, steps));
+    return refused("judge", gimmerskip_judge(plan, lines, order, lines));
 }
 
-/* An order from elsewhere: whoever does the steps just as they stand comes so far. */
-static int show_judge(const struct entries *by, const uint32_t *plan, size_t lines) {
+/* An order from elsewhere: whoever does the lines just as they stand comes so far. */
+static int show_judge(const uint32_t *plan, size_t lines) {
     uint16_t order[GIMMERSKIP_MAX_LINES];
-    size_t steps = as_they_stand(plan, lines, order);
-    uint64_t answer = by->judge(plan, lines, order, steps);
-    if (gimmerskip_number(answer) == GIMMERSKIP_ILLEGAL_STEP && gimmerskip_place(answer) <= steps) {
-        printf("judge: as they stand, line %u is no legal next step\n", (unsigned)order[gimmerskip_place(answer) - 1]);
+    for (size_t i = 0; i < lines; i++)
+        order[i] = (uint16_t)(i + 1);
+    uint64_t answer = gimmerskip_judge(plan, lines, order, lines);
+    if (gimmerskip_number(answer) == GIMMERSKIP_ILLEGAL_STEP) {
+        printf("judge: as they stand, line %u is no legal next step\n", (unsigned)gimmerskip_place(answer));
         return 0;
     }
     if (refused("judge", answer))
@@ -214,9 +172,9 @@ static int show_kept(const uint32_t *before, size_t lines, uint32_t line, uint32
 }
 
 /* The plan as text. */
-static int show_text(const struct entries *by, const uint32_t *plan, size_t lines) {
+static int show_text(const uint32_t *plan, size_t lines) {
     uint8_t text[GIMMERSKIP_MAX_BYTES];
-    uint64_t bytes = by->write(plan, lines, text, sizeof text);
+    uint64_t bytes = gimmerskip_write(plan, lines, text, sizeof text);
     if (refused("write", bytes))
         return 1;
     printf("write, %u bytes:\n", (unsigned)bytes);
@@ -224,37 +182,33 @@ static int show_text(const struct entries *by, const uint32_t *plan, size_t line
 }
 
 /* Moves the claim of a line by the table alone, and shows the plan and the table that this leaves. */
-static int show_move(const struct entries *by, uint32_t *plan, uint32_t *sets, size_t lines, uint32_t line,
-                     uint32_t device) {
-    uint64_t changed = by->move(plan, lines, sets, lines, line, device);
+static int show_move(uint32_t *plan, uint32_t *sets, size_t lines, uint32_t line, uint32_t device) {
+    uint64_t changed = gimmerskip_move(plan, lines, sets, lines, line, device);
     if (refused("move", changed))
         return 1;
     printf("move: line %u to device %u, %u sets changed\n", (unsigned)line, (unsigned)device, (unsigned)changed);
     show_sets(sets, lines);
-    return show_text(by, plan, lines);
+    return show_text(plan, lines);
 }
 
-/* The whole show; answers 1 if anything was refused. A text that cannot be read has nothing further to show. Lines one
-   by one and kept rows are for plans of the morning. */
-static int show(const struct entries *by, const uint8_t *text, size_t n, uint32_t line, uint32_t device) {
+/* The whole show; answers 1 if anything was refused. A text that cannot be read has nothing further to show. */
+static int show(const uint8_t *text, size_t n, uint32_t line, uint32_t device) {
     uint32_t plan[GIMMERSKIP_MAX_LINES];
     uint32_t sets[GIMMERSKIP_MAX_LINES];
-    int status = show_screen(by, text, n);
-    if (by == &MORNING)
-        status |= show_lines(text, n);
-    uint64_t lines = by->read(text, n, plan, GIMMERSKIP_MAX_LINES);
+    int status = show_screen(text, n);
+    status |= show_lines(text, n);
+    uint64_t lines = gimmerskip_read(text, n, plan, GIMMERSKIP_MAX_LINES);
     if (refused("read", lines))
         return 1;
     printf("read: %u lines\n", (unsigned)lines);
-    if (refused("table", by->table(plan, (size_t)lines, sets, GIMMERSKIP_MAX_LINES)))
+    if (refused("table", gimmerskip_table(plan, (size_t)lines, sets, GIMMERSKIP_MAX_LINES)))
         return 1;
     printf("table:\n");
     show_sets(sets, (size_t)lines);
-    status |= show_order(by, plan, (size_t)lines);
-    status |= show_judge(by, plan, (size_t)lines);
-    if (by == &MORNING)
-        status |= show_kept(plan, (size_t)lines, line, device);
-    return status | show_move(by, plan, sets, (size_t)lines, line, device);
+    status |= show_order(plan, (size_t)lines);
+    status |= show_judge(plan, (size_t)lines);
+    status |= show_kept(plan, (size_t)lines, line, device);
+    return status | show_move(plan, sets, (size_t)lines, line, device);
 }
 
 /* Reads a file into a buffer, as far as there is room; answers whether that went well. */
@@ -296,9 +250,7 @@ int main(int argc, char **argv) {
         perror(argv[1]);
         return 2;
     }
-    int status = show(&MORNING, text, n, line, device);
-    if (argc == 1)
-        status |= show(&MIDDAY, (const uint8_t *)RESUMED, sizeof RESUMED - 1, 7, 1);
+    int status = show(text, n, line, device);
     /* Whatever could not be written is known by now, or when the rest is written out. */
     if (ferror(stdout) || fflush(stdout) != 0) {
         fprintf(stderr, "example: the output cannot be written\n");

@@ -1,15 +1,13 @@
 /*
  * Gimmerskip for C and C++: plans as text or as packed numbers, their tables of claims, their orders, orders from
- * elsewhere, and moved claims, with rows kept for a quick verdict after each move; and the same for resumed plans,
- * which are taken up at midday.
+ * elsewhere, and moved claims, with rows kept for a quick verdict after each move.
  *
- * The archives are for x86-64 Linux, with the calls of the System V ABI. Link libscreen.a for gimmerskip_order and
- * gimmerskip_resume, libreader.a for gimmerskip_line and libport.a for the other fifteen; each stands by itself. The
- * commands `rt staticlib screen`, `rt staticlib reader` and `rt staticlib port` leave them in target/staticlib, and
- * `install-archives PREFIX` puts them with this header and a file for pkg-config under a prefix. Of other libraries
- * they need `memcpy` and `memset` alone, and the only names they define for others are those declared here. No entry
- * keeps anything of what it is lent, and none has a memory of its own, so that calls on several threads meet only in
- * what they are lent.
+ * The archives are for x86-64 Linux, with the calls of the System V ABI. Link libscreen.a for gimmerskip_order,
+ * libreader.a for gimmerskip_line and libport.a for the other nine; each stands by itself. The commands `rt staticlib
+ * screen`, `rt staticlib reader` and `rt staticlib port` leave them in target/staticlib, and `install-archives PREFIX`
+ * puts them with this header and a file for pkg-config under a prefix. Of other libraries they need `memcpy` and
+ * `memset` alone, and the only names they define for others are those declared here. No entry keeps anything of what it
+ * is lent, and none has a memory of its own, so that calls on several threads meet only in what they are lent.
  *
  * A lent list is a pointer and then its length, counted in entries of the list's type.
  *   - A pointer is never null, not even where the length is 0: then it points at anything that is there.
@@ -21,8 +19,7 @@
  *   - A list that is filled may be longer than needed; what lies past the last entry written stays as it was.
  *
  * Lines and jobs count from 1, devices from 0. A packed line is job * 1024 + kind * 256 + operand, its kind being 0 for
- * do, 1 for take, 2 for give and 3 for start; a held line, which resumed plans alone can have, has kind 1 and operand
- * 128 + device. A set of devices is 32 bits, device d being bit d.
+ * do, 1 for take, 2 for give and 3 for start. A set of devices is 32 bits, device d being bit d.
  */
 #ifndef GIMMERSKIP_H
 #define GIMMERSKIP_H
@@ -37,24 +34,22 @@ extern "C" {
 /*
  * The version, in three numbers and as a text; it is that of the wrapper for Rust and of the command too. A new entry
  * or refusal raises the second number, and so does what an entry answers otherwise than before: gimmerskip_judge came
- * with 0.2.0, since 0.3.0 a job may take again what it holds, gimmerskip_build, gimmerskip_move_kept and
- * gimmerskip_quick came with 0.4.0, and the entries for resumed plans with 0.5.0.
+ * with 0.2.0, since 0.3.0 a job may take again what it holds, and gimmerskip_build, gimmerskip_move_kept and
+ * gimmerskip_quick came with 0.4.0.
  */
 #define GIMMERSKIP_VERSION_MAJOR 0
-#define GIMMERSKIP_VERSION_MINOR 5
+#define GIMMERSKIP_VERSION_MINOR 4
 #define GIMMERSKIP_VERSION_PATCH 0
-#define GIMMERSKIP_VERSION "0.5.0"
+#define GIMMERSKIP_VERSION "0.4.0"
 
 /* The most lines of a plan. Lists of so many entries are long enough for every plan. */
 #define GIMMERSKIP_MAX_LINES 1024
 /* The most bytes of a text. A buffer of so many bytes is long enough for every plan that is written. */
 #define GIMMERSKIP_MAX_BYTES 12288
-/* The least room that gimmerskip_order and gimmerskip_resume ask for: the longest print there is. */
+/* The least room that gimmerskip_order asks for: the longest print there is. */
 #define GIMMERSKIP_SCREEN_ROOM 4027
 /* The rows that are kept beside a table: one set for each device. */
 #define GIMMERSKIP_ROWS 32
-/* What the operand of a packed held line has beside the device. */
-#define GIMMERSKIP_HELD 128
 
 /*
  * The bytes of stack that are enough for each entry, its return address counted. What the compiled code can need at
@@ -76,18 +71,9 @@ extern "C" {
 #define GIMMERSKIP_STACK_BUILD 9536
 #define GIMMERSKIP_STACK_MOVE_KEPT 11184
 #define GIMMERSKIP_STACK_QUICK 7600
-#define GIMMERSKIP_STACK_RESUME 19024
-#define GIMMERSKIP_STACK_RESUME_READ 11440
-#define GIMMERSKIP_STACK_RESUME_WRITE 19616
-#define GIMMERSKIP_STACK_RESUME_TABLE 8352
-#define GIMMERSKIP_STACK_RESUME_VERDICT 9840
-#define GIMMERSKIP_STACK_RESUME_JUDGE 9184
-#define GIMMERSKIP_STACK_RESUME_MOVE 9312
 
 /* Why an entry refuses. Each comment says what the place of that refusal is. 8 is free: it was given where a job takes
-   a device that it holds, which is allowed now. Of resumed plans 6 is not given; in 9 a held line without a give counts
-   as a lasting take; 10 is also given where no device leads to itself again, but what is held from the beginning leaves
-   no order, and its place is the lowest held device then. 16 and 17 are for resumed plans alone. */
+   a device that it holds, which is allowed now. */
 enum gimmerskip_refusal {
     GIMMERSKIP_TEXT_TOO_LONG = 1,        /* the text is longer than GIMMERSKIP_MAX_BYTES; the place is 0 */
     GIMMERSKIP_MALFORMED = 2,            /* a line is malformed, unended, or the packed number of none; that line */
@@ -97,14 +83,12 @@ enum gimmerskip_refusal {
     GIMMERSKIP_NEVER_STARTED = 6,        /* nothing starts a job; the first line of that job */
     GIMMERSKIP_GIVE_WITHOUT_TAKE = 7,    /* the given device is not the latest its job still holds; that line */
     GIMMERSKIP_TWO_LASTING = 9,          /* more than one lasting take of a device; the lowest such device */
-    GIMMERSKIP_LEADS_BACK = 10,          /* a device leads to itself again, the lowest such device; or see above */
+    GIMMERSKIP_LEADS_BACK = 10,          /* a device leads to itself again; the lowest such device */
     GIMMERSKIP_LIST_TOO_SHORT = 11,      /* a lent list is too short; the length it needs */
-    GIMMERSKIP_NOT_A_TAKE = 12,          /* the line to move is no take, a held line too; the line that was asked */
+    GIMMERSKIP_NOT_A_TAKE = 12,          /* the line to move is no take of the plan; the line that was asked */
     GIMMERSKIP_NO_SUCH_DEVICE = 13,      /* a claim cannot move to a device over 31; the device that was asked */
     GIMMERSKIP_STALE_TABLE = 14,         /* a set that the move may change does not fit; the first such line */
-    GIMMERSKIP_ILLEGAL_STEP = 15,        /* an order goes wrong or stops too soon; where, counted from 1 */
-    GIMMERSKIP_HELD_TWICE = 16,          /* a device is held by two jobs, or twice by one; the later line */
-    GIMMERSKIP_HELD_LATE = 17            /* a held line after another verb, or in a job that is started; that line */
+    GIMMERSKIP_ILLEGAL_STEP = 15         /* an order goes wrong or stops too soon; where, counted from 1 */
 };
 
 /*
@@ -256,56 +240,6 @@ uint64_t gimmerskip_move_kept(uint32_t *plan, size_t n, uint32_t *sets, size_t r
  *         gimmerskip_verdict; of other rows a 10, or that there is none, says no more than this.
  */
 uint64_t gimmerskip_quick(const uint32_t *plan, size_t n, const uint32_t *rows, size_t rows_room);
-
-/*
- * Resumed plans: what is left of a day that was broken off, to be taken up at midday. A job that no line starts is
- * running, as job 1 is. The first lines of a running job may be held lines, as `1 held 5`: the job holds that device
- * from the beginning, what it took first standing first. They are no steps, and no order has them; gives match them
- * as they do takes.
- *
- * Each entry below is the sibling of the one whose name it has without `resume`, with the same lists and the same
- * answers, but for what is said here. Where the list or the text is no resumed plan, each refuses with 2, 3, 4, 5, 7,
- * 16 and 17 in place of 2 to 7. For the entries above a held line is no line (2), and a job that no line starts is
- * refused (6); plans that both kinds of entries take get the same answers and lists from both. Kept rows and
- * gimmerskip_line have no siblings.
- */
-
-/*
- * As gimmerskip_order: into out what the program `resume` prints. The first line of an order counts its steps.
- */
-size_t gimmerskip_resume(const uint8_t *text, size_t n, uint8_t *out, size_t room);
-
-/*
- * As gimmerskip_read.
- */
-uint64_t gimmerskip_resume_read(const uint8_t *text, size_t n, uint32_t *plan, size_t room);
-
-/*
- * As gimmerskip_write.
- */
-uint64_t gimmerskip_resume_write(const uint32_t *plan, size_t n, uint8_t *text, size_t room);
-
-/*
- * As gimmerskip_table. A held line has a set too: it claims nothing, and has the set of the line after it in its job.
- */
-uint64_t gimmerskip_resume_table(const uint32_t *plan, size_t n, uint32_t *sets, size_t room);
-
-/*
- * As gimmerskip_verdict. Written are the numbers of the steps, which are the lines that are not held ones; order needs
- * room for as many. In the count are the devices that held lines keep to the end.
- */
-uint64_t gimmerskip_resume_verdict(const uint32_t *plan, size_t n, uint16_t *order, size_t room);
-
-/*
- * As gimmerskip_judge. The number of a held line is never a legal next step; an order without it is whole.
- */
-uint64_t gimmerskip_resume_judge(const uint32_t *plan, size_t n, const uint16_t *order, size_t m);
-
-/*
- * As gimmerskip_move. The way goes back to the first line of a job that no line starts, and ends there. A held line
- * cannot be moved.
- */
-uint64_t gimmerskip_resume_move(uint32_t *plan, size_t n, uint32_t *sets, size_t room, uint32_t line, uint32_t device);
 
 #ifdef __cplusplus
 }

@@ -8,9 +8,8 @@
  * itself, which is taken off.
  *
  * Every entry meets plans up to the limits, each refusal that it can answer with, damaged plans, random lines and
- * random bytes; an entry for resumed plans meets whatever its sibling for plans of the morning meets. Whether it
- * accepted something and refused by each of its numbers is part of the test. For each entry a line is printed; the last
- * line is 'N passed, M failed', and the exit status follows it.
+ * random bytes. Whether it accepted something and refused by each of its numbers is part of the test. For each entry a
+ * line is printed; the last line is 'N passed, M failed', and the exit status follows it.
  */
 #include "gimmerskip.h"
 
@@ -19,12 +18,10 @@
 #include <string.h>
 
 enum { LINES = GIMMERSKIP_MAX_LINES, BYTES = GIMMERSKIP_MAX_BYTES, DEVICES = GIMMERSKIP_ROWS };
-enum { ROUNDS = 5000, JOBS = 64, HELD = GIMMERSKIP_HELD };
+enum { ROUNDS = 5000, JOBS = 64 };
 enum kind { DO, TAKE, GIVE, START };
 enum entry {
-    NOTHING, LINE, BUILD, MOVE_KEPT, QUICK, CIRCLES,
-    ORDER, READ, WRITE, TABLE, VERDICT, JUDGE, MOVE, /* and, in the same order, their siblings for resumed plans */
-    RESUME, RESUME_READ, RESUME_WRITE, RESUME_TABLE, RESUME_VERDICT, RESUME_JUDGE, RESUME_MOVE, ENTRIES
+    NOTHING, ORDER, LINE, READ, WRITE, TABLE, VERDICT, JUDGE, MOVE, BUILD, MOVE_KEPT, QUICK, CIRCLES, ENTRIES
 };
 
 /* The circle search by itself: no entry of the library, and so in an archive of its own. */
@@ -41,25 +38,18 @@ static struct {
     size_t calls;
 } known[ENTRIES] = {
     [NOTHING] = {"nothing", 8, 0x1, 0, 0, 0},
-    [LINE] = {"line", GIMMERSKIP_STACK_LINE, 0xf, 0, 0, 0},
-    [BUILD] = {"build", GIMMERSKIP_STACK_BUILD, 0x8fd, 0, 0, 0},
-    [MOVE_KEPT] = {"move_kept", GIMMERSKIP_STACK_MOVE_KEPT, 0x78fd, 0, 0, 0},
-    [QUICK] = {"quick", GIMMERSKIP_STACK_QUICK, 0xefd, 0, 0, 0},
-    [CIRCLES] = {"circles", STACK_OF_CIRCLES, 0x1, 0, 0, 0},
     [ORDER] = {"order", GIMMERSKIP_STACK_ORDER, 0x6ff, 0, 0, 0},
+    [LINE] = {"line", GIMMERSKIP_STACK_LINE, 0xf, 0, 0, 0},
     [READ] = {"read", GIMMERSKIP_STACK_READ, 0x8ff, 0, 0, 0},
     [WRITE] = {"write", GIMMERSKIP_STACK_WRITE, 0x8fd, 0, 0, 0},
     [TABLE] = {"table", GIMMERSKIP_STACK_TABLE, 0x8fd, 0, 0, 0},
     [VERDICT] = {"verdict", GIMMERSKIP_STACK_VERDICT, 0xefd, 0, 0, 0},
     [JUDGE] = {"judge", GIMMERSKIP_STACK_JUDGE, 0x80fd, 0, 0, 0},
     [MOVE] = {"move", GIMMERSKIP_STACK_MOVE, 0x78fd, 0, 0, 0},
-    [RESUME] = {"resume", GIMMERSKIP_STACK_RESUME, 0x306bf, 0, 0, 0},
-    [RESUME_READ] = {"resume_read", GIMMERSKIP_STACK_RESUME_READ, 0x308bf, 0, 0, 0},
-    [RESUME_WRITE] = {"resume_write", GIMMERSKIP_STACK_RESUME_WRITE, 0x308bd, 0, 0, 0},
-    [RESUME_TABLE] = {"resume_table", GIMMERSKIP_STACK_RESUME_TABLE, 0x308bd, 0, 0, 0},
-    [RESUME_VERDICT] = {"resume_verdict", GIMMERSKIP_STACK_RESUME_VERDICT, 0x30ebd, 0, 0, 0},
-    [RESUME_JUDGE] = {"resume_judge", GIMMERSKIP_STACK_RESUME_JUDGE, 0x380bd, 0, 0, 0},
-    [RESUME_MOVE] = {"resume_move", GIMMERSKIP_STACK_RESUME_MOVE, 0x378bd, 0, 0, 0},
+    [BUILD] = {"build", GIMMERSKIP_STACK_BUILD, 0x8fd, 0, 0, 0},
+    [MOVE_KEPT] = {"move_kept", GIMMERSKIP_STACK_MOVE_KEPT, 0x78fd, 0, 0, 0},
+    [QUICK] = {"quick", GIMMERSKIP_STACK_QUICK, 0xefd, 0, 0, 0},
+    [CIRCLES] = {"circles", STACK_OF_CIRCLES, 0x1, 0, 0, 0},
 };
 
 /* One call: which entry, what it is lent, and what it answers. A list has one place more than is ever needed. */
@@ -125,15 +115,6 @@ static __attribute__((noinline)) void make_call(struct call *c) {
                                          c->line, c->device);
         break;
     case QUICK: c->answer = gimmerskip_quick(c->plan, c->n, c->rows, c->rows_room); break;
-    case RESUME: c->answer = gimmerskip_resume(c->text, c->n, out_bytes, c->room); break;
-    case RESUME_READ: c->answer = gimmerskip_resume_read(c->text, c->n, out_plan, c->room); break;
-    case RESUME_WRITE: c->answer = gimmerskip_resume_write(c->plan, c->n, out_bytes, c->room); break;
-    case RESUME_TABLE: c->answer = gimmerskip_resume_table(c->plan, c->n, out_sets, c->room); break;
-    case RESUME_VERDICT: c->answer = gimmerskip_resume_verdict(c->plan, c->n, out_order, c->room); break;
-    case RESUME_JUDGE: c->answer = gimmerskip_resume_judge(c->plan, c->n, c->order, c->room); break;
-    case RESUME_MOVE:
-        c->answer = gimmerskip_resume_move(c->plan, c->n, c->sets, c->room, c->line, c->device);
-        break;
     case CIRCLES: c->answer = bare_circles(c->rows); break;
     default: c->answer = nothing(); break;
     }
@@ -170,7 +151,7 @@ static size_t overhead;
 static size_t depth_of_copy(const struct call *c, int paint, uint64_t *answer) {
     static uint32_t plan[LINES + 1], sets[LINES + 1], rows[DEVICES + 1], held[2];
     struct call copy = *c;
-    if (c->which == MOVE || c->which == RESUME_MOVE || c->which == MOVE_KEPT) {
+    if (c->which == MOVE || c->which == MOVE_KEPT) {
         memcpy(plan, c->plan, sizeof plan);
         memcpy(sets, c->sets, sizeof sets);
         copy.plan = plan;
@@ -183,12 +164,12 @@ static size_t depth_of_copy(const struct call *c, int paint, uint64_t *answer) {
         copy.held = held;
     }
     size_t depth = depth_on(&copy, paint);
-    *answer = copy.which == ORDER || copy.which == RESUME ? printed_number((size_t)copy.answer) : copy.answer;
+    *answer = copy.which == ORDER ? printed_number((size_t)copy.answer) : copy.answer;
     return depth;
 }
 
 /* Measures one call, on two paints, and notes what was seen. */
-static uint64_t measure_one(struct call c) {
+static uint64_t measure(struct call c) {
     uint64_t answer;
     size_t one = depth_of_copy(&c, 0xa5, &answer);
     size_t other = depth_of_copy(&c, 0x3c, &answer);
@@ -198,16 +179,6 @@ static uint64_t measure_one(struct call c) {
     if (gimmerskip_number(answer) < 32)
         known[c.which].seen |= (uint32_t)1 << gimmerskip_number(answer);
     known[c.which].calls++;
-    return answer;
-}
-
-/* Measures a call, and the same call of the entry's sibling for resumed plans, if it has one. */
-static uint64_t measure(struct call c) {
-    uint64_t answer = measure_one(c);
-    if (c.which >= ORDER && c.which <= MOVE) {
-        c.which = (enum entry)(c.which + RESUME - ORDER);
-        measure_one(c);
-    }
     return answer;
 }
 
@@ -290,8 +261,7 @@ static void try_moves(struct list *l, uint32_t *sets, uint32_t *rows, uint32_t *
 }
 
 /* What is kept beside a list: built with room and without, quick verdicts by the rows that were built, by others, and
-   by too few; and moves, with the rows that were built or others. Where nothing is built, as beside a resumed plan, the
-   table is the one made last. */
+   by too few; and moves, with the rows that were built or others. */
 static void try_kept(struct list *l) {
     static uint32_t sets[LINES + 1], rows[DEVICES + 1], held[2];
     struct call c = {.which = BUILD, .plan = l->lines, .rows = rows, .n = l->n, .room = LINES};
@@ -317,18 +287,10 @@ static void try_kept(struct list *l) {
     try_moves(l, sets, rows, held);
 }
 
-/* How many lines of a list are no held ones. */
-static size_t steps(const struct list *l) {
-    size_t count = 0;
-    for (size_t i = 0; i < l->n; i++)
-        count += l->lines[i] / 256 % 4 != TAKE || l->lines[i] % 256 < HELD;
-    return count;
-}
-
 /* Orders from elsewhere: the one handed out last, whole, with another entry, cut off, and going on. */
 static void try_orders(struct list *l) {
     static uint16_t order[LINES + 1];
-    struct call c = {.which = JUDGE, .plan = l->lines, .order = order, .n = l->n, .room = steps(l)};
+    struct call c = {.which = JUDGE, .plan = l->lines, .order = order, .n = l->n, .room = l->n};
     memcpy(order, out_order, sizeof order);
     measure(c);
     c.room = l->n ? below((uint32_t)l->n) : 0;
@@ -362,13 +324,12 @@ static void try_list(struct list *l) {
 
 /* The text of a packed list of lines, plan or no plan; a number that is no line's is left as it comes out. */
 static size_t spell(const struct list *l, uint8_t *text, size_t room) {
-    static const char *const verbs[] = {"do", "take", "give", "start", "held"};
+    static const char *const verbs[] = {"do", "take", "give", "start"};
     size_t n = 0;
     for (size_t i = 0; i < l->n && n + 24 < room; i++) {
         uint32_t p = l->lines[i];
-        uint32_t held = p / 256 % 4 == TAKE && p % 256 >= HELD;
-        n += (size_t)snprintf((char *)text + n, 24, "%u\t%s\t%u\n", (unsigned)(p / 1024 % 100),
-                              verbs[held ? 4 : p / 256 % 4], (unsigned)(p % 256 - held * HELD));
+        n += (size_t)snprintf((char *)text + n, 24, "%u\t%s\t%u\n", (unsigned)(p / 1024 % 100), verbs[p / 256 % 4],
+                              (unsigned)(p % 256));
     }
     return n;
 }
@@ -388,14 +349,13 @@ static void try_all(struct list *l) {
     try_text(text, n);
 }
 
-/* A plan without a fault while it grows: what its present job has taken and not given, who has still to start whom, and
-   which devices are held from the beginning. */
+/* A plan without a fault while it grows: what its present job has taken and not given, and who has still to start
+   whom. */
 struct growth {
     struct list list;
     uint32_t starter[JOBS + 1];
     uint32_t held[LINES];
     uint32_t depth;
-    uint32_t named;
 };
 
 /* One more line of a job that starts nothing: a take, of what it holds already among others, a give of what was taken
@@ -428,22 +388,8 @@ static void start_others(struct growth *g, uint32_t job, uint32_t jobs) {
             add(&g->list, job, START, other);
 }
 
-/* Lets a running job hold some devices from the beginning, as far as there are some that no other holds. */
-static void hold(struct growth *g, uint32_t job) {
-    for (uint32_t k = below(4); k > 0; k--) {
-        uint32_t device = below(DEVICES);
-        if (g->named >> device & 1)
-            continue;
-        g->named |= (uint32_t)1 << device;
-        g->held[g->depth++] = device;
-        add(&g->list, job, TAKE, HELD + device);
-    }
-}
-
 static void grow_job(struct growth *g, uint32_t job, uint32_t jobs, uint32_t lines, uint32_t left) {
     g->depth = 0;
-    if (g->starter[job] == 0)
-        hold(g, job);
     for (uint32_t k = 0; k < lines; k++)
         grow_line(g, job);
     give_back(g, job, left);
@@ -451,18 +397,16 @@ static void grow_job(struct growth *g, uint32_t job, uint32_t jobs, uint32_t lin
     add(&g->list, job, DO, 1);
 }
 
-/* For each job which lower one starts it; in a resumed plan none starts those that are running, nor job 1. */
-static void pick_starters(struct growth *g, uint32_t jobs, int resumed) {
-    g->starter[1] = resumed ? 0 : JOBS + 1;
+/* For each job but the first, which lower one starts it. */
+static void pick_starters(struct growth *g, uint32_t jobs) {
     for (uint32_t job = 2; job <= jobs; job++)
-        g->starter[job] = resumed && below(2) ? 0 : 1 + below(job - 1);
+        g->starter[job] = 1 + below(job - 1);
 }
 
 /* A random plan, without a fault if it is not cut off; the jobs keep up to `left` devices to the end. */
-static void grow(struct growth *g, uint32_t jobs, uint32_t lines, uint32_t left, int resumed) {
+static void grow(struct growth *g, uint32_t jobs, uint32_t lines, uint32_t left) {
     g->list.n = 0;
-    g->named = 0;
-    pick_starters(g, jobs, resumed);
+    pick_starters(g, jobs);
     for (uint32_t job = 1; job <= jobs; job++)
         grow_job(g, job, jobs, lines, left);
 }
@@ -527,22 +471,6 @@ static void keep(struct list *l, uint32_t devices, uint32_t step, uint32_t turn)
     }
 }
 
-/* A running job for each of so many devices: it holds its own from the beginning, wants for a while the one `step`
-   further on, and gives back its own after that. Only the last job wants none, unless the ring is closed. */
-static void hold_ring(struct list *l, uint32_t devices, uint32_t step, int closed) {
-    l->n = 0;
-    for (uint32_t d = 0; d < devices; d++) {
-        uint32_t job = d + 1, other = (d + step) % devices;
-        add(l, job, TAKE, HELD + d);
-        if (closed || d + step < devices) {
-            add(l, job, TAKE, other);
-            add(l, job, GIVE, other);
-        }
-        add(l, job, GIVE, d);
-    }
-    fill_up(l, devices);
-}
-
 /* Rows of every density, from all bits to few. */
 static void fill_rows(uint32_t rows[DEVICES], uint32_t thinner) {
     for (uint32_t d = 0; d < DEVICES; d++) {
@@ -600,8 +528,6 @@ static void at_the_limits(void) {
         keep(l, k, k / 2, 1);
         l->lines[l->n - 1] ^= k & 3;
         try_all(l);
-        hold_ring(l, k, 1 + k % 3, k % 4 == 0);
-        try_all(l);
     }
     chain(l, JOBS, 7);
     add(l, JOBS, DO, 0);
@@ -628,12 +554,6 @@ static void each_fault(void) {
         {3, {1280, 1281, 1536}},          /* 7: a give of what was not taken last */
         {3, {1794, 1280, 2304}},          /* 9: two lasting takes */
         {4, {1280, 1794, 2304, 2560}},    /* 10: job 2 waits for what its starter keeps */
-        {2, {1408, 2304}},                /* 9: a held line without a give, and a lasting take */
-        {3, {1408, 2304, 2560}},          /* 10: job 2 takes what is held and kept */
-        {2, {1408, 1408}},                /* 16: a device is held twice by a job */
-        {2, {1408, 2432}},                /* 16: and by two jobs */
-        {2, {1024, 1408}},                /* 17: a held line after another verb */
-        {2, {1794, 2432}},                /* 17: a held line in a started job */
     };
     struct list *l = &tried.list;
     for (size_t k = 0; k < sizeof faults / sizeof faults[0]; k++) {
@@ -648,10 +568,10 @@ static void at_random(void) {
     struct list *l = &tried.list;
     for (int round = 0; round < ROUNDS; round++) {
         uint32_t jobs = 1 + below(round % 3 ? 8 : JOBS);
-        grow(&tried, jobs, 1 + below(round % 3 ? 40 : 12), round % 2 ? 0 : below(3), round % 4 > 1);
+        grow(&tried, jobs, 1 + below(round % 3 ? 40 : 12), round % 2 ? 0 : below(3));
         try_all(l);
         uint32_t *line = &l->lines[below((uint32_t)l->n)];
-        *line = packed(*line / 1024, (enum kind)below(4), below(40) + below(2) * HELD);
+        *line = packed(*line / 1024, (enum kind)below(4), below(40));
         try_all(l);
         l->lines[below((uint32_t)l->n)] = below(66 * 1024);
         l->lines[below((uint32_t)l->n)] ^= (uint32_t)1 << below(32);
@@ -686,7 +606,7 @@ static int report(enum entry e) {
     int over = known[e].most > known[e].bound;
     int missed = known[e].seen != known[e].numbers;
     int few = e != NOTHING && known[e].calls < ROUNDS;
-    printf("%-14s %8zu calls, at most %6zu bytes of stack, bound %6zu\n", known[e].name, known[e].calls, known[e].most,
+    printf("%-9s %8zu calls, at most %6zu bytes of stack, bound %6zu\n", known[e].name, known[e].calls, known[e].most,
            known[e].bound);
     if (over)
         printf("%s: the bound is passed\n", known[e].name);

@@ -1,6 +1,5 @@
 -- What a pass from the plan's end keeps (01, "Claims and rows"): at each job's number the set of the first of its lines
--- that the pass has met. Of it a line's claim set is made, and with that it is kept one line further back. The lines
--- are those that a plan may have at midday (02, request 5), which are the morning's and held lines.
+-- that the pass has met. Of it a line's claim set is made, and with that it is kept one line further back.
 use Prim.Native.Nat.{ℕ, suc, ◌<◌}
 use mathlib.Core.Bool.{true, false}
 use mathlib.Core.List.{List, ◌∷◌}
@@ -11,7 +10,7 @@ use lib.Dec.{eqb}
 use lib.ListN.{length, get_or, drop, set, replicate, length-set, get_or-replicate, drop_of_length-le}
 use lib.Seq.{drop-cons, get_or-set_same, get_or-set_other}
 use borrow.Author.Tests.{eqb-true, eqb-false}
-use Rattle.model.specs.Board.{board_at}
+use Rattle.model.specs.Board.{board}
 use Rattle.model.specs.Sets.{empty, union, union_of}
 use Rattle.model.specs.Line.{Settings, job, operand, is_line, at, first_line}
 use Rattle.model.specs.Claims.{own, joined, table}
@@ -45,18 +44,18 @@ none_claimed p = record {
 }
 
 module _ (p claimed : List ℕ) (k : ℕ) (m : Claimed p claimed (suc k)) (h : k < length p)
-    (ok : is_line (board_at true) (at p k) ≡ true) where
+    (ok : is_line board (at p k) ≡ true) where
   abbrev l : ℕ
   l = at p k
 
   pub next_is_lem : get_or claimed (job (at p k)) 0 ≡ claim_from p (suc k) (job (at p k))
-  next_is_lem = m.are (job l) (job_place (board_at true) l ok)
+  next_is_lem = m.are (job l) (job_place board l ok)
 
   -- what the code makes of a line is the table's set
   pub claim_made : claim_of (plain_at p k) (get_or claimed (job (at p k)) 0) claimed ≡ claim p k
   unfolding claim_of begun_of operand
   claim_made =
-      rw (own_is (board_at true) p k ok, begun_is p claimed k, next_is_lem, m.are (operand l) (omega arith))
+      rw (own_is board p k ok, begun_is p claimed k, next_is_lem, m.are (operand l) (omega arith))
       (ap (union (own p k)) (sym (beyond_is p (table p) k)) ∙ sym (claim_is p k h))
 
   -- the first of the job's lines is now this one, and the other jobs have theirs

@@ -11,7 +11,7 @@ use lib.ListN.{length, get_or, drop, set, replicate, length-set, length-take, le
 use lib.ListN.{get_or-append}
 use lib.Seq.{take_all, get_or-take, get_or-drop, get_or-append-add, get_or-set_same, get_or-set_other, ext_get_or}
 use borrow.Author.Tests.{eqb-true, eqb-false}
-use Rattle.model.specs.Board.{board_at}
+use Rattle.model.specs.Board.{board}
 use Rattle.model.specs.Lists.{over}
 use Rattle.model.specs.Line.{job, is_line, at}
 use Rattle.model.specs.Claims.{table}
@@ -102,7 +102,7 @@ none_done p old = record { in_plan = omega arith; same = refl; written = none_wr
 
 -- one line further back, with what the code made of the line and its job j
 pub one_done : (p old out claimed : List ℕ) (k j s : ℕ) → Done p old out claimed (suc k)
-    → is_line (board_at true) (at p k) ≡ true → j ≡ job (at p k) → s ≡ claim_of (plain_at p k) (get_or claimed j 0) claimed
+    → is_line board (at p k) ≡ true → j ≡ job (at p k) → s ≡ claim_of (plain_at p k) (get_or claimed j 0) claimed
     → Done p old (set out k s) (set claimed j s) k
 one_done p old out claimed k j s d ok e is =
     let made : s ≡ claim p k = is ∙ rw e (claim_made p claimed k d.claims d.in_plan ok) in record {

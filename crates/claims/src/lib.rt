@@ -1,11 +1,11 @@
 // The table of claims (01, "Claims and rows"): one set a line, worked out in one pass from the end. Lines are taken as
-// they count: one that takes again what its job holds claims nothing, as a do (02, request 2). Nor does a held line, of
-// a plan that is taken up at midday (02, request 5): its set is that of its successors.
-ghost use Rattle.std.specs.Prelude.{◌≡◌, true, ◌≤◌, length};
+// they count: one that takes again what its job holds claims nothing, as a do (02, request 2).
+ghost use Rattle.std.specs.Prelude.{◌≡◌, ◌≤◌, length};
+ghost use Rattle.std.proofs.Math.Option.{none};
 ghost use Rattle.model.specs.Lists.{over};
-ghost use Rattle.model.specs.WellFormed.{WellFormed};
+ghost use Rattle.model.specs.WellFormed.{fault};
 ghost use Rattle.model.specs.Claims.{table};
-ghost use Rattle.model.specs.Board.{board, board_at};
+ghost use Rattle.model.specs.Board.{board};
 ghost use Rattle.plan.specs.Again.{again_flags};
 ghost use Rattle.claims.specs.Claim.{own_of, claim_with, begun_of, claim_of};
 ghost use Rattle.promises.specs.Table.{TablesAs};
@@ -15,7 +15,7 @@ use line::EACH_OPERAND;
 use model::{Refusal, TableAnswer};
 use plan::Checked;
 
-// A line's own claim: its device, if it is a take, whose operand that is. A held line claims nothing.
+// A line's own claim: its device, if it is a take.
 pub fn own(l: u32) -> Set
     ensures { result ≡ own_of l }
 {
@@ -47,7 +47,7 @@ pub fn claim(l: u32, next: Set, claimed: &[Set; EACH_OPERAND]) -> Set
 
 // The table, from the plan's end, into the front of the lent list. `again` has the flags of the lines that take again.
 fn fill(plan: &[u32], again: &[u8; MOST_LINES], sets: &mut [Set])
-    requires { WellFormed (board_at true) plan.now × (again.now ≡ again_flags plan.now)
+    requires { (fault board plan.now ≡ none) × (again.now ≡ again_flags plan.now)
         × (length plan.now ≤ length sets.old) }
     ensures { sets.new ≡ over (table plan.now) sets.old }
 {
@@ -63,15 +63,14 @@ fn fill(plan: &[u32], again: &[u8; MOST_LINES], sets: &mut [Set])
     }
 }
 
-// The table of a plan's claims, which is one of the morning or taken up at midday, into the front of the lent list; a
-// refusal (2 to 7, 11, 16, 17) leaves the list as it was.
-fn table_at(plan: &[u32], midday: bool, sets: &mut [Set]) -> TableAnswer
-    ensures { TablesAs (board_at midday) plan.now sets.old result sets.new }
+// The table of a plan's claims, into the front of the lent list; a refusal (2 to 7, 11) leaves the list as it was.
+pub fn table(plan: &[u32], sets: &mut [Set]) -> TableAnswer
+    ensures { TablesAs board plan.now sets.old result sets.new }
 {
     let mut first = [0u32; EACH_JOB];
     let mut starter = [0u32; EACH_JOB];
     let mut again = [0u8; MOST_LINES];
-    if let Checked::Refused(r) = plan::scan(plan, midday, &mut first, &mut starter, &mut again) {
+    if let Checked::Refused(r) = plan::scan(plan, false, &mut first, &mut starter, &mut again) {
         return TableAnswer::Refused(r);
     }
     let n = plan.len();
@@ -80,18 +79,4 @@ fn table_at(plan: &[u32], midday: bool, sets: &mut [Set]) -> TableAnswer
     }
     fill(plan, &again, sets);
     TableAnswer::Lines(n as u32)
-}
-
-// The table of a plan of the morning (01, "Claims and rows").
-pub fn table(plan: &[u32], sets: &mut [Set]) -> TableAnswer
-    ensures { TablesAs board plan.now sets.old result sets.new }
-{
-    table_at(plan, false, sets)
-}
-
-// The table of a plan that is taken up at midday (02, request 5).
-pub fn resume_table(plan: &[u32], sets: &mut [Set]) -> TableAnswer
-    ensures { TablesAs (board_at true) plan.now sets.old result sets.new }
-{
-    table_at(plan, true, sets)
 }

@@ -30,7 +30,7 @@ use Rattle.promises.proofs.Kept.{builds_with}
 use Rattle.claims.proofs.Written.{whole_table}
 use Rattle.rows.specs.Holds.{TabledAs}
 use Rattle.rows.specs.declared.HoldsAnswer.{HoldsAnswer}
-use Rattle.rows.proofs.Outcome.{told_fault, told_morning}
+use Rattle.rows.proofs.Outcome.{told_fault, told_sets}
 use Rattle.kept.specs.Keeping.{refused_by, row_over, new_rows, rows_over}
 use Rattle.kept.proofs.Lists.{all_new, new_row}
 
@@ -120,7 +120,7 @@ module _ (p : List ℕ) (lent : Beside) where
         → BuildsWith p lent (TableAnswer.Refused r) (beside sets' lent.rows lent.held)
     unfolding first_refusal
     not_built {r} e =
-        let f = told_fault board p (sym e ∙ t.answers) in
+        let f = told_fault p (sym e ∙ t.answers) in
         rw (rw f at t.table_is) (refused_as (rw f))
 
     -- none
@@ -129,7 +129,7 @@ module _ (p : List ℕ) (lent : Beside) where
         (beside sets' (rows_over every rs' lent.rows) (set lent.held 0 to_end))
     unfolding over_all beside_of
     built {to_end} e room =
-        let s = told_morning p (sym e ∙ t.answers) in
+        let s = told_sets p (sym e ∙ t.answers) in
         let f = s.0 in
         let made : rs' ≡ rows devices p = rw f at t.rows_are in
         builds_with p lent _ ((no_fault_exactly board p).0 f) room

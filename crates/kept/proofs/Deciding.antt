@@ -23,7 +23,7 @@ use Rattle.rows.specs.Lasting.{held_twice}
 use Rattle.rows.specs.Where.{circles_of}
 use Rattle.rows.specs.Holds.{holds_by}
 use Rattle.rows.specs.declared.HoldsAnswer.{HoldsAnswer}
-use Rattle.rows.proofs.Outcome.{told_fault, told_morning}
+use Rattle.rows.proofs.Outcome.{told_fault, told_sets}
 use Rattle.rows.proofs.Searched.{two_lasting_at, leads_back_at, held_those}
 use Rattle.kept.specs.Keeping.{refuse_lowest, decided}
 
@@ -95,11 +95,11 @@ module _ (p rs : List ℕ) where
   pub quick_refused : {r : Refusal} → HoldsAnswer.Refused r ≡ holds_by (fault board p) p
       → QuickAs p rs (VerdictAnswer.Refused r)
   unfolding quick quick_refusal quick_by first_refusal
-  quick_refused e = record { answers = rw (told_fault board p e) }
+  quick_refused e = record { answers = rw (told_fault p e) }
 
   pub quick_decided : {held twice : ℕ} {a : VerdictAnswer}
       → HoldsAnswer.Made held twice ≡ holds_by (fault board p) p → a ≡ decided rs held twice → QuickAs p rs a
   quick_decided {a = a} e d =
-      let t = told_morning p e in
+      let t = told_sets p e in
       let is : a ≡ quick devices p rs = d ∙ rw (t.1, t.2) (sym (by_sets t.0)) in
       record { answers = ap verdict_values is }

@@ -13,8 +13,8 @@ use lib.ListN.{length, get_or, set, replicate, get_or-replicate, get_or-eq_defau
 use lib.Seq.{drop-cons, get_or-set_other}
 use mir.Val.{bool_byte}
 use borrow.Author.Tests.{lt-ltb, eqb-true, eqb-false, eq-eqb, ne_eqb}
-use Rattle.model.specs.Board.{devices, board_at, board}
-use Rattle.model.specs.Line.{job, operand, is_held, is_take, at, max_lines, max_job}
+use Rattle.model.specs.Board.{devices, board}
+use Rattle.model.specs.Line.{job, operand, is_take, at, max_lines, max_job}
 use Rattle.model.specs.Mate.{device_at, lasting_at, lasting}
 use Rattle.model.specs.Sets.{empty, member}
 use Rattle.model.specs.Claims.{beyond}
@@ -27,7 +27,6 @@ use Rattle.theory.proofs.LastingKept.{eqb_turned}
 use Rattle.theory.proofs.Sets.{member_empty}
 use Rattle.theory.proofs.Successors.{jobs_grow}
 use Rattle.theory.proofs.WellFormed.{no_fault_exactly, morning_midday, no_held_in_morning}
-use Rattle.theory.proofs.Morning.{keeps_is}
 use Rattle.theory.proofs.Move.{taken_device}
 use Rattle.claims.proofs.Joining.{union_none, beyond_is}
 use Rattle.claims.proofs.Written.{EndOf, end_whole}
@@ -38,7 +37,6 @@ use Rattle.rows.specs.declared.Passed.{Passed}
 use Rattle.rows.proofs.Wanted.{wanted, flag_at}
 use Rattle.rows.proofs.Counted.{lasting_is, Counted, Knows, none_counted, none_known, lasts_made, known_on, counted_on}
 use Rattle.rows.proofs.Counted.{counted_past, all_counted, lasting_takes_lem, taken_operand}
-use Rattle.rows.proofs.Outcome.{morning_kept}
 use Rattle.rows.proofs.RowsFrom.{RowsBy, none_by, by_on, all_by}
 use Rattle.rows.proofs.Walked.{length_flags, none_flagged, one_flagged}
 use Rattle.way.specs.Join.{next_set}
@@ -97,20 +95,17 @@ module _ {p again t rs flags : List ℕ} {old : Passed} {behind k : ℕ} (known 
   well : WellFormed board p
   well = (no_fault_exactly board p).0 known.sound
 
-  at_midday_lem : WellFormed (board_at true) p
-  at_midday_lem = morning_midday devices p well
-
   in_plan : k < length p
   in_plan = m.found.counted.in_plan
 
   beyond_take : (next : ℕ) → next ≡ next_set p t k → is_take (at p k) ≡ true → next ≡ beyond p t k
   beyond_take next e taken =
-      e ∙ next_is_lem p t at_midday_lem known.room k in_plan
+      e ∙ next_is_lem p t (morning_midday devices p well) known.room k in_plan
       ∙ sym (beyond_is p t k ∙ rw (take_no_start (at p k) taken) (union_none _))
 
   module _ {new : Passed} (n : PassedOn new old (at p k) (plain_at p k)) where
     lasts_here : new.lasts ≡ lasting_at p k
-    lasts_here = lasts_made p at_midday_lem old new k m.found.counted m.known n
+    lasts_here = lasts_made p well.few old new k m.found.counted m.known n
 
     -- the board has the device of a lasting take
     on_board_lem : (new.lasts && ltb (operand (at p k)) devices) ≡ lasting_at p k
@@ -128,7 +123,7 @@ module _ {p again t rs flags : List ℕ} {old : Passed} {behind k : ℕ} (known 
     unfolding next_set empty
     one_gathered next e rs' r = record {
       found = record {
-        counted = counted_on p at_midday_lem old new k m.found.counted m.known n;
+        counted = counted_on p well.few old new k m.found.counted m.known n;
         rows_by =
             by_on p t rs k next m.found.rows_by in_plan (beyond_take next (e ∙ m.next_is k refl)) rs'
             (r ∙ ap (λ (b : Bool). row_joined (at p k) b next rs) on_board_lem);
@@ -136,18 +131,18 @@ module _ {p again t rs flags : List ℕ} {old : Passed} {behind k : ℕ} (known 
         clear = λ i h. get_or-set_other flags k i (bool_byte new.lasts) 0 (λ q. omega arith)
             ∙ m.found.clear i (omega arith);
       };
-      known = known_on p at_midday_lem old new k m.found.counted m.known n;
+      known = known_on p well.few old new k m.found.counted m.known n;
       next_is = λ i q. rw (n.job_is, ← q) (rw (eqb_turned (job (at p i)) (job (at p (suc i)))));
       later = λ i h. inl (rw n.job_is (jobs_grow p well.rules i k (omega arith) in_plan));
     }
 
 -- ---- past a job without lasting takes
 
-module _ {p t rs flags : List ℕ} {passed : Passed} (unheld : (i : ℕ) → is_held (at p i) ≡ false) where
+module _ {p t rs flags : List ℕ} {passed : Passed} where
   one_past : (k : ℕ) → lasting_at p k ≡ false → Found p t rs flags passed (suc k) → Found p t rs flags passed k
   unfolding row_joined lasting_flag
   one_past k e m = record {
-    counted = counted_past p passed k (λ d. keeps_is p unheld k d ∙ lasting_is p k d ∙ rw e) m.counted;
+    counted = counted_past p passed k e m.counted;
     rows_by =
         by_on p t rs k (beyond p t k) m.rows_by m.counted.in_plan (λ z. refl) rs
         (ap (λ (b : Bool). row_joined (at p k) b (beyond p t k) rs) (sym e));
@@ -252,8 +247,8 @@ module _ {p again t rs flags first holdings : List ℕ} {passed : Passed} {behin
     pub past_job : Gathered p t rs flags passed behind (get_or first j 0 - 1)
     unfolding next_set wanted_after wanted
     past_job = rw line_is (record {
-      found = all_past (no_held_in_morning devices p w) (suc k - listed.line) listed.line
-          (λ i h l. none_here i h (omega (arith, above))) (rw whole at m.found);
+      found = all_past (suc k - listed.line) listed.line (λ i h l. none_here i h (omega (arith, above)))
+          (rw whole at m.found);
       known = λ i e.
           let ne = before_job i e in
           rw (earlier i e, drop-cons p listed.line 0 listed.in_plan, listed.of_job)
@@ -274,7 +269,9 @@ module _ {p again t rs flags first holdings : List ℕ} {passed : Passed} {behin
 pub all_gathered : {p again t rs flags : List ℕ} {passed : Passed} {behind : ℕ} → Prepared p again t
     → Gathered p t rs flags passed behind 0 → GathersAs p t passed.held rs flags
 all_gathered {p} {again} {t} {rs} {flags} {passed} known m = record {
-  held_is = (all_counted p passed m.found.counted).to_end ∙ morning_kept p known.sound;
+  held_is =
+      (all_counted p (no_held_in_morning devices p ((no_fault_exactly board p).0 known.sound)) passed
+      m.found.counted).to_end;
   rows_are = all_by p t rs m.found.rows_by;
   flags_are = end_whole (lasting_flags p) flags m.found.flagged;
 }

@@ -204,7 +204,7 @@ module _ {p t : List ℕ} {line device : ℕ} {first starter again of_jobs : Lis
       → KeepsAs p' starter' t' (stop - 1) old device rs held rs' held'
       → MovesKeptAs p t rs held line device (MoveAnswer.Changed count) p' t' rs' held'
   moves_kept rs held old rs' held' a b h o keeps =
-      rw (rows_are, held_are_lem)
+      rw (rows_are, held_are)
       (met_accepted p (beside t rs held) line device a b count p' t'
       (plainly_moved false p t line device first starter again of_jobs answer p' t' first' starter' again' of_jobs' m
       count
@@ -226,8 +226,8 @@ module _ {p t : List ℕ} {line device : ℕ} {first starter again of_jobs : Lis
           edit_is starter' t' (stop - 1) old on_way old_is rs
           ∙ ap (λ (x : ℕ). over (kept_rows devices p' t' (concerned p x device) rs) rs) (sym k.position)
 
-      held_are_lem : held' ≡ over (kept_held p' (device_at p (asked_at line)) device (get_or held 0 0) ∷ []) held
-      held_are_lem =
+      held_are : held' ≡ over (kept_held p' (device_at p (asked_at line)) device (get_or held 0 0) ∷ []) held
+      held_are =
           keeps.held_is
           ∙ held_kept p' old device old_on_board k.asked.on_board held b h
           ∙ ap (λ (x : ℕ). over (kept_held p' x device (get_or held 0 0) ∷ []) held)

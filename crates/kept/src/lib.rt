@@ -218,7 +218,6 @@ pub fn move_kept(
         sets,
         line,
         device,
-        false,
         &mut first,
         &mut starter,
         &mut again,

@@ -19,7 +19,7 @@ use Rattle.promises.proofs.Tight.{meets}
 use Rattle.theory.proofs.Lists.{those_length}
 use Rattle.theory.proofs.Claims.{length_up_from}
 use Rattle.theory.proofs.Edited.{Alike, edit}
-use Rattle.theory.proofs.WellFormed.{no_fault_exactly, at_midday_lem}
+use Rattle.theory.proofs.WellFormed.{no_fault_exactly}
 use Rattle.mates.specs.Span.{span_of, stop_of}
 use Rattle.mates.proofs.Spans.{Spans, spans, last_up}
 use Rattle.plan.specs.Again.{again_flags}
@@ -35,7 +35,7 @@ use Rattle.moving.specs.Through.{through_by, MovesThrough}
 use Rattle.moving.specs.declared.Through.{Through}
 use Rattle.moving.proofs.Answers.{told_not, told_moved}
 use Rattle.moving.proofs.Refusing.{Passes, passes}
-use Rattle.moving.proofs.SameScan.{same_firsts, same_starters, same_way, same_changed}
+use Rattle.moving.proofs.SameScan.{at_midday_lem, same_firsts, same_starters, same_way, same_changed}
 
 -- no more sets change than there are lines
 pub few_changed : (p old new : List ℕ) (count : ℕ) → count ≡ changed p old new → count ≤ length p
@@ -77,7 +77,7 @@ module _ (midday : Bool) (p t : List ℕ) (line device : ℕ) where
     unfolding q
     known first starter again s = record {
       scan = record {
-        well_formed = at_midday_lem (board_at midday) q k.fine;
+        well_formed = at_midday_lem midday q k.fine;
         firsts = s.firsts ∙ sym (same_firsts p q alike);
         starts = s.starts ∙ sym (same_starters p q alike);
         agains = refl;

@@ -1,7 +1,7 @@
 -- Which test of a move refuses, by what the code found; and what is known where none does.
 use Prim.Native.Nat.{ℕ, zero, suc, ◌+◌, ◌-◌, ◌<◌, ◌≤◌}
 use mathlib.Core.Bool.{Bool, true, false}
-use mathlib.Core.List.{List, ◌∷◌}
+use mathlib.Core.List.{List, [], ◌∷◌}
 use mathlib.Core.Option.{Option, none, some, none-ne-some}
 use mathlib.Core.Path.{◌≡◌, refl, sym, ◌∙◌}
 use native.Mathlib.Numerals.{add-one}
@@ -11,7 +11,7 @@ use lib.ListN.{length, get_or}
 use borrow.Author.Tests.{lt-ltb, le-ltb, le-leb, lt-leb, ltb-false, leb-false}
 use Rattle.model.specs.Lists.{first_of, or_else}
 use Rattle.model.specs.Answers.{refuse_if, refuse_at, first_refusal, too_short}
-use Rattle.model.specs.Line.{Settings, at, line_number}
+use Rattle.model.specs.Line.{Settings, is_take, at, line_number}
 use Rattle.model.specs.WellFormed.{WellFormed, fault}
 use Rattle.model.specs.Move.{edited, way, under, may_change, stale, asked_at, is_take_of, move_refusal}
 use Rattle.model.specs.Board.{devices, board_at}
@@ -22,12 +22,13 @@ use Rattle.theory.proofs.Tests.{clash}
 use Rattle.theory.proofs.Lists.{first_append}
 use Rattle.theory.proofs.Answers.{none_refuses, not_refused}
 use Rattle.theory.proofs.Line.{take_line}
-use Rattle.theory.proofs.WellFormed.{no_fault_exactly, at_midday_lem}
+use Rattle.theory.proofs.WellFormed.{no_fault_exactly}
 use Rattle.theory.proofs.Edited.{edited_well_formed}
 use Rattle.theory.proofs.Move.{asked_take, stale_exactly, nearest_may_change}
 use Rattle.theory.proofs.Way.{may_change_line}
 use Rattle.moving.specs.Tested.{Take, tested_by, last_tests, asked_tests}
 use Rattle.moving.specs.declared.TestAnswer.{TestAnswer}
+use Rattle.moving.proofs.SameScan.{at_midday_lem}
 
 -- ---- 14
 
@@ -154,6 +155,6 @@ passes midday p t line device e = record {
 
     k : Take p (line - 1) device
     k =
-        take_asked p line device (at_midday_lem (board_at midday) p w)
+        take_asked p line device (at_midday_lem midday p w)
         (not_refused (is_take_of p line) (NotATake line) (test 2))
         (leb-false devices device (passed (leb devices device) (NoSuchDevice device) (test 3)))

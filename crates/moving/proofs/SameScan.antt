@@ -1,15 +1,15 @@
 -- What the scan of a plan leaves; and that the edited plan has the same first lines, starts and way, so that the scan
 -- serves it too, and as many lines, so that the same sets are counted.
 use Prim.Native.Nat.{ℕ, zero, suc}
-use mathlib.Core.Bool.{Bool}
+use mathlib.Core.Bool.{Bool, true, false}
 use mathlib.Core.List.{List, map}
 use mathlib.Core.Option.{Option, none}
 use mathlib.Core.Path.{◌≡◌, refl, ◌∙◌, ap, fun_ext}
 use lib.ListN.{length}
 use Rattle.model.specs.Lists.{up_from, positions, first_of}
 use Rattle.model.specs.Line.{job, starts, at, max_job}
-use Rattle.model.specs.Board.{board_at}
-use Rattle.model.specs.WellFormed.{fault}
+use Rattle.model.specs.Board.{devices, board_at, board}
+use Rattle.model.specs.WellFormed.{WellFormed, fault}
 use Rattle.model.specs.Move.{way_in, way, changed}
 use Rattle.model.specs.declared.Refusal.{Refusal}
 use Rattle.plan.specs.Ends.{left_by, ScansAs}
@@ -17,14 +17,19 @@ use Rattle.plan.specs.Jobs.{number_of_first, number_of_found, first_lines, start
 use Rattle.plan.specs.Again.{again_flags}
 use Rattle.plan.specs.declared.Checked.{Checked}
 use Rattle.theory.proofs.Edited.{Alike, same_first, same_starts}
-use Rattle.theory.proofs.WellFormed.{no_fault_exactly, at_midday_lem}
+use Rattle.theory.proofs.WellFormed.{no_fault_exactly, morning_midday}
 use Rattle.way.specs.Known.{Scanned}
 
-pub is_scanned : (midday : Bool) (p first starter again : List ℕ) (answer : Checked) (first' starter' again' : List ℕ)
-    → ScansAs (board_at midday) p first starter again answer first' starter' again' → fault (board_at midday) p ≡ none
+-- a plan of the morning is well-formed at midday too
+pub at_midday_lem : (midday : Bool) (p : List ℕ) → WellFormed (board_at midday) p → WellFormed (board_at true) p
+at_midday_lem true p w = w
+at_midday_lem false p w = morning_midday devices p w
+
+pub is_scanned : (p first starter again : List ℕ) (answer : Checked) (first' starter' again' : List ℕ)
+    → ScansAs board p first starter again answer first' starter' again' → fault board p ≡ none
     → Scanned p first' starter' again'
-is_scanned midday p first starter again answer first' starter' again' s e = record {
-  well_formed = at_midday_lem (board_at midday) p ((no_fault_exactly (board_at midday) p).0 e);
+is_scanned p first starter again answer first' starter' again' s e = record {
+  well_formed = at_midday_lem false p ((no_fault_exactly board p).0 e);
   firsts = s.firsts ∙ ap (λ (o : Option Refusal). left_by o (first_lines p) first) e;
   starts = s.starts ∙ ap (λ (o : Option Refusal). left_by o (starters p) starter) e;
   agains = s.agains ∙ ap (λ (o : Option Refusal). left_by o (again_flags p) again) e;

@@ -1,14 +1,13 @@
 // Moving a claim (01, "Moving a claim") to another device, with the give that belongs to the take, and joining anew the
 // sets on the way and under the take. A take may be moved onto a device that its job holds, and away from one (02,
-// request 2). After the tests of the plan all the work is along the way, or in the moved take's job. The plan is one of
-// the morning or taken up at midday (02, request 5): only its tests differ. A held line is no take, and is not moved.
+// request 2). After the tests of the plan all the work is along the way, or in the moved take's job.
 ghost use Rattle.std.specs.Prelude.{◌≡◌, true, false, ◌&&◌, ◌%◌, ◌^◌, ◌-◌, ◌≤◌, ◌<◌, eqb};
 ghost use Rattle.model.specs.Lists.{has};
 ghost use Rattle.model.specs.Answers.{first_refusal};
 ghost use Rattle.model.specs.Line.{operand, opens, is_take, is_give};
 ghost use Rattle.model.specs.WellFormed.{held_there};
 ghost use Rattle.model.specs.Move.{with_device, edited, asked_at, is_take_of};
-ghost use Rattle.model.specs.Board.{devices, board, board_at};
+ghost use Rattle.model.specs.Board.{devices, board};
 ghost use Rattle.line.specs.Device.{device_bits};
 ghost use Rattle.theory.specs.Remarked.{names, again_after, open_after};
 ghost use Rattle.mates.specs.Span.{span_of, stop_of};
@@ -222,25 +221,23 @@ fn asked(
     TestAnswer::Refused(Refusal::NotATake(line))
 }
 
-// All tests of a move, in their order: 2 to 7, 16 and 17 of the plan; 11, 12, 13, 14. Of a plan without a fault the
-// arrays have each job's first line, the line that starts it, the flags of the lines that take again, and what each job
-// holds at its end.
+// All tests of a move, in their order: 2 to 7, 11, 12, 13, 14. Of a plan without a fault the arrays have each job's
+// first line, the line that starts it, the flags of the lines that take again, and what each job holds at its end.
 fn tested(
     plan: &[u32],
     sets: &[Set],
     line: u32,
     device: u32,
-    midday: bool,
     first: &mut [u32; EACH_JOB],
     starter: &mut [u32; EACH_JOB],
     again: &mut [u8; MOST_LINES],
     holdings: &mut [Set; EACH_JOB],
 ) -> TestAnswer
-    ensures { TestsAs (board_at midday) plan.now sets.now line device first.old
+    ensures { TestsAs board plan.now sets.now line device first.old
         starter.old again.old holdings.old result first.new starter.new
         again.new holdings.new }
 {
-    if let Checked::Refused(r) = plan::scan_holding(plan, midday, first, starter, again, holdings) {
+    if let Checked::Refused(r) = plan::scan_holding(plan, false, first, starter, again, holdings) {
         return TestAnswer::Refused(r);
     }
     asked(plan, sets, line, device, first, starter, again)
@@ -306,19 +303,16 @@ pub fn move_through(
     sets: &mut [Set],
     line: u32,
     device: u32,
-    midday: bool,
     first: &mut [u32; EACH_JOB],
     starter: &mut [u32; EACH_JOB],
     again: &mut [u8; MOST_LINES],
     holdings: &mut [Set; EACH_JOB],
 ) -> Through
-    ensures { MovesThrough (board_at midday) plan.old sets.old line device
-        first.old starter.old again.old holdings.old result plan.new
-        sets.new first.new starter.new again.new holdings.new }
+    ensures { MovesThrough board plan.old sets.old line device first.old
+        starter.old again.old holdings.old result plan.new sets.new
+        first.new starter.new again.new holdings.new }
 {
-    match tested(
-        plan, sets, line, device, midday, first, starter, again, holdings,
-    ) {
+    match tested(plan, sets, line, device, first, starter, again, holdings) {
         TestAnswer::Refused(r) => Through::Refused(r),
         TestAnswer::Passes(span) => {
             let i = (line - 1) as usize;
@@ -329,9 +323,9 @@ pub fn move_through(
 }
 
 // Moves the claim of a line, by its number from 1, to a device: the take and its give get the device, and the sets on
-// the way and under the take are joined anew. A refusal (2 to 7, 11 to 14, 16, 17) leaves plan and table as they were.
-fn move_at(plan: &mut [u32], sets: &mut [Set], line: u32, device: u32, midday: bool) -> MoveAnswer
-    ensures { MovesAs (board_at midday) plan.old sets.old line device result plan.new
+// the way and under the take are joined anew. A refusal (2 to 7, 11 to 14) leaves plan and table as they were.
+pub fn move_claim(plan: &mut [u32], sets: &mut [Set], line: u32, device: u32) -> MoveAnswer
+    ensures { MovesAs board plan.old sets.old line device result plan.new
         sets.new }
 {
     let mut first = [0u32; EACH_JOB];
@@ -343,7 +337,6 @@ fn move_at(plan: &mut [u32], sets: &mut [Set], line: u32, device: u32, midday: b
         sets,
         line,
         device,
-        midday,
         &mut first,
         &mut starter,
         &mut again,
@@ -352,20 +345,4 @@ fn move_at(plan: &mut [u32], sets: &mut [Set], line: u32, device: u32, midday: b
         Through::Refused(r) => MoveAnswer::Refused(r),
         Through::Moved(count, stop) => MoveAnswer::Changed(count),
     }
-}
-
-// The move of a claim in a plan of the morning (01, "Moving a claim").
-pub fn move_claim(plan: &mut [u32], sets: &mut [Set], line: u32, device: u32) -> MoveAnswer
-    ensures { MovesAs board plan.old sets.old line device result plan.new
-        sets.new }
-{
-    move_at(plan, sets, line, device, false)
-}
-
-// The move of a claim in a plan that is taken up at midday (02, request 5).
-pub fn resume_move(plan: &mut [u32], sets: &mut [Set], line: u32, device: u32) -> MoveAnswer
-    ensures { MovesAs (board_at true) plan.old sets.old line device result plan.new
-        sets.new }
-{
-    move_at(plan, sets, line, device, true)
 }

@@ -9,7 +9,7 @@ use Rattle.theory.specs.Outer.{again_at}
 use Rattle.theory.proofs.Tests.{le_or_lt}
 use Rattle.theory.proofs.Claims.{length_up_from, get_or_up_from}
 use Rattle.plan.specs.Again.{again_flag, again_flags, none_again}
-use Rattle.plan.proofs.Tables.{up_to_lem}
+use Rattle.plan.proofs.Tables.{up_to}
 
 -- the flags of the first i lines, and none after them
 pub record Flagged (p : List ℕ) (i : ℕ) (again : List ℕ) : Type 0 where
@@ -33,7 +33,7 @@ pub one_flagged : (p : List ℕ) (i : ℕ) (again : List ℕ) (b : Bool) → i <
 unfolding again_flag
 one_flagged p i again b few e f = record {
   long = length-set again i (bool_byte b) ∙ f.long;
-  flags = up_to_lem (λ k. get_or (set again i (bool_byte b)) k 0 ≡ again_flag p k) i here
+  flags = up_to (λ k. get_or (set again i (bool_byte b)) k 0 ≡ again_flag p k) i here
       (λ k h. get_or-set_other again i k (bool_byte b) 0 (λ q. omega arith) ∙ f.flags k h);
   others = λ k h. get_or-set_other again i k (bool_byte b) 0 (λ q. omega arith) ∙ f.others k (omega arith);
 }

@@ -6,7 +6,7 @@ use Rattle.theory.proofs.Tests.{test, and_split, and_true, or_split, or_neither}
 use Rattle.model.specs.declared.Refusal.TheVariants.{BadStart, NeverStarted}
 use Rattle.plan.specs.Ends.{Empty, Unstarted, lower_of, earlier_of, EndsAs, empty, never, neither}
 use Rattle.plan.specs.declared.Checked.{Checked}
-use Rattle.plan.proofs.Tables.{up_to_lem}
+use Rattle.plan.proofs.Tables.{up_to}
 
 -- the lowest line that starts one of the jobs below j that have no lines; 0 is no line
 pub data Low (first starter : List ℕ) (j : ℕ) : ℕ → Type 0 where
@@ -66,16 +66,16 @@ module _ (first starter : List ℕ) (j : ℕ) (l : 2 ≤ j) (h : j ≤ max_job) 
       go (inl t) =
           rw t
           (found j (is_better 0 t).0
-          (up_to_lem (λ k. Empty first starter k → s ≤ get_or starter k 0) j (λ e. omega arith)
+          (up_to (λ k. Empty first starter k → s ≤ get_or starter k 0) j (λ e. omega arith)
           (λ k b e. absurd (none k b e))))
-      go (inr t) = rw t (nothing (up_to_lem (λ k. Empty first starter k → ⊥) j (λ e. (no_better 0 t e).0 refl) none))
+      go (inr t) = rw t (nothing (up_to (λ k. Empty first starter k → ⊥) j (λ e. (no_better 0 t e).0 refl) none))
   low_on m (found k e least) = rw add-one (go (test (better m)))
     where
       go : (better m ≡ true) ⊎ (better m ≡ false) → Low first starter (suc j) (lower_of m f s)
       go (inl t) =
           rw t
           (found j (is_better m t).0
-          (up_to_lem (λ i. Empty first starter i → s ≤ get_or starter i 0) j (λ z. omega arith)
+          (up_to (λ i. Empty first starter i → s ≤ get_or starter i 0) j (λ z. omega arith)
           (λ i b z. lower (is_better m t).1 (least i b z))))
         where
           lower : (m ≡ 0) ⊎ (s < m) → {n : ℕ} → m ≤ n → s ≤ n
@@ -83,7 +83,7 @@ module _ (first starter : List ℕ) (j : ℕ) (l : 2 ≤ j) (h : j ≤ max_job) 
           lower (inr q) c = omega arith
       go (inr t) =
           rw t
-          (found k e (up_to_lem (λ i. Empty first starter i → get_or starter k 0 ≤ get_or starter i 0) j
+          (found k e (up_to (λ i. Empty first starter i → get_or starter k 0 ≤ get_or starter i 0) j
           (λ z. (no_better (get_or starter k 0) t z).1) least))
 
   pub never_on : (m : ℕ) → Never first starter j m → Never first starter (j + 1) (earlier_of m f s)
@@ -94,13 +94,13 @@ module _ (first starter : List ℕ) (j : ℕ) (l : 2 ≤ j) (h : j ≤ max_job) 
           → Never first starter (suc j) (earlier_of 0 f s)
       go (inl t) (inl z) =
           rw (t, eqb-true f 0 z)
-          (nothing (up_to_lem (λ k. Unstarted first starter k → ⊥) j (λ u. omega (arith, u.lined, eqb-true f 0 z)) none))
+          (nothing (up_to (λ k. Unstarted first starter k → ⊥) j (λ u. omega (arith, u.lined, eqb-true f 0 z)) none))
       go (inl t) (inr z) =
           let n = eqb-false f 0 z in
           rw t
           (found j (record { low = l; high = h; lined = omega arith; startless = eqb-true s 0 t }) none)
       go (inr t) z =
-          rw t (nothing (up_to_lem (λ k. Unstarted first starter k → ⊥) j (λ u. eqb-false s 0 t u.startless) none))
+          rw t (nothing (up_to (λ k. Unstarted first starter k → ⊥) j (λ u. eqb-false s 0 t u.startless) none))
 
 -- all jobs have come up
 module _ (midday : Bool) (first starter : List ℕ) where

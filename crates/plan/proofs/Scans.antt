@@ -14,7 +14,7 @@ use Rattle.plan.specs.Ends.{EndsAs, WholeAs, left_by, ScansHoldingAs}
 use Rattle.plan.specs.declared.Checked.{Checked}
 use Rattle.plan.proofs.Answers.{told, untold}
 use Rattle.plan.proofs.LastFaults.{ends_find}
-use Rattle.plan.proofs.Tables.{firsts_are_lem, starters_are_lem}
+use Rattle.plan.proofs.Tables.{firsts_are_lem, starters_are}
 
 module _ (S : Settings) (p first starter again left : List ℕ) where
   -- a line is refused
@@ -33,7 +33,7 @@ module _ (S : Settings) (p first starter again left : List ℕ) where
   past_the_lines r w notes e =
       let t = w.tables refl in record {
         answers = ends_find S p first starter t r e (untold (first_fault S [] p) w.answers);
-        tables = λ z. (firsts_are_lem S p first starter t, starters_are_lem S p first starter t, notes);
+        tables = λ z. (firsts_are_lem S p first starter t, starters_are S p first starter t, notes);
       }
 
   -- what is left in the lent lists

@@ -264,17 +264,17 @@ module _ (S : Settings) (small : S.devices ≤ held_from) (p : List ℕ) (i prev
     unfolding job_before held_before before any
     onward held' starter' e h n f = record {
       tables = record {
-        lines = Tab.up_to_lem (λ k. is_line S (at p k) ≡ true) i line s.tables.lines;
+        lines = Tab.up_to (λ k. is_line S (at p k) ≡ true) i line s.tables.lines;
         first_long = length-set first (job l) entry ∙ s.tables.first_long;
         starter_long = n;
         firsts = firsts;
         starters = f;
       };
-      jobs = Tab.up_to_lem (λ k. job (at p k) ≤ job l) i (omega arith) (λ k b. no_higher k b which);
+      jobs = Tab.up_to (λ k. job (at p k) ≤ job l) i (omega arith) (λ k b. no_higher k b which);
       prev_is = refl;
       names = names_on;
       early_is = refl;
-      all_early = λ t. Tab.up_to_lem (λ k. job (at p k) ≡ job l → is_held (at p k) ≡ true) i (λ q. t) (only_held e t);
+      all_early = λ t. Tab.up_to (λ k. job (at p k) ≡ job l → is_held (at p k) ≡ true) i (λ q. t) (only_held e t);
       held_is_lem = h;
     }
       where

@@ -15,8 +15,8 @@ use Rattle.theory.proofs.Claims.{length_up_from, get_or_up_from}
 use Rattle.plan.specs.Tables.{First, nothing, found, Tables}
 
 -- what holds below i, and at i, holds below the next
-pub up_to_lem : (P : ℕ → Type 0) (i : ℕ) → P i → ((k : ℕ) → k < i → P k) → (k : ℕ) → k < suc i → P k
-up_to_lem P i here f k h = go (test (eqb k i))
+pub up_to : (P : ℕ → Type 0) (i : ℕ) → P i → ((k : ℕ) → k < i → P k) → (k : ℕ) → k < suc i → P k
+up_to P i here f k h = go (test (eqb k i))
   where
     go : (eqb k i ≡ true) ⊎ (eqb k i ≡ false) → P k
     go (inl e) = rw (eqb-true k i e) here
@@ -25,7 +25,7 @@ up_to_lem P i here f k h = go (test (eqb k i))
 module _ (f : ℕ → Bool) (p : List ℕ) (i : ℕ) where
   -- one line more
   pub stays : (m : ℕ) → f (at p i) ≡ false → First f p i m → First f p (suc i) m
-  stays m e (nothing h) = nothing (up_to_lem (λ k. f (at p k) ≡ false) i e h)
+  stays m e (nothing h) = nothing (up_to (λ k. f (at p k) ≡ false) i e h)
   stays m e (found k b t low) = found k (omega arith) t low
 
   pub kept : (m : ℕ) → (m ≡ 0 → ⊥) → First f p i m → First f p (suc i) m
@@ -145,8 +145,8 @@ module _ (S : Settings) (p first starter : List ℕ) (t : Tables S p (length p) 
       table_is_lem (λ j. number_of_first (first_line j p)) first t.first_long
       (λ j h. first_line_lem j p (get_or first j 0) (t.firsts j h))
 
-  pub starters_are_lem : starter ≡ starters p
+  pub starters_are : starter ≡ starters p
   unfolding starters
-  starters_are_lem =
+  starters_are =
       table_is_lem (λ j. number_of_found (first_of (λ i. starts (at p i) j) (positions p))) starter t.starter_long
       (λ j h. first_found (λ l. starts l j) p (get_or starter j 0) (t.starters j h))

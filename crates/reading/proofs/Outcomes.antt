@@ -27,7 +27,7 @@ module _ (S : Settings) (lines lent : List ℕ) where
   tests : Option Refusal
   tests = first_refusal (fault S lines ∷ too_short (length lent) (length lines) ∷ [])
 
-  -- 2 to 7, 16 and 17
+  -- 2 to 7
   pub keeps_fault : (r : Refusal) → fault S lines ≡ some r → KeepsAs S lines lent (ReadAnswer.Refused r) lent
   unfolding tests first_refusal
   keeps_fault r e =

@@ -1,9 +1,8 @@
 // Reading a plan (01, "The plan as text" and "Refusal numbers"): a text into a lent list of packed numbers. The lines
-// are gathered in a list of its own and tested there, so that a refusal leaves the lent list as it was. The plan is one
-// of the morning or taken up at midday (02, request 5).
-ghost use Rattle.std.specs.Prelude.{◌≤◌, true, [], ◌≡◌, length};
+// are gathered in a list of its own and tested there, so that a refusal leaves the lent list as it was.
+ghost use Rattle.std.specs.Prelude.{◌≤◌, [], ◌≡◌, length};
 ghost use Rattle.std.proofs.Math.Option.{get_or};
-ghost use Rattle.model.specs.Board.{board, board_at};
+ghost use Rattle.model.specs.Board.{board};
 ghost use Rattle.model.specs.Line.{max_lines};
 ghost use Rattle.model.specs.Lists.{over};
 ghost use Rattle.model.specs.WellFormed.{first_fault};
@@ -28,10 +27,10 @@ fn copy_numbers(from: &[u32], to: &mut [u32])
 }
 
 // Where the reader stopped, an earlier line's own fault decides over the refusal.
-fn first_fault(lines: &[u32], midday: bool, r: Refusal) -> Refusal
-    ensures { result ≡ get_or (first_fault (board_at midday) [] lines.now) r }
+fn first_fault(lines: &[u32], r: Refusal) -> Refusal
+    ensures { result ≡ get_or (first_fault board [] lines.now) r }
 {
-    match plan::lines_fault(lines, midday) {
+    match plan::lines_fault(lines, false) {
         Checked::Refused(q) => {
             return q;
         }
@@ -42,11 +41,11 @@ fn first_fault(lines: &[u32], midday: bool, r: Refusal) -> Refusal
 }
 
 // All lines of a text into the lent list, if they are a plan without a fault and the list is long enough.
-fn keep(lines: &[u32], midday: bool, plan: &mut [u32]) -> ReadAnswer
+fn keep(lines: &[u32], plan: &mut [u32]) -> ReadAnswer
     requires { length lines.now ≤ max_lines }
-    ensures { KeepsAs (board_at midday) lines.now plan.old result plan.new }
+    ensures { KeepsAs board lines.now plan.old result plan.new }
 {
-    match plan::fault(lines, midday) {
+    match plan::fault(lines, false) {
         Checked::Refused(r) => {
             return ReadAnswer::Refused(r);
         }
@@ -59,34 +58,20 @@ fn keep(lines: &[u32], midday: bool, plan: &mut [u32]) -> ReadAnswer
     ReadAnswer::Lines(lines.len() as u32)
 }
 
-// A text into a lent list of packed numbers, in the morning or at midday.
-fn read_at(text: &[u8], midday: bool, plan: &mut [u32]) -> ReadAnswer
-    ensures { ReadsAs (board_at midday) text.now plan.old result plan.new }
+// A text into a lent list of packed numbers.
+pub fn read(text: &[u8], plan: &mut [u32]) -> ReadAnswer
+    ensures { ReadsAs board text.now plan.old result plan.new }
 {
     if MOST_BYTES < text.len() {
         return ReadAnswer::Refused(Refusal::TextTooLong);
     }
     let mut found = [0u32; MOST_LINES];
-    match lines::gather(text, midday, &mut found) {
+    match lines::gather(text, false, &mut found) {
         Gathered::Stopped(n, r) => {
-            return ReadAnswer::Refused(first_fault(&found[..n], midday, r));
+            return ReadAnswer::Refused(first_fault(&found[..n], r));
         }
         Gathered::All(n) => {
-            return keep(&found[..n], midday, plan);
+            return keep(&found[..n], plan);
         }
     }
-}
-
-// The text of a plan of the morning.
-pub fn read(text: &[u8], plan: &mut [u32]) -> ReadAnswer
-    ensures { ReadsAs board text.now plan.old result plan.new }
-{
-    read_at(text, false, plan)
-}
-
-// The text of a plan that is taken up at midday (02, request 5), which may have held lines.
-pub fn resume_read(text: &[u8], plan: &mut [u32]) -> ReadAnswer
-    ensures { ReadsAs (board_at true) text.now plan.old result plan.new }
-{
-    read_at(text, true, plan)
 }

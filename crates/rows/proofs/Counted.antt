@@ -1,79 +1,85 @@
--- The sets of the devices kept to the end and held twice, by counting the lines that keep a device going back (01,
--- "Claims and rows"; 02, request 5).
+-- The sets of the devices held to the end and held twice, by counting lasting takes going back (01, "Claims and rows").
 use Rattle.std.proofs.Common.{◌≡◌, ℕ, zero, suc, ◌-◌, ◌%◌, ◌^◌, ◌<◌, ◌≤◌, Bool, true, false, cond, ◌&&◌, ◌||◌, eqb, leb, List, [], ◌∷◌, length, get_or, drop, sym, refl, ap, ◌∙◌, arith, length-drop, drop_of_length-le, drop-cons, le-leb}
 use mathlib.Core.Option.{none}
-use Rattle.model.specs.Board.{devices, board_at}
+use Rattle.model.specs.Board.{devices, board}
 use Rattle.model.specs.Lists.{up_from, positions, any, those}
-use Rattle.model.specs.Line.{job, operand, opens, is_take, is_give, at, max_lines}
-use Rattle.model.specs.Mate.{takes_at, device_at, takes, mate, is_none, lasting_at, lasting, keeps}
+use Rattle.model.specs.Line.{job, operand, is_held, is_take, at, max_lines}
+use Rattle.model.specs.Mate.{takes_at, device_at, takes, mate, is_none, lasting_at, lasting}
 use Rattle.model.specs.Sets.{empty, union, member}
-use Rattle.model.specs.WellFormed.{WellFormed, fault}
+use Rattle.model.specs.Rows.{lasting_takes}
+use Rattle.model.specs.WellFormed.{fault}
 use Rattle.theory.specs.Outer.{plain, plain_at}
-use Rattle.theory.proofs.Tests.{and_right, and_split, or_left}
-use Rattle.theory.proofs.Line.{take_no_held, own_device, device_rest}
+use Rattle.theory.proofs.Tests.{and_right, and_split}
+use Rattle.theory.proofs.Line.{take_no_held, own_device}
+use Rattle.theory.proofs.Claims.{outermost}
 use Rattle.theory.proofs.Sets.{member_empty, member_union, empty_below, union_below}
 use Rattle.model.specs.Verdict.{keepers}
 use Rattle.theory.proofs.WellFormed.{no_fault_exactly}
-use Rattle.line.specs.Device.{device_bits}
+use Rattle.theory.proofs.Morning.{keepers_lasting}
 use Rattle.sets.specs.Only.{only_of}
 use Rattle.sets.specs.Both.{both}
 use Rattle.sets.proofs.Members.{member_only_of, member_both, only_of_below, both_below}
 use Rattle.plan.specs.Again.{again_flags}
 use Rattle.plan.proofs.Again.{plain_is}
 use Rattle.rows.specs.declared.Passed.{Passed}
-use Rattle.rows.specs.Lasting.{kept_to_end, held_twice, wanted_before, wanted_after}
-use Rattle.rows.specs.Holds.{HeldAs, PassedOn, kept_by}
+use Rattle.model.specs.Kept.{lasts_among, lasts_in, held_to_end}
+use Rattle.rows.specs.Lasting.{held_twice, wanted_before, wanted_after}
+use Rattle.rows.specs.Holds.{HeldAs, PassedOn}
 use Rattle.theory.proofs.Where.{is_where}
 use Rattle.rows.proofs.Wanted.{wanted, wanted_few, Wanting, none_wanting, after_is, wanting_on, lasts_is_lem}
-use Rattle.rows.proofs.Wanted.{keeps_is, opens_too, and_turned}
+
+-- ---- the lasting takes of a device from a line on
 
 -- a lasting take of a device is a lasting take, and its device is that one
 pub lasting_is : (p : List ℕ) (i d : ℕ) → lasting p i d ≡ (lasting_at p i && eqb (device_at p i) d)
 unfolding lasting takes lasting_at
-lasting_is p i d = and_turned (takes_at p i) (eqb (device_at p i) d) (is_none (mate p i))
+lasting_is p i d = go (takes_at p i) (eqb (device_at p i) d) (is_none (mate p i))
+  where
+    go : (x y z : Bool) → ((x && y) && z) ≡ ((x && z) && y)
+    go true true true = refl
+    go true true false = refl
+    go true false true = refl
+    go true false false = refl
+    go false y z = refl
 
--- ---- the lines that pass a test, from line i on
+abbrev pub takes_from : List ℕ → ℕ → ℕ → List ℕ
+takes_from p d i = those (λ k. lasting p k d) (up_from i (length p - i))
 
-abbrev pub those_from : (ℕ → Bool) → List ℕ → ℕ → List ℕ
-those_from f p i = those f (up_from i (length p - i))
+pub takes_past : (p : List ℕ) (d : ℕ) → takes_from p d (length p) ≡ []
+unfolding those up_from
+takes_past p d = let z : length p - length p ≡ 0 = omega arith in rw z
 
-module _ (f : ℕ → Bool) (p : List ℕ) where
-  pub none_past : those_from f p (length p) ≡ []
-  unfolding those up_from
-  none_past = let z : length p - length p ≡ 0 = omega arith in rw z
+pub takes_on : (p : List ℕ) (d k : ℕ) (b : Bool) → k < length p → lasting p k d ≡ b
+    → takes_from p d k ≡ cond b (k ∷ takes_from p d (suc k)) (takes_from p d (suc k))
+unfolding those up_from
+takes_on p d k true h e = let z : length p - k ≡ suc (length p - suc k) = omega arith in rw (z, those, e)
+takes_on p d k false h e = let z : length p - k ≡ suc (length p - suc k) = omega arith in rw (z, those, e)
 
-  pub one_on : (k : ℕ) (b : Bool) → k < length p → f k ≡ b
-      → those_from f p k ≡ cond b (k ∷ those_from f p (suc k)) (those_from f p (suc k))
-  unfolding those up_from
-  one_on k true h e = let z : length p - k ≡ suc (length p - suc k) = omega arith in rw (z, those, e)
-  one_on k false h e = let z : length p - k ≡ suc (length p - suc k) = omega arith in rw (z, those, e)
+pub takes_all : (p : List ℕ) (d : ℕ) → takes_from p d 0 ≡ lasting_takes p d
+unfolding lasting_takes positions
+takes_all p d = let z : length p - 0 ≡ length p = omega arith in rw z
 
-  pub all_from_0 : those_from f p 0 ≡ those f (positions p)
-  unfolding positions
-  all_from_0 = let z : length p - 0 ≡ length p = omega arith in rw z
-
--- how many lines keep a device
+-- how many they are
 abbrev how_many : List ℕ → ℕ → ℕ → ℕ
-how_many p d i = length (those_from (λ k. keeps p k d) p i)
+how_many p d i = length (takes_from p d i)
 
-more_on : (p : List ℕ) (d k : ℕ) (b : Bool) → k < length p → keeps p k d ≡ b
+more_on : (p : List ℕ) (d k : ℕ) (b : Bool) → k < length p → lasting p k d ≡ b
     → how_many p d k ≡ cond b (suc (how_many p d (suc k))) (how_many p d (suc k))
-more_on p d k true h e = ap length (one_on (λ k. keeps p k d) p k true h e)
-more_on p d k false h e = ap length (one_on (λ k. keeps p k d) p k false h e)
+more_on p d k true h e = ap length (takes_on p d k true h e)
+more_on p d k false h e = ap length (takes_on p d k false h e)
 
 -- ---- the line at hand: it has its flag, and counts by it
 
-module _ (p again : List ℕ) (k : ℕ) (pre : (fault (board_at true) p ≡ none) × (again ≡ again_flags p))
-    (h : k < length p) where
+module _ (p again : List ℕ) (k : ℕ) (pre : (fault board p ≡ none) × (again ≡ again_flags p)) (h : k < length p) where
   pub has_flag : k < max_lines
-  has_flag = omega (arith, ((no_fault_exactly (board_at true) p).0 pre.0).few)
+  has_flag = omega (arith, ((no_fault_exactly board p).0 pre.0).few)
 
   pub counts_as : plain (eqb (get_or again k 0) 1) (at p k) ≡ plain_at p k
   counts_as = plain_is p again k pre.1 has_flag
 
 -- ---- the walk back
 
--- the two sets have what the lines from line i on keep
+-- the two sets have the lasting takes from line i on
 pub record Counted (p : List ℕ) (passed : Passed) (i : ℕ) : Type 0 where
   pub in_plan : i ≤ length p
   pub held_below : passed.held < 2 ^ devices
@@ -93,8 +99,8 @@ none_counted p = record {
   in_plan = omega arith;
   held_below = empty_below devices;
   twice_below = empty_below devices;
-  held_is = λ d h. member_empty d ∙ sym (ap (λ xs. leb 1 (length xs)) (none_past (λ k. keeps p k d) p));
-  twice_is = λ d h. member_empty d ∙ sym (ap (λ xs. leb 2 (length xs)) (none_past (λ k. keeps p k d) p));
+  held_is = λ d h. member_empty d ∙ sym (ap (λ xs. leb 1 (length xs)) (takes_past p d));
+  twice_is = λ d h. member_empty d ∙ sym (ap (λ xs. leb 2 (length xs)) (takes_past p d));
 }
 
 pub none_known : (p : List ℕ)
@@ -112,53 +118,39 @@ unfolding device_at
 taken_operand p k t = own_device (at p k) (take_no_held (at p k) t)
 
 -- one line further back
-module _ (p : List ℕ) (fine : WellFormed (board_at true) p) (old new : Passed) (k : ℕ) (m : Counted p old (suc k))
+module _ (p : List ℕ) (few : length p ≤ max_lines) (old new : Passed) (k : ℕ) (m : Counted p old (suc k))
     (w : Knows p old (suc k)) (n : PassedOn new old (at p k) (plain_at p k)) where
-  abbrev after : ℕ
-  after = wanted_after (at p k) old.job old.wanted
-
   pub lasts_made : new.lasts ≡ lasting_at p k
   lasts_made = n.lasts_is ∙ lasts_is_lem (at p k) (drop (suc k) p) old.job old.wanted (w k refl) p k refl refl
 
-  -- the set of its device, if it keeps it
+  -- the set of its device, if it lasts
   abbrev one : ℕ
-  one = kept_by (at p k) (plain_at p k) after
+  one = cond new.lasts (only_of devices (operand (at p k))) empty
 
-  abbrev stays : Bool
-  stays = opens (plain_at p k) && eqb after 0
-
-  -- the device of what opens a stretch is what its number leaves
-  device_is : (b : Bool) → stays ≡ b → (d : ℕ)
-      → (b && eqb (device_bits (at p k)) d) ≡ (b && eqb (device_at p k) d)
-  unfolding device_at
-  device_is false e d = refl
-  device_is true e d =
-      let l = at p k in
-      let o = opens_too p k (and_split (opens (plain_at p k)) (eqb after 0) e).0 in
-      ap (λ (x : ℕ). eqb x d)
-      (device_rest (board_at true) (omega arith) l (fine.lines k m.in_plan) (or_left (opens l) (is_give l) o))
-
-  member_one : (d : ℕ) → d < devices → member one d ≡ keeps p k d
+  member_one : (d : ℕ) → d < devices → member one d ≡ lasting p k d
   member_one d h =
-      go stays ∙ device_is stays refl d
-      ∙ keeps_is (at p k) (drop (suc k) p) old.job old.wanted (w k refl) p k refl refl d
+      go new.lasts ∙ ap (λ b. b && eqb (operand (at p k)) d) lasts_made
+      ∙ (own (lasting_at p k) refl ∙ sym (lasting_is p k d))
     where
-      go : (b : Bool) → member (cond b (only_of devices (device_bits (at p k))) empty) d
-          ≡ (b && eqb (device_bits (at p k)) d)
-      go true = member_only_of devices (device_bits (at p k)) d h
+      own : (b : Bool) → lasting_at p k ≡ b → (b && eqb (operand (at p k)) d) ≡ (b && eqb (device_at p k) d)
+      own false e = refl
+      own true e = rw (taken_operand p k (outermost p k (lasting_takes_lem p k e)).0)
+
+      go : (b : Bool) → member (cond b (only_of devices (operand (at p k))) empty) d ≡ (b && eqb (operand (at p k)) d)
+      go true = member_only_of devices (operand (at p k)) d h
       go false = member_empty d
 
   one_below : one < 2 ^ devices
-  one_below = go stays
+  one_below = go new.lasts
     where
-      go : (b : Bool) → cond b (only_of devices (device_bits (at p k))) empty < 2 ^ devices
-      go true = only_of_below devices (device_bits (at p k))
+      go : (b : Bool) → cond b (only_of devices (operand (at p k))) empty < 2 ^ devices
+      go true = only_of_below devices (operand (at p k))
       go false = empty_below devices
 
   held_on : (d : ℕ) → d < devices → member (union one old.held) d ≡ leb 1 (how_many p d k)
   held_on d h =
       member_union one old.held d ∙ rw (member_one d h, m.held_is d h, more_on p d k _ m.in_plan refl)
-      (go (keeps p k d) (how_many p d (suc k)))
+      (go (lasting p k d) (how_many p d (suc k)))
     where
       go : (b : Bool) (n : ℕ) → (b || leb 1 n) ≡ leb 1 (cond b (suc n) n)
       go true n = sym (le-leb 1 (suc n) (omega arith))
@@ -168,7 +160,7 @@ module _ (p : List ℕ) (fine : WellFormed (board_at true) p) (old new : Passed)
   twice_on d h =
       member_union (both old.held one) old.twice d
       ∙ rw (member_both old.held one d, member_one d h, m.held_is d h, m.twice_is d h)
-      (rw (more_on p d k _ m.in_plan refl) (go (keeps p k d) (how_many p d (suc k))))
+      (rw (more_on p d k _ m.in_plan refl) (go (lasting p k d) (how_many p d (suc k))))
     where
       go : (b : Bool) (n : ℕ) → ((leb 1 n && b) || leb 2 n) ≡ leb 2 (cond b (suc n) n)
       go true zero = refl
@@ -185,7 +177,7 @@ module _ (p : List ℕ) (fine : WellFormed (board_at true) p) (old new : Passed)
         on.wanted_is,
         wanted_few (job (at p k)) (at p k ∷ drop (suc k) p),
         length-drop (suc k) p,
-        fine.few,
+        few,
       ) in
       rw (n.job_is, n.wanted_is, small) on
 
@@ -204,9 +196,9 @@ module _ (p : List ℕ) (fine : WellFormed (board_at true) p) (old new : Passed)
     twice_is = rw n.twice_is twice_on;
   }
 
--- one line further back that keeps no device
-pub counted_past : (p : List ℕ) (passed : Passed) (k : ℕ) → ((d : ℕ) → keeps p k d ≡ false)
-    → Counted p passed (suc k) → Counted p passed k
+-- one line further back that is no lasting take
+pub counted_past : (p : List ℕ) (passed : Passed) (k : ℕ) → lasting_at p k ≡ false → Counted p passed (suc k)
+    → Counted p passed k
 counted_past p passed k e m = record {
   in_plan = omega (arith, m.in_plan);
   held_below = m.held_below;
@@ -216,7 +208,7 @@ counted_past p passed k e m = record {
 }
   where
     same : (d : ℕ) → how_many p d k ≡ how_many p d (suc k)
-    same d = more_on p d k false m.in_plan (e d)
+    same d = more_on p d k false m.in_plan (lasting_is p k d ∙ rw e)
 
 -- at the front the sets are the plan's
 some_take : (f : ℕ → Bool) (xs : List ℕ) → leb 1 (length (those f xs)) ≡ any f xs
@@ -229,14 +221,15 @@ some_take f (x ∷ xs) = go (f x) (some_take f xs)
     go true ih = le-leb 1 (suc (length (those f xs))) (omega arith)
     go false ih = ih
 
-pub all_counted : (p : List ℕ) (passed : Passed) → Counted p passed 0 → HeldAs passed p
-unfolding kept_to_end held_twice keepers
-all_counted p passed m = record {
+pub all_counted : (p : List ℕ) → ((i : ℕ) → is_held (at p i) ≡ false) → (passed : Passed) → Counted p passed 0
+    → HeldAs passed p
+unfolding held_to_end lasts_in lasts_among held_twice lasting_takes
+all_counted p unheld passed m = record {
   to_end =
-      is_where (λ d. any (λ k. keeps p k d) (positions p)) devices passed.held m.held_below
-      (λ d k. m.held_is d k ∙ ap (λ xs. leb 1 (length xs)) (all_from_0 (λ i. keeps p i d) p)
-      ∙ some_take (λ i. keeps p i d) (positions p));
+      is_where (λ d. any (λ k. lasting p k d) (positions p)) devices passed.held m.held_below
+      (λ d k. m.held_is d k ∙ ap (λ xs. leb 1 (length xs)) (takes_all p d)
+      ∙ some_take (λ k. lasting p k d) (positions p));
   twice =
       is_where (λ d. leb 2 (length (keepers p d))) devices passed.twice m.twice_below
-      (λ d k. m.twice_is d k ∙ ap (λ xs. leb 2 (length xs)) (all_from_0 (λ i. keeps p i d) p));
+      (λ d k. m.twice_is d k ∙ ap (λ xs. leb 2 (length xs)) (takes_all p d ∙ sym (keepers_lasting p unheld d)));
 }

@@ -3,13 +3,13 @@
 use Rattle.std.proofs.Common.{◌≡◌, ℕ, suc, ◌<◌, Bool, true, false, cond, eqb, ◌⊎◌, List, map, length, get_or, set, replicate, sym, refl, ap, ◌∙◌, inl, inr, arith, length-set, get_or-set_other, get_or-set_same, ext_get_or, eqb-true}
 use lib.ListN.{get_or-replicate}
 use borrow.Author.Tests.{eqb-false}
-use Rattle.model.specs.Board.{devices, board_at}
+use Rattle.model.specs.Board.{devices, board}
 use Rattle.model.specs.Lists.{up_from}
 use Rattle.model.specs.Line.{job, operand, is_take, is_line, at}
 use Rattle.model.specs.Mate.{device_at, lasting_at, lasting}
 use Rattle.model.specs.Sets.{empty, union, union_of}
 use Rattle.model.specs.Claims.{table, beyond}
-use Rattle.model.specs.Rows.{lasting_takes, row_of, rows}
+use Rattle.model.specs.Rows.{row_of, rows}
 use Rattle.theory.proofs.Tests.{test}
 use Rattle.theory.proofs.Line.{take_no_start}
 use Rattle.theory.specs.Claims.{claim}
@@ -22,16 +22,8 @@ use Rattle.claims.proofs.Claimed.{claim_from, Claimed, none_claimed, next_is_lem
 use Rattle.rows.specs.Lasting.{row_joined}
 use Rattle.rows.specs.Holds.{JoinedOn}
 use Rattle.rows.proofs.Entries.{entry_of, length_entries}
-use Rattle.rows.proofs.Counted.{taken_operand, lasting_takes_lem, lasting_is, those_from, none_past, one_on}
-use Rattle.rows.proofs.Counted.{all_from_0}
-
--- the lasting takes of device d from line i on
-abbrev takes_from : List ℕ → ℕ → ℕ → List ℕ
-takes_from p d i = those_from (λ k. lasting p k d) p i
-
-takes_all : (p : List ℕ) (d : ℕ) → takes_from p d 0 ≡ lasting_takes p d
-unfolding lasting_takes
-takes_all p d = all_from_0 (λ k. lasting p k d) p
+use Rattle.rows.proofs.Counted.{taken_operand, lasting_takes_lem, lasting_is, takes_from, takes_past, takes_on}
+use Rattle.rows.proofs.Counted.{takes_all}
 
 -- the row of device d as far as the lines from i on make it, by some table
 pub row_from : List ℕ → List ℕ → ℕ → ℕ → ℕ
@@ -45,8 +37,7 @@ pub none_by : (p t : List ℕ) → RowsBy p t (replicate devices 0) (length p)
 unfolding row_from union_of empty
 none_by p t = record {
   long = refl;
-  are = λ d h. get_or-replicate {A = ℕ} devices d 0 0 h ∙ sym (ap (λ xs. union_of (map (beyond p t) xs))
-      (none_past (λ k. lasting p k d) p));
+  are = λ d h. get_or-replicate {A = ℕ} devices d 0 0 h ∙ sym (ap (λ xs. union_of (map (beyond p t) xs)) (takes_past p d));
 }
 
 -- one line further back, with what lies beyond it if it is a take
@@ -55,8 +46,8 @@ module _ (p t rs : List ℕ) (k next : ℕ) (m : RowsBy p t rs (suc k)) (h : k <
   row_on : (d : ℕ) (b : Bool) → lasting p k d ≡ b
       → row_from p t d k ≡ cond b (union (beyond p t k) (row_from p t d (suc k))) (row_from p t d (suc k))
   unfolding row_from union_of
-  row_on d true e = ap (λ xs. union_of (map (beyond p t) xs)) (one_on (λ i. lasting p i d) p k true h e)
-  row_on d false e = ap (λ xs. union_of (map (beyond p t) xs)) (one_on (λ i. lasting p i d) p k false h e)
+  row_on d true e = ap (λ xs. union_of (map (beyond p t) xs)) (takes_on p d k true h e)
+  row_on d false e = ap (λ xs. union_of (map (beyond p t) xs)) (takes_on p d k false h e)
 
   rows_on : (b : Bool) → lasting_at p k ≡ b → (d : ℕ) → d < devices
       → get_or (row_joined (at p k) b next rs) d 0 ≡ row_from p t d k
@@ -107,7 +98,7 @@ pub none_from : (p : List ℕ) → RowsFrom p (replicate devices 0) (replicate o
 none_from p = record { by = none_by p (table p); claims = none_claimed p }
 
 module _ (p rs claimed : List ℕ) (k : ℕ) (m : RowsFrom p rs claimed (suc k)) (h : k < length p)
-    (ok : is_line (board_at true) (at p k) ≡ true) where
+    (ok : is_line board (at p k) ≡ true) where
   abbrev l : ℕ
   l = at p k
 

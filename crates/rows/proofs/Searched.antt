@@ -3,7 +3,7 @@
 use Rattle.std.proofs.Common.{◌≡◌, ℕ, ltb, leb, List, length, sym, ap, ◌∙◌, arith, le-ltb, lt-ltb}
 use mathlib.Core.Option.{Option, none, some, get_or}
 use Rattle.model.specs.Lists.{up_from, positions, any, those, first_of}
-use Rattle.model.specs.Mate.{lasting, keeps}
+use Rattle.model.specs.Mate.{lasting}
 use Rattle.model.specs.Sets.{member, lowest_of}
 use Rattle.model.specs.Answers.{refuse_if, refuse_at}
 use Rattle.model.specs.Rows.{leads_back}
@@ -12,7 +12,7 @@ use Rattle.model.specs.declared.Refusal.{Refusal}
 use Rattle.model.specs.declared.Refusal.TheVariants.{TwoLasting, LeadsBack}
 use Rattle.rows.specs.Where.{circles_of}
 use Rattle.model.specs.Kept.{lasts_among, lasts_in, held_to_end}
-use Rattle.rows.specs.Lasting.{kept_to_end, held_twice}
+use Rattle.rows.specs.Lasting.{held_twice}
 use Rattle.theory.proofs.Lists.{has_up_from, first_answer, Answer}
 use Rattle.theory.proofs.Where.{where_first, where_those}
 
@@ -46,12 +46,6 @@ module _ (D : ℕ) (p : List ℕ) where
       ∙ at_lowest D (held_twice D p) TwoLasting
 
   -- the devices still held after the last step
-  pub kept_those : those (member (kept_to_end D p)) (up_from 0 D)
-      ≡ those (λ d. any (λ i. keeps p i d) (positions p)) (up_from 0 D)
-  unfolding kept_to_end
-  kept_those = where_those D (λ d. any (λ i. keeps p i d) (positions p))
-
-  -- and by the lasting takes, which alone keep a device in a plan of the morning
   pub held_those : those (member (held_to_end D p)) (up_from 0 D)
       ≡ those (λ d. any (λ i. lasting p i d) (positions p)) (up_from 0 D)
   unfolding held_to_end lasts_in lasts_among

@@ -1,18 +1,16 @@
 -- The promises of `holds`, `tabled` and `pass_line` leave one outcome per input (01, "How tight the statements are"):
 -- any two that meet one of them are equal. The other promises of this room are equations.
 use Rattle.std.proofs.Common.{◌≡◌, ℕ, Bool, List, sym, ◌∙◌}
-use Rattle.model.specs.Line.{Settings}
 use Rattle.rows.specs.declared.HoldsAnswer.{HoldsAnswer}
 use Rattle.rows.specs.declared.Passed.{Passed}
 use Rattle.rows.specs.Holds.{PassedOn, HoldsAs, TabledAs}
 
-module _ (S : Settings) (p first starter again rs flags : List ℕ) where
-  pub holds_one : (a b : HoldsAnswer)
-      (first₁ first₂ starter₁ starter₂ again₁ again₂ rs₁ rs₂ flags₁ flags₂ : List ℕ)
-      → HoldsAs S p first starter again rs flags a first₁ starter₁ again₁ rs₁ flags₁
-      → HoldsAs S p first starter again rs flags b first₂ starter₂ again₂ rs₂ flags₂
-      → (a ≡ b) × (first₁ ≡ first₂) × (starter₁ ≡ starter₂) × (again₁ ≡ again₂) × (rs₁ ≡ rs₂) × (flags₁ ≡ flags₂)
-  holds_one a b first₁ first₂ starter₁ starter₂ again₁ again₂ rs₁ rs₂ flags₁ flags₂ x y = (cc, cc, cc, cc, cc, cc)
+module _ (p first again rs flags : List ℕ) where
+  pub holds_one : (a b : HoldsAnswer) (first₁ first₂ again₁ again₂ rs₁ rs₂ flags₁ flags₂ : List ℕ)
+      → HoldsAs p first again rs flags a first₁ again₁ rs₁ flags₁
+      → HoldsAs p first again rs flags b first₂ again₂ rs₂ flags₂
+      → (a ≡ b) × (first₁ ≡ first₂) × (again₁ ≡ again₂) × (rs₁ ≡ rs₂) × (flags₁ ≡ flags₂)
+  holds_one a b first₁ first₂ again₁ again₂ rs₁ rs₂ flags₁ flags₂ x y = (cc, cc, cc, cc, cc)
 
 pub tabled_one : (p rs table : List ℕ) (a b : HoldsAnswer) (rs₁ rs₂ table₁ table₂ : List ℕ)
     → TabledAs p rs table a rs₁ table₁ → TabledAs p rs table b rs₂ table₂ → (a ≡ b) × (rs₁ ≡ rs₂) × (table₁ ≡ table₂)

@@ -4,15 +4,15 @@ use Rattle.std.proofs.Common.{◌≡◌, ℕ, suc, ◌<◌, ◌≤◌, Bool, tru
 use mathlib.Core.Option.{none}
 use lib.ListN.{length-replicate, get_or-replicate}
 use mir.Val.{bool_byte}
-use Rattle.model.specs.Board.{devices, board_at}
+use Rattle.model.specs.Board.{devices, board}
 use Rattle.model.specs.Line.{is_take, is_line, at, max_lines}
 use Rattle.model.specs.Mate.{lasting_at}
-use Rattle.model.specs.WellFormed.{WellFormed, fault}
+use Rattle.model.specs.WellFormed.{fault}
 use Rattle.theory.specs.Outer.{again_at, plain_at}
 use Rattle.theory.proofs.Claims.{outermost}
 use Rattle.theory.proofs.Outer.{plain_line, plain_take}
 use Rattle.theory.proofs.Line.{take_line}
-use Rattle.theory.proofs.WellFormed.{no_fault_exactly}
+use Rattle.theory.proofs.WellFormed.{no_fault_exactly, no_held_in_morning}
 use Rattle.claims.specs.Claim.{operands, table_in}
 use Rattle.claims.proofs.Written.{EndOf, end_on, end_whole, none_written, one_written}
 use Rattle.rows.specs.declared.Passed.{Passed}
@@ -81,19 +81,19 @@ none_walked p lent = record {
 }
 
 -- one line further back
-module _ {p lent rs flags table claimed : List ℕ} {old new : Passed} {k : ℕ} (fine : fault (board_at true) p ≡ none)
+module _ {p lent rs flags table claimed : List ℕ} {old new : Passed} {k : ℕ} (fine : fault board p ≡ none)
     (m : Walked p lent rs flags table claimed old (suc k)) (n : PassedOn new old (at p k) (plain_at p k)) where
-  well : WellFormed (board_at true) p
-  well = (no_fault_exactly (board_at true) p).0 fine
+  few : length p ≤ max_lines
+  few = ((no_fault_exactly board p).0 fine).few
 
-  is_line_lem : is_line (board_at true) (at p k) ≡ true
-  is_line_lem = well.lines k m.counted.in_plan
+  is_line_lem : is_line board (at p k) ≡ true
+  is_line_lem = ((no_fault_exactly board p).0 fine).lines k m.counted.in_plan
 
-  pub counts_line : is_line (board_at true) (plain_at p k) ≡ true
-  counts_line = plain_line (again_at p k) (at p k) (board_at true) is_line_lem
+  pub counts_line : is_line board (plain_at p k) ≡ true
+  counts_line = plain_line (again_at p k) (at p k) board is_line_lem
 
   lasts_here : new.lasts ≡ lasting_at p k
-  lasts_here = lasts_made p well old new k m.counted m.known n
+  lasts_here = lasts_made p few old new k m.counted m.known n
 
   pub is_take_lem : new.lasts ≡ true → is_take (plain_at p k) ≡ true
   is_take_lem e = plain_take p k ∙ lasting_takes_lem p k (sym lasts_here ∙ e)
@@ -103,8 +103,8 @@ module _ {p lent rs flags table claimed : List ℕ} {old new : Passed} {k : ℕ}
   one_walked {rs'} {claimed'} {s} j =
       let i = rw lasts_here at j in
       let h = m.counted.in_plan in record {
-        counted = counted_on p well old new k m.counted m.known n;
-        known = known_on p well old new k m.counted m.known n;
+        counted = counted_on p few old new k m.counted m.known n;
+        known = known_on p few old new k m.counted m.known n;
         rows_from = from_on p rs claimed k m.rows_from h is_line_lem rs' claimed' s i;
         flagged = one_flagged p flags k new.lasts lasts_here m.flagged;
         written = one_written p lent table k s h (set_made p rs claimed k m.rows_from h is_line_lem rs' claimed' s i)
@@ -114,9 +114,10 @@ module _ {p lent rs flags table claimed : List ℕ} {old new : Passed} {k : ℕ}
 
 -- at the front all is the plan's
 pub all_walked : {p lent rs flags table claimed : List ℕ} {passed : Passed}
-    → Walked p lent rs flags table claimed passed 0 → WalkedAs p lent passed rs flags table
-all_walked {p} {lent} {rs} {flags} {table} {claimed} {passed} m = record {
-  held = all_counted p passed m.counted;
+    → fault board p ≡ none → Walked p lent rs flags table claimed passed 0
+    → WalkedAs p lent passed rs flags table
+all_walked {p} {lent} {rs} {flags} {table} {claimed} {passed} fine m = record {
+  held = all_counted p (no_held_in_morning devices p ((no_fault_exactly board p).0 fine)) passed m.counted;
   rows_are = all_from p rs claimed m.rows_from;
   flags_are = end_whole (lasting_flags p) flags m.flagged;
   table_is = end_whole (table_in p lent) table m.written;

@@ -1,16 +1,13 @@
 -- Lasting takes by going back (01, "Rules of a well-formed plan"): gives match the take made last, so a take is lasting
--- exactly if it is outermost (02, request 2) and no give of its job after it still wants a take; and a held line keeps
--- its device exactly if none does (02, request 5). For any plan.
-use Rattle.std.proofs.Common.{◌≡◌, ℕ, zero, suc, ◌-◌, ◌<◌, ◌≤◌, Bool, true, false, cond, not, ◌&&◌, ◌||◌, eqb, leb, ◌⊎◌, List, [], ◌∷◌, length, get_or, drop, sym, refl, ap, ◌∙◌, inl, inr, arith, eq-eqb, ne_eqb, eqb-true, le-leb}
+-- exactly if it is outermost (02, request 2) and no give of its job after it still wants a take. For any plan.
+use Rattle.std.proofs.Common.{◌≡◌, ℕ, zero, suc, ◌-◌, ◌<◌, ◌≤◌, Bool, true, false, cond, ◌&&◌, eqb, leb, ◌⊎◌, List, [], ◌∷◌, length, get_or, drop, sym, refl, ap, ◌∙◌, inl, inr, arith, eq-eqb, ne_eqb, eqb-true, le-leb}
 use mathlib.Core.Option.{none, some}
 use borrow.Author.Tests.{eqb-false, lt-leb}
-use Rattle.model.specs.Line.{job, operand, opens, is_held, is_take, is_give, at, held_from, max_lines}
-use Rattle.model.specs.Mate.{device_at, takes_at, held_at, grips, mate_in, mate, is_none, lasting_at, keeps}
+use Rattle.model.specs.Line.{job, opens, is_take, is_give, at, max_lines}
+use Rattle.model.specs.Mate.{takes_at, mate_in, mate, is_none, lasting_at}
 use Rattle.theory.specs.Outer.{plain_at}
-use Rattle.theory.proofs.Tests.{test, or_split, leb_agree}
-use Rattle.theory.proofs.Line.{take_opens, held_opens}
-use Rattle.theory.proofs.Claims.{outermost}
-use Rattle.theory.proofs.Outer.{plain_take, plain_held}
+use Rattle.theory.proofs.Tests.{test, leb_agree}
+use Rattle.theory.proofs.Outer.{plain_take}
 use Rattle.rows.specs.Lasting.{lasting_flag, lasting_flags, wanted_before, wanted_after}
 use Rattle.rows.proofs.Entries.{entry_of}
 
@@ -58,38 +55,6 @@ none_mates j depth i (l ∷ ls) =
         ih depth ∙ leb_agree w depth (suc w) (suc depth) (λ h. omega arith) (λ h. omega arith)
     go true false false depth w ih = ih depth
 
--- ---- what opens a stretch, as it counts
-
-pub and_turned : (x y z : Bool) → ((x && y) && z) ≡ ((x && z) && y)
-and_turned true true true = refl
-and_turned true true false = refl
-and_turned true false true = refl
-and_turned true false false = refl
-and_turned false y z = refl
-
-opens_is : (l : ℕ) → opens l ≡ (is_take l || is_held l)
-unfolding is_take is_held
-opens_is l = go (opens l) (leb held_from (operand l))
-  where
-    go : (a b : Bool) → a ≡ ((a && not b) || (a && b))
-    go true true = refl
-    go true false = refl
-    go false b = refl
-
--- an outermost take or a held line,
-plain_opens : (p : List ℕ) (k : ℕ) → opens (plain_at p k) ≡ (takes_at p k || held_at p k)
-unfolding held_at
-plain_opens p k = opens_is (plain_at p k) ∙ rw (plain_take p k, plain_held p k)
-
--- which opens one as it stands, too
-pub opens_too : (p : List ℕ) (k : ℕ) → opens (plain_at p k) ≡ true → opens (at p k) ≡ true
-unfolding held_at
-opens_too p k e = go (or_split (takes_at p k) (held_at p k) (sym (plain_opens p k) ∙ e))
-  where
-    go : (takes_at p k ≡ true) ⊎ (is_held (at p k) ≡ true) → opens (at p k) ≡ true
-    go (inl t) = take_opens (at p k) (outermost p k t).0
-    go (inr h) = held_opens (at p k) h
-
 -- ---- the walk back
 
 -- what the walk knows before the lines ls: the job of the first of them, and what is wanted there
@@ -135,14 +100,6 @@ module _ (l : ℕ) (ls : List ℕ) (j w : ℕ) (after : wanted_after l j w ≡ w
       → (is_take (plain_at p k) && eqb (wanted_after l j w) 0) ≡ lasting_at p k
   unfolding lasting_at
   lasts_is_lem p k e f = rw (plain_take p k) (ap (λ b. takes_at p k && b) (no_mate p k e f))
-
-  -- one that opens a stretch, as it counts, and serves no give keeps its device
-  pub keeps_is : (p : List ℕ) (k : ℕ) → at p k ≡ l → drop (suc k) p ≡ ls → (d : ℕ)
-      → ((opens (plain_at p k) && eqb (wanted_after l j w) 0) && eqb (device_at p k) d) ≡ keeps p k d
-  unfolding keeps grips
-  keeps_is p k e f d =
-      rw (plain_opens p k, no_mate p k e f)
-      (and_turned (takes_at p k || held_at p k) (is_none (mate p k)) (eqb (device_at p k) d))
 
 -- the flag of a line that is read off the plan's flags
 pub flag_at : (p flags : List ℕ) (k : ℕ) → flags ≡ lasting_flags p → k < max_lines → get_or flags k 0 ≡ lasting_flag p k

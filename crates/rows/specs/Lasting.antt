@@ -1,10 +1,9 @@
--- The lasting takes of a plan (01, "Rules of a well-formed plan" and "Claims and rows"): a flag for each line. The sets
--- of the devices that a line keeps to the end, and that two lines keep: lasting takes, and held lines without a give
--- (02, request 5). Below them the steps of the walk back.
-use Rattle.std.specs.Prelude.{ℕ, suc, ◌-◌, Bool, cond, List, map, length, ◌==◌, nat_le, slice_index, slice_set}
-use Rattle.model.specs.Lists.{up_from, positions, any}
+-- The lasting takes of a plan (01, "Rules of a well-formed plan" and "Claims and rows"): a flag for each line, and the
+-- set of the devices that two lines keep to the end. Below them the steps of the walk back.
+use Rattle.std.specs.Prelude.{ℕ, suc, ◌-◌, Bool, cond, List, map, length, set, ◌==◌, nat_le, slice_index, slice_set}
+use Rattle.model.specs.Lists.{up_from}
 use Rattle.model.specs.Line.{job, operand, opens, is_give, max_lines}
-use Rattle.model.specs.Mate.{lasting_at, keeps}
+use Rattle.model.specs.Mate.{lasting_at}
 use Rattle.model.specs.Sets.{union, devices_where}
 use Rattle.model.specs.Verdict.{keepers}
 
@@ -16,11 +15,6 @@ lasting_flag p i = cond (lasting_at p i) 1 0
 unfoldable pub lasting_flags : List ℕ → List ℕ
 unfolding lasting_flag up_from
 lasting_flags p = map (lasting_flag p) (up_from 0 max_lines)
-
--- the devices that a line keeps: in a plan of the morning, those held to the end by `model`, Kept
-unfoldable pub kept_to_end : ℕ → List ℕ → ℕ
-unfolding devices_where any keeps positions
-kept_to_end D p = devices_where D (λ d. any (λ i. keeps p i d) (positions p))
 
 -- the devices that two lines keep: in a plan of the morning, those with two lasting takes
 unfoldable pub held_twice : ℕ → List ℕ → ℕ

@@ -1,10 +1,9 @@
 // The devices that stay held, what they wait for, and circles (01, "Claims and rows"): the lasting takes of a plan, its
 // rows, and the devices that lead back to themselves. A line that takes again what its job holds counts as a do: it
-// never lasts and makes no row (02, request 2). A held line without a give keeps its device to the end, as a lasting
-// take does, but claims nothing and makes no row (02, request 5).
+// never lasts and makes no row (02, request 2).
 ghost use Rattle.std.specs.Prelude.{◌≡◌, suc, ◌%◌, ◌^◌, true, ◌&&◌, length, set, nat_lt, slice_set};
 ghost use Rattle.std.proofs.Math.Option.{none};
-ghost use Rattle.model.specs.Board.{devices, board_at, board};
+ghost use Rattle.model.specs.Board.{devices, board};
 ghost use Rattle.model.specs.Line.{operand, is_take, is_line, max_job};
 ghost use Rattle.model.specs.Sets.{union_of};
 ghost use Rattle.model.specs.WellFormed.{fault};
@@ -37,8 +36,7 @@ pub fn circles(rows: &[Set; EACH_DEVICE]) -> Set
 // ---- one line of a walk back over the plan
 
 // What a walk back knows of the lines that it has passed: the job of the line passed last, how many gives of that job
-// still want their takes or held lines, whether that line is a lasting take, and the devices that a line keeps to the
-// end and that two lines keep.
+// still want their takes, whether that line is a lasting take, and the devices with a lasting take and with two.
 #[derive(Drop)]
 pub struct Passed {
     pub job: u32,
@@ -57,8 +55,8 @@ pub const NONE_PASSED: Passed = Passed {
     twice: sets::NONE,
 };
 
-// How many gives want their takes before a line, where so many want them after it: a take or a held line serves one, if
-// there is one. In a plan they are far from the word's end, past which they would be counted from 0 on.
+// How many gives want their takes before a line, where so many want them after it: a take serves one, if there is one.
+// In a plan they are far from the word's end, past which they would be counted from 0 on.
 fn wanted_before(l: u32, after: u32) -> u32
     ensures { result ≡ wanted_before l after % 2 ^ 32 }
 {
@@ -69,20 +67,18 @@ fn wanted_before(l: u32, after: u32) -> u32
 }
 
 // One line further back, as it stands and as it counts. Gives match every take, so these are counted as they stand; a
-// line that counts as a take and serves no give lasts. It keeps its device, as does a held line that serves none; a
-// device that was kept already is held twice.
+// line that counts as a take and serves no give lasts. A device that was held already is held twice.
 pub fn pass_line(passed: Passed, l: u32, plain: u32) -> Passed
     ensures { PassedOn result passed l plain }
 {
     let j = line::job(l);
     let after = line::choose(j == passed.job, passed.wanted, 0);
-    let takes = line::is_take(plain);
-    let opens = line::opens(plain);
-    let one = sets::only_if(opens & (after == 0), line::device(l));
+    let lasts = line::is_take(plain) & (after == 0);
+    let one = sets::only_if(lasts, line::operand(l));
     Passed {
         job: j,
         wanted: wanted_before(l, after),
-        lasts: takes & (after == 0),
+        lasts: lasts,
         held: sets::union(one, passed.held),
         twice: sets::union(sets::both(passed.held, one), passed.twice),
     }
@@ -107,7 +103,7 @@ fn join_line(
     rows: &mut [Set; EACH_DEVICE],
     claimed: &mut [Set; EACH_OPERAND],
 ) -> Set
-    requires { (is_line (board_at true) l ≡ true) × (lasts ≡ true → is_take l ≡ true) }
+    requires { (is_line board l ≡ true) × (lasts ≡ true → is_take l ≡ true) }
     ensures { JoinedOn l lasts rows.old claimed.old result rows.new claimed.new }
 {
     let j = line::job(l) as usize;
@@ -131,8 +127,7 @@ fn store(table: &mut [Set], i: usize, s: Set)
 
 // The walk back over a plan without a fault: its flags, its rows and the two sets, all in one pass from the plan's end,
 // since whether a line lasts decides what it adds to the rows and to the sets. The plan's table is at hand on the way:
-// a caller that keeps it beside the rows lends a list for it, another lends one without a place. A plan of the morning
-// has no fault at midday either, and no held line.
+// a caller that keeps it beside the rows lends a list for it, another lends one without a place.
 fn walk_back(
     plan: &[u32],
     again: &[u8; MOST_LINES],
@@ -140,7 +135,7 @@ fn walk_back(
     lasting: &mut [u8; MOST_LINES],
     table: &mut [Set],
 ) -> Passed
-    requires { (fault (board_at true) plan.now ≡ none) × (again.now ≡ again_flags plan.now) }
+    requires { (fault board plan.now ≡ none) × (again.now ≡ again_flags plan.now) }
     ensures { WalkedAs plan.now table.old result rows.new lasting.new table.new }
 {
     *rows = [sets::NONE; EACH_DEVICE];
@@ -160,7 +155,7 @@ fn walk_back(
     passed
 }
 
-// What the holds of a plan are: the set of the devices kept to the end and the set of those that two lines keep.
+// What the holds of a plan are: the set of the devices held to the end and the set of those with two lasting takes.
 #[derive(Drop)]
 pub enum HoldsAnswer {
     Made(Set, Set),
@@ -184,7 +179,7 @@ fn over_jobs(holdings: &[Set; EACH_JOB]) -> HoldsAnswer
     HoldsAnswer::Made(held, twice)
 }
 
-// The two sets of a plan of the morning, tested by 2 to 7, and nothing beside them.
+// The two sets of a plan, tested by 2 to 7, and nothing beside them.
 pub fn held_to_end(plan: &[u32]) -> HoldsAnswer
     ensures { result ≡ holds_by (fault board plan.now) plan.now }
 {
@@ -205,31 +200,27 @@ pub fn held_to_end(plan: &[u32]) -> HoldsAnswer
     over_jobs(&holdings)
 }
 
-// The holds of a plan of the morning or taken up at midday, tested by 2 to 7, 16 and 17: the two sets, with the first
-// line and the starter of each job, the flags of the lines that take again, the rows, and the flags of the lasting
-// takes in the lent lists.
+// The holds of a plan, tested by 2 to 7: the two sets, with the first line of each job, the flags of the lines that
+// take again, the rows, and the flags of the lasting takes in the lent lists.
 pub fn holds(
     plan: &[u32],
-    midday: bool,
     first: &mut [u32; EACH_JOB],
-    starter: &mut [u32; EACH_JOB],
     again: &mut [u8; MOST_LINES],
     rows: &mut [Set; EACH_DEVICE],
     lasting: &mut [u8; MOST_LINES],
 ) -> HoldsAnswer
-    ensures { HoldsAs (board_at midday) plan.now first.old starter.old again.old
-        rows.old lasting.old result first.new starter.new again.new
-        rows.new lasting.new }
+    ensures { HoldsAs plan.now first.old again.old rows.old lasting.old
+        result first.new again.new rows.new lasting.new }
 {
-    if let Checked::Refused(r) = plan::scan(plan, midday, first, starter, again) {
+    let mut starter = [0u32; EACH_JOB];
+    if let Checked::Refused(r) = plan::scan(plan, false, first, &mut starter, again) {
         return HoldsAnswer::Refused(r);
     }
     let made = walk_back(plan, again, rows, lasting, &mut []);
     HoldsAnswer::Made(made.held, made.twice)
 }
 
-// The rows of a plan of the morning, tested by 2 to 7, and as much of its table as the lent list has room for; the
-// answer is as above.
+// The rows of a plan, tested by 2 to 7, and as much of its table as the lent list has room for; the answer is as above.
 pub fn tabled(plan: &[u32], rows: &mut [Set; EACH_DEVICE], table: &mut [Set]) -> HoldsAnswer
     ensures { TabledAs plan.now rows.old table.old result rows.new table.new }
 {

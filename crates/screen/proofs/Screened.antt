@@ -1,19 +1,19 @@
--- 01, "Plans with their verdicts", its last part: what `print_at` puts is what `model` prints for the text, whatever
--- the readers go by. Reading into a list of 1,024 has the text's fault or its plan; the verdict on that has the order
--- or why there is none; and the room of the screens is enough for either. An order has as many numbers as the plan has
--- steps.
+-- 01, "Plans with their verdicts", its last part: what `print` puts is what `model` prints for the text. Reading into a
+-- list of 1,024 has the text's fault or its plan; the verdict on that has the order or why there is none; and the room
+-- of the screens is enough for either.
 use Prim.Native.Nat.{ℕ, ◌≤◌, ◌<◌}
 use mathlib.Core.List.{List, [], ◌∷◌, map}
 use mathlib.Core.Option.{Option, none, some, none-ne-some}
 use mathlib.Core.Path.{◌≡◌, refl, sym, ◌∙◌, ap}
 use native.Mathlib.Omega.{arith}
+use lib.Dec.{lit≤}
 use lib.ListN.{length, take, length-map}
 use borrow.Author.Tests.{lt-ltb, le-ltb}
 use Rattle.model.specs.Lists.{over}
 use Rattle.model.specs.Answers.{first_refusal}
-use Rattle.model.specs.Line.{Settings, line_number, max_lines}
+use Rattle.model.specs.Board.{devices, board}
+use Rattle.model.specs.Line.{line_number, max_lines}
 use Rattle.model.specs.Text.{spelt}
-use Rattle.model.specs.Mate.{steps}
 use Rattle.model.specs.Handed.{handed}
 use Rattle.model.specs.Verdict.{no_order, held_at_end}
 use Rattle.model.specs.Entries.{text_fault, ordering}
@@ -22,9 +22,9 @@ use Rattle.model.specs.declared.Refusal.{Refusal}
 use Rattle.model.specs.declared.ReadAnswer.{ReadAnswer}
 use Rattle.model.specs.declared.VerdictAnswer.{VerdictAnswer}
 use Rattle.theory.proofs.Answers.{one_read_answer}
-use Rattle.theory.proofs.WellFormed.{fault_exactly}
+use Rattle.theory.proofs.WellFormed.{fault_exactly, no_fault_exactly}
 use Rattle.theory.proofs.Verdict.{accepted_is_legal}
-use Rattle.theory.proofs.Printed.{legal_length, printed_is, printed_fits}
+use Rattle.theory.proofs.Printed.{morning_length, printed_is, printed_fits}
 use Rattle.theory.proofs.Judged.{steps_few}
 use Rattle.promises.specs.Outcome.{faulty, short, further}
 use Rattle.promises.specs.Text.{ReadsAs}
@@ -33,27 +33,27 @@ use Rattle.promises.specs.Screen.{PrintsAs, order_after}
 use Rattle.promises.proofs.Tight.{the_outcome}
 use Rattle.promises.proofs.Outcome.{done_leaves}
 use Rattle.promises.proofs.Text.{front_of}
-use Rattle.promises.proofs.WasRead.{read_fault, no_fault_read, well_formed_read, front_read}
+use Rattle.promises.proofs.WasRead.{read_fault, read_counts, no_fault_read, well_formed_read, front_read}
 use Rattle.promises.proofs.Verdict.{entry, order_refused, refused_exactly}
 use Rattle.screen.specs.Shows.{ShowsAs}
 
 -- ---- what is printed, by the tests
 
-module _ (S : Settings) (text : List ℕ) where
+module _ (text : List ℕ) where
   abbrev spells : List ℕ
-  spells = spelt S text
+  spells = spelt board text
 
-  by_tests : (o : Option Refusal) → first_refusal (text_fault S text ∷ no_order S.devices spells ∷ []) ≡ o
-      → printed_by o (map line_number (handed spells)) (held_at_end S.devices spells) ≡ printed S text
+  by_tests : (o : Option Refusal) → first_refusal (text_fault board text ∷ no_order devices spells ∷ []) ≡ o
+      → printed_by o (map line_number (handed spells)) (held_at_end devices spells) ≡ printed board text
   by_tests o e =
       sym
-      (printed_is S text
-      ∙ ap (λ (o : Option Refusal). printed_by o (map line_number (handed spells)) (held_at_end S.devices spells)) e)
+      (printed_is board text
+      ∙ ap (λ (o : Option Refusal). printed_by o (map line_number (handed spells)) (held_at_end devices spells)) e)
 
 -- ---- too little room
 
-pub prints_none : {S : Settings} {text plan order lent : List ℕ} → length lent < screen_room
-    → PrintsAs S text plan order lent 0 plan order lent
+pub prints_none : {text plan order lent : List ℕ} → length lent < screen_room
+    → PrintsAs board text plan order lent 0 plan order lent
 unfolding screening screen_by
 prints_none {lent} h = record {
   screens = record { counts = rw (lt-ltb (length lent) screen_room h); leaves = rw (lt-ltb (length lent) screen_room h) };
@@ -64,16 +64,16 @@ prints_none {lent} h = record {
 
 -- ---- enough room, and lists of 1,024
 
-module _ (S : Settings) (few : S.devices ≤ 99) (text plan order lent : List ℕ)
-    (long : (length plan ≡ max_lines) × (length order ≡ max_lines))
-    {a : ReadAnswer} {plan' : List ℕ} (x : ReadsAs S text plan a plan') (room : screen_room ≤ length lent)
-    {count : ℕ} {left : List ℕ} where
+module _ (text plan order lent : List ℕ) (long : (length plan ≡ max_lines) × (length order ≡ max_lines))
+    {a : ReadAnswer} {plan' : List ℕ} (x : ReadsAs board text plan a plan') (room : screen_room ≤ length lent)
+    {count : ℕ}
+    {left : List ℕ} where
   -- what is printed was put
-  prints : {bytes order' : List ℕ} → bytes ≡ printed S text → order' ≡ order_after S a plan' order
-      → ShowsAs bytes lent count left → PrintsAs S text plan order lent count plan' order' left
+  prints : {bytes order' : List ℕ} → bytes ≡ printed board text → order' ≡ order_after board a plan' order
+      → ShowsAs bytes lent count left → PrintsAs board text plan order lent count plan' order' left
   unfolding screening screen_by
   prints e f y =
-      let all = y (omega (arith, printed_fits S few text, ap length e)) in
+      let all = y (omega (arith, printed_fits board (lit≤ tt) text, ap length e)) in
       record {
         screens = record {
           counts = rw (le-ltb (length lent) screen_room room, ← e) all.0;
@@ -82,58 +82,57 @@ module _ (S : Settings) (few : S.devices ≤ 99) (text plan order lent : List �
         idle = λ g. absurd (omega arith);
         reads = λ g. x.leaves;
         orders = λ g.
-            f ∙ ap (λ (b : ReadAnswer). order_after S b plan' order) (the_outcome one_read_answer a plan' x).0;
+            f ∙ ap (λ (b : ReadAnswer). order_after board b plan' order) (the_outcome one_read_answer a plan' x).0;
       }
 
   -- a fault of the text
   pub prints_fault : {r : Refusal} → a ≡ ReadAnswer.Refused r → ShowsAs (printed_refusal r) lent count left
-      → PrintsAs S text plan order lent count plan' order left
+      → PrintsAs board text plan order lent count plan' order left
   unfolding first_refusal printed_by
-  prints_fault {r} q = prints (by_tests S text (some r) (rw (read_fault S text plan x long.0 r q))) (rw q)
+  prints_fault {r} q = prints (by_tests text (some r) (rw (read_fault board text plan x long.0 r q))) (rw q)
 
   -- the verdict on its lines
   module _ {n : ℕ} (q : a ≡ ReadAnswer.Lines n) {v : VerdictAnswer} {order' : List ℕ}
-      (y : OrdersAs S (take n plan') order v order') where
+      (y : OrdersAs board (take n plan') order v order') where
     -- no order
     pub prints_why : {r : Refusal} → v ≡ VerdictAnswer.Refused r → ShowsAs (printed_refusal r) lent count left
-        → PrintsAs S text plan order lent count plan' order' left
+        → PrintsAs board text plan order lent count plan' order' left
     unfolding first_refusal printed_by
     prints_why {r} p =
-        let z = rw (front_read S text plan x q) at y in
-        prints (go r ((refused_exactly S (spells S text) order v order' z r).0 p)) (rw q y.leaves)
+        let z = rw (front_read board text plan x q) at y in
+        prints (go r ((refused_exactly board (spells text) order v order' z r).0 p)) (rw q y.leaves)
       where
-        go : (r : Refusal) → NoVerdict S (spells S text) order r → printed_refusal r ≡ printed S text
+        go : (r : Refusal) → NoVerdict board (spells text) order r → printed_refusal r ≡ printed board text
         go r (faulty s b) =
-            let f = (fault_exactly S (spells S text) s).1 b in
-            absurd (none-ne-some s (sym (well_formed_read S text plan x q) ∙ f))
-        go r (short s h) = absurd (omega (arith, s.few, long.1, steps_few (spells S text)))
+            let f = (fault_exactly board (spells text) s).1 b in
+            absurd (none-ne-some s (sym (well_formed_read board text plan x q) ∙ f))
+        go r (short s h) = absurd (omega (arith, s.few, long.1, steps_few (spells text)))
         go r (further s w h b) =
-            by_tests S text (some s) (rw (no_fault_read S text plan x q) ((order_refused S (spells S text) w s).1 b))
+            by_tests text (some s) (rw (no_fault_read board text plan x q) ((order_refused board (spells text) w s).1 b))
 
     -- an order
-    pub prints_order : {held k : ℕ} → v ≡ VerdictAnswer.Held held → k ≡ length (steps (take n plan'))
-        → ShowsAs (printed_order (take k order') held) lent count left
-        → PrintsAs S text plan order lent count plan' order' left
+    pub prints_order : {held : ℕ} → v ≡ VerdictAnswer.Held held
+        → ShowsAs (printed_order (take n order') held) lent count left
+        → PrintsAs board text plan order lent count plan' order' left
     unfolding ordering first_refusal printed_by
-    prints_order {held} {k} p c =
-        let z = rw (front_read S text plan x q) at y in
-        let d = done_leaves (entry S (spells S text) order) v order' z held p in
-        prints (go (no_order S.devices (spells S text)) refl d.0.2 d.1 d.2) (rw q y.leaves)
+    prints_order {held} p =
+        let z = rw (front_read board text plan x q) at y in
+        let d = done_leaves (entry board (spells text) order) v order' z held p in
+        prints (go (no_order devices (spells text)) refl d.0.2 d.1 d.2) (rw q y.leaves)
       where
         handed_out : List ℕ
-        handed_out = handed (spells S text)
+        handed_out = handed (spells text)
 
-        counted : k ≡ length (steps (spells S text))
-        counted = rw (front_read S text plan x q) at c
-
-        go : (o : Option Refusal) → no_order S.devices (spells S text) ≡ o → first_refusal (o ∷ []) ≡ none
-            → held ≡ held_at_end S.devices (spells S text) → order' ≡ over (map line_number handed_out) order
-            → printed_order (take k order') held ≡ printed S text
+        go : (o : Option Refusal) → no_order devices (spells text) ≡ o → first_refusal (o ∷ []) ≡ none
+            → held ≡ held_at_end devices (spells text) → order' ≡ over (map line_number handed_out) order
+            → printed_order (take n order') held ≡ printed board text
         go (some r) e f c l = absurd (none-ne-some r (sym f))
         go none e f c l =
-            let sound = well_formed_read S text plan x q in
-            let legal = accepted_is_legal S (spells S text) sound e in
-            let all : k ≡ length (map line_number handed_out) =
-            rw (length-map, legal_length (spells S text) handed_out legal) counted in
-            rw (front_of (map line_number handed_out) order order' k all l, c)
-            (by_tests S text none (rw (no_fault_read S text plan x q, e)))
+            let sound = well_formed_read board text plan x q in
+            let legal = accepted_is_legal board (spells text) sound e in
+            let formed = (no_fault_exactly board (spells text)).0 sound in
+            let all : n ≡ length (map line_number handed_out) =
+            rw length-map (read_counts board text plan x q ∙ sym
+            (morning_length devices (spells text) handed_out formed legal)) in
+            rw (front_of (map line_number handed_out) order order' n all l, c)
+            (by_tests text none (rw (no_fault_read board text plan x q, e)))

@@ -29,7 +29,7 @@ use Rattle.theory.proofs.Lists.{any_found, Answer, first_answer, Least, least_an
 use Rattle.theory.proofs.Lists.{left, left_lt, left_none, among}
 use Rattle.theory.specs.Claims.{Reach, here, step}
 use Rattle.theory.proofs.Claims.{reached_claimed, beyond_in, takes_parts}
-use Rattle.theory.proofs.Successors.{precedes_reaches, reaches_on}
+use Rattle.theory.proofs.Successors.{precedes_reaches}
 use Rattle.theory.proofs.OnlyIf.{row_in_lem}
 use Rattle.theory.proofs.Places.{lasting_parts, lasting_keeps}
 use Rattle.theory.proofs.Line.{device_line}
@@ -127,6 +127,10 @@ past_reach : (p : List ℕ) (i k d : ℕ) → Reach p i k → takes p k d ≡ tr
 past_reach p i k d (here a) t = inl refl
 past_reach p i k d (step a o b h r) t = inr (beyond_in p a o d h (reached_claimed p (suc a + o) b d r t))
 
+join : (p : List ℕ) (i b k : ℕ) → Reach p i b → Reach p b k → Reach p i k
+join p i b k (here a) r = r
+join p i b k (step a o c h q) r = step a o k h (join p (suc a + o) c k q r)
+
 module _ (S : Settings) (p : List ℕ) (w : WellFormed S p) (no_two : (d : ℕ) → LastsTwice p d → ⊥)
     (no_circle : (d : ℕ) → Leads (rows S.devices p) d d → ⊥) (done : List ℕ) where
   abbrev u : List ℕ
@@ -147,7 +151,7 @@ module _ (S : Settings) (p : List ℕ) (w : WellFormed S p) (no_two : (d : ℕ) 
           let b = any_found (λ b. precedes p b k) u e in
           let r = precedes_reaches p w.rules b.0 k (has_undone p done b.0 b.1).0
           (has_undone p done k m).0 b.2 in
-          let a = ih b.0 r.0 b.1 in (a.0, a.1, reaches_on p a.0 b.0 k a.2 r.1)
+          let a = ih b.0 r.0 b.1 in (a.0, a.1, join p a.0 b.0 k a.2 r.1)
 
   module _ (waits : (i : ℕ) → has i (standing p u) ≡ true → (lasting_at p i ≡ true) × (alone p u i ≡ false)) where
     lasts : (i : ℕ) → Stands i → lasting p i (device_at p i) ≡ true

@@ -4,7 +4,7 @@
 -- and what was held before it; the edit changes that one device, so that a line's mark follows from the one it had and
 -- from a count (`again_under`). At the take and its mate the mark asks what was held before the take
 -- (`again_at_take`, `again_at_mate`); every other line keeps its mark (`again_elsewhere`). And what a job holds may be
--- asked of the marked lines themselves, from the nearest back (`holds_given` and the laws beside it).
+-- asked of the marked lines themselves, from the nearest back (`holds_taken` and the laws beside it).
 use Prim.Native.Nat.{ℕ, zero, suc, ◌+◌, ◌-◌, ◌<◌, ◌≤◌}
 use mathlib.Core.Bool.{Bool, true, false, cond, not, ◌&&◌, ◌||◌}
 use mathlib.Core.List.{List, [], ◌∷◌, ◌++◌, tail}
@@ -29,10 +29,11 @@ use Rattle.theory.proofs.Held.{held_opened, held_give, held_other, none_held}
 use Rattle.theory.proofs.Line.{take_opens, held_opens, opens_either, opens_no_give, take_no_give, take_no_held}
 use Rattle.theory.proofs.Line.{give_no_held, own_device, take_line, give_line}
 use Rattle.theory.proofs.Lists.{has_head}
+use Rattle.theory.proofs.Claims.{outermost}
 use Rattle.theory.proofs.Successors.{jobs_grow}
 use Rattle.theory.proofs.Mate.{Seen, foreign, deeper, level, back, seen, pair, open_is, open_mates, mate_below}
 use Rattle.theory.proofs.Mate.{open_takes, Open}
-use Rattle.theory.proofs.Outer.{opens_line, held_after_mate, plain_give}
+use Rattle.theory.proofs.Outer.{opens_line, held_after_mate, plain_take, plain_give}
 use Rattle.theory.proofs.Way.{has_under, under_has, until_in_plan}
 use Rattle.theory.proofs.Depth.{times, has_times, times_tail}
 use Rattle.theory.proofs.Edited.{Alike, alike_drop, alike_tail, same_opens, same_take, same_give}
@@ -637,6 +638,14 @@ holds_none_first p rules j x n h e f =
     ))
 
 module _ (p : List ℕ) (j x n : ℕ) (of_job : job (at p n) ≡ j) (named : operand (at p n) ≡ x) where
+  -- after a take of x that counts the job holds it
+  pub holds_taken : is_take (plain_at p n) ≡ true → has x (held_by j (before p (suc n))) ≡ true
+  unfolding before
+  holds_taken t =
+      let u = (outermost p n (sym (plain_take p n) ∙ t)).0 in
+      rw (held_opened j (at p n) (before p n) of_job (take_opens (at p n) u), take_device (at p n) u, named)
+      (has_head x (held_by j (before p n)))
+
   -- after a give of x that counts it does not
   pub holds_given : is_give (plain_at p n) ≡ true → has x (held_by j (before p (suc n))) ≡ false
   unfolding before frees_at holds_beneath device_at
@@ -649,6 +658,18 @@ module _ (p : List ℕ) (j x n : ℕ) (of_job : job (at p n) ≡ j) (named : ope
         ← of_job,
       )
       (not-true (holds_beneath p n) f.1)
+
+-- after a held line of x its job holds it
+pub holds_held : (p : List ℕ) (j x n : ℕ) → job (at p n) ≡ j → holds (at p n) x ≡ true
+    → has x (held_by j (before p (suc n))) ≡ true
+unfolding before holds
+holds_held p j x n of_job h =
+    let s = and_split (is_held (at p n)) (eqb (device_of (at p n)) x) h in
+    rw (
+      held_opened j (at p n) (before p n) of_job (held_opens (at p n) s.0),
+      eqb-true (device_of (at p n)) x s.1,
+    )
+    (has_head x (held_by j (before p n)))
 
 -- one more of what is held already, or of another device
 has_over : (x y : ℕ) (ys : List ℕ) → (y ≡ x → has y ys ≡ true) → has x (y ∷ ys) ≡ has x ys

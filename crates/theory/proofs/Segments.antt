@@ -357,8 +357,8 @@ module _ (p : List ℕ) (rules : Rules p) (o : List ℕ) (legal : Legal p o) (do
       hinders k = takes_at p k && held p done (device_at p k)
 
       -- the take of the segment comes at its give or before
-      up_to_lem : (x d : ℕ) → x ≤ m → job (at p x) ≡ job (at p m) → takes p x d ≡ true → place o x ≤ place o m
-      up_to_lem x d le q t = split (test (eqb x m))
+      up_to : (x d : ℕ) → x ≤ m → job (at p x) ≡ job (at p m) → takes p x d ≡ true → place o x ≤ place o m
+      up_to x d le q t = split (test (eqb x m))
         where
           split : (eqb x m ≡ true) ⊎ (eqb x m ≡ false) → place o x ≤ place o m
           split (inl e) = rw (eqb-true x m e) (omega arith)
@@ -409,7 +409,7 @@ module _ (p : List ℕ) (rules : Rules p) (o : List ℕ) (legal : Legal p o) (do
               omega (
                 arith,
                 earlier p o legal y x line step (closing_step y (held_closes p k y e r.1)).1 r.2,
-                up_to_lem x (device_at p x) le q t,
+                up_to x (device_at p x) le q t,
               )
 
   -- so there is none
@@ -478,7 +478,7 @@ kept_takes p t =
 pub segments_between : (p : List ℕ) → Rules p → stays_open p ≡ false → takes_kept p ≡ false
     → Between p (held_lines p ++ segments p)
 unfolding stays_open
-segments_between p rules no_open no_kept =
+segments_between p rules no_open no-kept =
     record { begun = inv.begun; closed = inv.closed; given = λ k d h g. given' k d h g (inv.given k d h g) }
   where
     done : List ℕ
@@ -502,7 +502,7 @@ segments_between p rules no_open no_kept =
               is_held = a;
               stays = mateless_keeps p k d g e;
               taken = t;
-            })) no_kept
+            })) no-kept
 
     given' : (k d : ℕ) → has k done ≡ true → grips p k d ≡ true → (given_back p done k ≡ true) ⊎ (held_at p k ≡ true)
         → (given_back p done k ≡ true) ⊎ ((x : ℕ) → x < length p → has x done ≡ false → takes p x d ≡ false)

@@ -168,11 +168,6 @@ along (suc n) p i k le ge h e = split (test (eqb i k)) (λ s a b c. along n p s 
         step i r.o k (next_successor (at p i) (drop (suc i) p) r.o r.first)
         (ih (suc i + r.o) (omega arith) r.up_to (r.of_job ∙ e))
 
--- who reaches a line reaches what that line reaches
-pub reaches_on : (p : List ℕ) (i b k : ℕ) → Reach p i b → Reach p b k → Reach p i k
-reaches_on p i b k (here a) r = r
-reaches_on p i b k (step a o c h q) r = step a o k h (reaches_on p (suc a + o) c k q r)
-
 pub same_job_reaches : (p : List ℕ) (i k : ℕ) → i ≤ k → k < length p → job (at p i) ≡ job (at p k) → Reach p i k
 same_job_reaches p i k a h e = along k p i k (omega arith) a h e
 

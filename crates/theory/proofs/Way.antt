@@ -27,7 +27,7 @@ use Rattle.theory.proofs.Lists.{has_none, has_head, has_tail, has_cases, has_lef
 use Rattle.theory.proofs.Lists.{has_up_from, up_from_has, has_those, those_has}
 use Rattle.theory.proofs.WellFormed.{start_line, any_line}
 use Rattle.theory.proofs.Successors.{Why, same_job, starter, why, earlier_precedes, start_precedes}
-use Rattle.theory.proofs.Successors.{successor_after, jobs_grow, precedes_reaches, reaches_on}
+use Rattle.theory.proofs.Successors.{successor_after, jobs_grow, precedes_reaches}
 use Rattle.theory.proofs.Mate.{pair}
 
 pub falls_below : (n k : ℕ) (xs : List ℕ) → Falls n xs → has k xs ≡ true → k < n
@@ -258,6 +258,10 @@ before_last_off p i k lt =
 
 -- ---- the way has exactly the lines that lead to its first
 
+join : (p : List ℕ) (i b k : ℕ) → Reach p i b → Reach p b k → Reach p i k
+join p i b k (here x) r = r
+join p i b k (step x o y h s) r = step i o k h (join p (suc i + o) b k s r)
+
 module _ (p : List ℕ) (rules : Rules p) where
   -- what the walk back for the job of line i meets leads to line i
   leads_on : (n k i : ℕ) → n ≤ i → i < length p → has k (way_in p (job (at p i)) n) ≡ true → Reach p k i
@@ -283,7 +287,7 @@ module _ (p : List ℕ) (rules : Rules p) where
 
           met : (k ≡ n) ⊎ (has k (way_in p (job (at p n)) n) ≡ true) → Reach p k i
           met (inl e) = rw e reaches
-          met (inr e) = reaches_on p k n i (ih n (omega arith) (omega arith) e) reaches
+          met (inr e) = join p k n i (ih n (omega arith) (omega arith) e) reaches
 
   reach_on_way : (i k : ℕ) → Reach p k i → has k (way p i) ≡ true
   reach_on_way i k (here x) = line_on_way p i

@@ -546,8 +546,8 @@ module _ (S : Settings) (p : List ℕ) where
           subst (λ (x : ℕ). holds (at p k) x ≡ false) (eqb-true (device_of (at p i)) d r.1)
           ((s.lines i (held_line p i r.0)).held_once r.0 k lt)
 
-      held_first_lem : (i k : ℕ) → k < i → is_held (at p i) ≡ true → job (at p k) ≡ job (at p i) → is_held (at p k) ≡ true
-      held_first_lem i k lt h e = go (test (is_held (at p k)))
+      held_first : (i k : ℕ) → k < i → is_held (at p i) ≡ true → job (at p k) ≡ job (at p i) → is_held (at p k) ≡ true
+      held_first i k lt h e = go (test (is_held (at p k)))
         where
           go : (is_held (at p k) ≡ true) ⊎ (is_held (at p k) ≡ false) → is_held (at p k) ≡ true
           go (inl y) = y
@@ -586,7 +586,7 @@ module _ (S : Settings) (p : List ℕ) where
         start_has_lines = has_lines_lem;
         give = λ i h. (s.lines i (give_line p i h)).give h;
         held_once = once;
-        held_first = held_first_lem;
+        held_first = held_first;
         held_runs = runs;
       }
 
@@ -662,18 +662,6 @@ morning_midday D p w = record {
   rules = w.rules;
   started = λ m. clash true refl m;
 }
-
--- of whichever reader, a plan is well-formed at midday
-pub at_midday_lem : (S : Settings) (p : List ℕ) → WellFormed S p → WellFormed (at_midday S.devices) p
-at_midday_lem S p w = go S.midday refl
-  where
-    go : (b : Bool) → S.midday ≡ b → WellFormed (at_midday S.devices) p
-    go true e = subst (λ (b : Bool). WellFormed (record { devices = S.devices; midday = b }) p) e w
-    go false e = morning_midday S.devices p (subst (λ (b : Bool). WellFormed (record { devices = S.devices; midday = b }) p) e w)
-
--- and has no fault there
-pub fine_at_midday : (S : Settings) (p : List ℕ) → fault S p ≡ none → fault (at_midday S.devices) p ≡ none
-fine_at_midday S p f = (no_fault_exactly (at_midday S.devices) p).1 (at_midday_lem S p ((no_fault_exactly S p).0 f))
 
 -- they have no held line
 pub no_held_in_morning : (D : ℕ) (p : List ℕ) → WellFormed (morning D) p → (i : ℕ) → is_held (at p i) ≡ false

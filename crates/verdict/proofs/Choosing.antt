@@ -17,8 +17,7 @@ use Rattle.model.specs.Mate.{takes_at, device_at, mate, is_none, lasting_at}
 use Rattle.model.specs.WellFormed.{WellFormed}
 use Rattle.model.specs.Rows.{rows, Leads}
 use Rattle.model.specs.Handed.{undone, standing, going_on, alone, lasting_next}
-use Rattle.model.specs.Verdict.{takes_kept, stays_open}
-use Rattle.model.specs.Board.{devices, board_at}
+use Rattle.model.specs.Board.{devices, board}
 use Rattle.theory.specs.Verdict.{LastsTwice}
 use Rattle.theory.proofs.Tests.{clash, test, and_split, and_both, le_or_lt}
 use Rattle.theory.proofs.Lists.{has_none, has_those, those_has, Answer, first_answer, Least, least_answer, left}
@@ -30,17 +29,15 @@ use Rattle.theory.proofs.LineByLine.{chosen, Stands, stands_has, has_stands, Low
 use Rattle.verdict.specs.declared.waiting.Waiting.{Waiting}
 use Rattle.verdict.specs.Waiting.{all_places, place_at, waits, foremost}
 use Rattle.verdict.proofs.Foremost.{Foremost, of_job, of_device, of_none, the_foremost}
-use Rattle.verdict.specs.State.{Shows, Counted}
-use Rattle.verdict.proofs.Counts.{alone_wanted}
+use Rattle.verdict.proofs.Counts.{alone_wanted, Counted}
+use Rattle.verdict.proofs.Places.{Shows}
 use Rattle.verdict.proofs.Standing.{not_above, job_fits, lasting_below, place_lasting, place_job, apart}
 
--- a plan that has an order: no device is kept by two lines, none leads back to itself, and held lines do not hinder
+-- a plan that has an order: no device has two lasting takes, and none leads back to itself
 pub record Accepted (p : List ℕ) : Type 0 where
-  pub formed : WellFormed (board_at true) p
+  pub formed : WellFormed board p
   pub no_two : (d : ℕ) → LastsTwice p d → ⊥
   pub no_circle : (d : ℕ) → Leads (rows devices p) d d → ⊥
-  pub no_kept : takes_kept p ≡ false
-  pub no_open : stays_open p ≡ false
 
 -- line i goes next: it stands next, (a), otherwise (b), chooses it, and no line above it can go on
 pub record Going (p done : List ℕ) (i : ℕ) : Type 0 where
@@ -60,7 +57,7 @@ lasting_take p i h = (and_split (takes_at p i) (is_none (mate p i)) h).0
 
 module _ {p done places counts : List ℕ} {wa : Waiting} (ok : Accepted p) (shows : Shows p (Stands p done) places wa)
     (all : Counted p done counts wa.scarce) where
-  abbrev w : WellFormed (board_at true) p
+  abbrev w : WellFormed board p
   w = ok.formed
 
   abbrev u : List ℕ
@@ -210,8 +207,7 @@ module _ {p done places counts : List ℕ} {wa : Waiting} (ok : Accepted p) (sho
         go : (n : ℕ) → n < length p → (has n done ≡ true) ⊎ (has n done ≡ false) → has n done ≡ true
         go n h (inl e) = e
         go n h (inr e) =
-            absurd
-            (never_stuck (board_at true) p w ok.no_two ok.no_circle done none_goes n (undone_has p done n h e))
+            absurd (never_stuck board p w ok.no_two ok.no_circle done none_goes n (undone_has p done n h e))
 
   -- The place is that of the line chosen, while a line is undone.
   pub foremost_next : 1 ≤ left (among done) (length p) → GoesNext p done places (foremost wa)

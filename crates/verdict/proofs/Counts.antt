@@ -16,16 +16,15 @@ use borrow.Author.Tests.{eqb-true, eqb-false, eq-eqb, ne_eqb, le-leb, lt-leb, le
 use Rattle.model.specs.Lists.{any, has}
 use Rattle.model.specs.Sets.{member}
 use Rattle.model.specs.Line.{at, is_take, operand, max_lines}
-use Rattle.model.specs.Mate.{takes_at, held_at, device_at, takes, held_lines}
+use Rattle.model.specs.Mate.{takes_at, device_at, takes}
 use Rattle.model.specs.Handed.{undone, alone}
 use Rattle.model.specs.WellFormed.{WellFormed}
-use Rattle.model.specs.Board.{devices, board_at}
+use Rattle.model.specs.Board.{devices, board}
 use Rattle.theory.specs.Outer.{again_at, plain_at}
 use Rattle.theory.proofs.Tests.{clash, test, falsely, tests_agree, or_left, or_right, and_split, and_both, and_second}
 use Rattle.theory.proofs.Tests.{and_right, and_true, le_or_lt}
 use Rattle.theory.proofs.Lists.{any_none, none_any, left, left_zero, left_none, left_same, left_one, left_all}
 use Rattle.theory.proofs.Sets.{member_union, member_empty}
-use Rattle.theory.proofs.Grips.{has_held, takes_no_held}
 use Rattle.theory.proofs.Outer.{plain_operand, plain_take}
 use Rattle.theory.proofs.Claims.{outermost}
 use Rattle.rows.proofs.Counted.{taken_operand}
@@ -36,9 +35,16 @@ use Rattle.sets.proofs.Members.{member_only_if}
 use Rattle.verdict.specs.declared.waiting.Waiting.{Waiting}
 use Rattle.verdict.specs.Waiting.{slot, takes_one, added, tallied, scarce_if, scarce_below, counted, settled}
 use Rattle.verdict.specs.Waiting.{CanRise, CanFall}
-use Rattle.verdict.specs.State.{through, wanted, Counted}
 
 -- ---- undone lines that take a device
+
+-- line k does not want device d any more
+unfoldable pub through : List ℕ → List ℕ → ℕ → ℕ → Bool
+through p done d k = has k done || not (takes p k d)
+
+unfoldable pub wanted : List ℕ → List ℕ → ℕ → ℕ
+unfolding through
+wanted p done d = left (through p done d) (length p)
 
 -- a line is done: one less where it takes the device
 wanted_step : (p done : List ℕ) (x d : ℕ) → x < length p → has x done ≡ false
@@ -156,7 +162,7 @@ unfolding tallied added
 tallied_length p zero = refl
 tallied_length p (suc n) = length-set (tallied p n) (slot (plain_at p n)) _ ∙ tallied_length p n
 
-module _ (p : List ℕ) (w : WellFormed (board_at true) p) where
+module _ (p : List ℕ) (w : WellFormed board p) where
   -- an outermost take's entry is that of its device
   takes_slot : (k d : ℕ) → (is_take (plain_at p k) && eqb (slot (plain_at p k)) d) ≡ takes p k d
   unfolding takes
@@ -166,7 +172,7 @@ module _ (p : List ℕ) (w : WellFormed (board_at true) p) where
       go false t = refl
       go true t =
           let own = taken_operand p k (outermost p k t).0 in
-          let h = rw own at (device_below (board_at true) p w k (device_at p k) (takes_own p k t)) in
+          let h = rw own at (device_below board p w k (device_at p k) (takes_own p k t)) in
           let z : slot (at p k) ≡ operand (at p k) = mod-eq_of_lt h in rw (z, own)
 
   pub tallied_takes : (n d : ℕ) → d < devices → get_or (tallied p n) d 0 ≡ left (through p [] d) n
@@ -231,31 +237,19 @@ scarce_now true true c n e = rw (e refl) (go (le_or_lt n 1))
 
 -- ---- what the counts and the scarce devices say after the lines done
 
-module _ {p : List ℕ} (w : WellFormed (board_at true) p) where
-  -- at first the held lines are done, of which none takes a device
-  held_through : (d k : ℕ) → through p [] d k ≡ through p (held_lines p) d k
-  unfolding through has any
-  held_through d k = go (test (has k (held_lines p))) (test (takes p k d))
-    where
-      go : (has k (held_lines p) ≡ true) ⊎ (has k (held_lines p) ≡ false)
-          → (takes p k d ≡ true) ⊎ (takes p k d ≡ false)
-          → (has k [] || not (takes p k d)) ≡ (has k (held_lines p) || not (takes p k d))
-      go (inr h) t = rw h
-      go (inl h) (inr t) = rw (h, t)
-      go (inl h) (inl t) = clash (held_at p k) (has_held p k h).1 (takes_no_held p k d t)
+pub record Counted (p done counts : List ℕ) (scarce : ℕ) : Type 0 where
+  pub long : length counts ≡ devices
+  pub counts_are : (d : ℕ) → d < devices → get_or counts d 0 ≡ wanted p done d
+  pub scarce_are : (d : ℕ) → d < devices → member scarce d ≡ leb (wanted p done d) 1
 
-  first_counts : (d : ℕ) → d < devices → get_or (tallied p (length p)) d 0 ≡ wanted p (held_lines p) d
+module _ {p : List ℕ} (w : WellFormed board p) where
+  pub none_counted : Counted p [] (tallied p (length p)) (scarce_below (tallied p (length p)) devices)
   unfolding wanted
-  first_counts d h =
-      tallied_takes p w (length p) d h
-      ∙ left_same (through p [] d) (through p (held_lines p) d) (length p) (λ k l. held_through d k)
-
-  pub first_counted : Counted p (held_lines p) (tallied p (length p)) (scarce_below (tallied p (length p)) devices)
-  first_counted = record {
+  none_counted = record {
     long = tallied_length p (length p);
-    counts_are = first_counts;
+    counts_are = λ d h. tallied_takes p w (length p) d h;
     scarce_are = λ d h. scarce_below_lem (tallied p (length p)) devices d h
-        ∙ rw (lt-ltb d devices h, first_counts d h);
+        ∙ rw (lt-ltb d devices h, tallied_takes p w (length p) d h);
   }
 
   module _ {done counts : List ℕ} {scarce : ℕ} (c : Counted p done counts scarce) {x : ℕ} (l : x < length p)

@@ -4,11 +4,8 @@ pub mod Counts
 pub mod Places
 pub mod Standing
 pub mod Choosing
-pub mod Beginning
-pub mod Running
 pub mod Keeping
 pub mod Loop
-pub mod Closing
 pub mod Findings
 pub mod Outcome
 pub mod Steps

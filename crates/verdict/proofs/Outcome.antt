@@ -1,5 +1,4 @@
--- The outcomes of the verdict, by what its tests found (01, "Refusal numbers", and "The order handed out"), on a plan
--- of the morning or one that is taken up at midday.
+-- The outcomes of the verdict, by what its tests found (01, "Refusal numbers", and "The order handed out").
 use Prim.Native.Nat.{ℕ, ◌<◌, ◌≤◌}
 use mathlib.Core.List.{List, map}
 use mathlib.Core.Option.{none, some}
@@ -8,48 +7,55 @@ use lib.ListN.{length}
 use borrow.Author.Tests.{lt-ltb, le-ltb}
 use Rattle.model.specs.Lists.{over}
 use Rattle.model.specs.Answers.{refuse_if, first_refusal, too_short}
-use Rattle.model.specs.Line.{Settings, line_number}
+use Rattle.model.specs.Line.{line_number}
 use Rattle.model.specs.WellFormed.{fault}
 use Rattle.model.specs.Mate.{steps}
 use Rattle.model.specs.Handed.{handed}
 use Rattle.model.specs.Verdict.{no_order, held_at_end}
 use Rattle.model.specs.Entries.{verdict_refusal, ordering}
+use Rattle.model.specs.Board.{devices, board}
 use Rattle.model.specs.declared.Refusal.{Refusal}
 use Rattle.model.specs.declared.Refusal.TheVariants.{ListTooShort}
 use Rattle.model.specs.declared.VerdictAnswer.{VerdictAnswer}
+use Rattle.theory.proofs.WellFormed.{no_fault_exactly, no_held_in_morning}
+use Rattle.theory.proofs.Morning.{all_steps}
 use Rattle.promises.specs.Verdict.{OrdersAs}
 use Rattle.promises.proofs.Tight.{by_refusal, by_none}
 
-module _ (S : Settings) (p lent : List ℕ) where
-  refused : (r : Refusal) → verdict_refusal S p lent ≡ some r → OrdersAs S p lent (VerdictAnswer.Refused r) lent
+module _ (p lent : List ℕ) where
+  refused : (r : Refusal) → verdict_refusal board p lent ≡ some r → OrdersAs board p lent (VerdictAnswer.Refused r) lent
   unfolding ordering
   refused r e =
-      by_refusal VerdictAnswer.Refused (VerdictAnswer.Held (held_at_end S.devices p))
-      (over (map line_number (handed p)) lent) lent (verdict_refusal S p lent) r e
+      by_refusal VerdictAnswer.Refused (VerdictAnswer.Held (held_at_end devices p))
+      (over (map line_number (handed p)) lent) lent (verdict_refusal board p lent) r e
 
-  -- 2 to 7, 16 and 17
-  pub faulty : (r : Refusal) → fault S p ≡ some r → OrdersAs S p lent (VerdictAnswer.Refused r) lent
+  -- 2 to 7
+  pub faulty : (r : Refusal) → fault board p ≡ some r → OrdersAs board p lent (VerdictAnswer.Refused r) lent
   unfolding first_refusal
   faulty r e = refused r (rw e)
 
-  module _ (sound : fault S p ≡ none) (n : ℕ) (all : n ≡ length (steps p)) where
-    -- 11
-    pub short : length lent < n → OrdersAs S p lent (VerdictAnswer.Refused (ListTooShort n)) lent
-    unfolding first_refusal too_short refuse_if
-    short h = refused (ListTooShort n) (rw (sound, ← all, lt-ltb (length lent) n h))
+  module _ (sound : fault board p ≡ none) where
+    -- every line is a step
+    lines : length (steps p) ≡ length p
+    lines = all_steps p (no_held_in_morning devices p ((no_fault_exactly board p).0 sound))
 
-    module _ (room : n ≤ length lent) where
+    -- 11
+    pub short : length lent < length p → OrdersAs board p lent (VerdictAnswer.Refused (ListTooShort (length p))) lent
+    unfolding first_refusal too_short refuse_if
+    short h = refused (ListTooShort (length p)) (rw (sound, lines, lt-ltb (length lent) (length p) h))
+
+    module _ (room : length p ≤ length lent) where
       -- 9 and 10
-      pub without_order : (r : Refusal) → no_order S.devices p ≡ some r
-          → OrdersAs S p lent (VerdictAnswer.Refused r) lent
+      pub without_order : (r : Refusal) → no_order devices p ≡ some r → OrdersAs board p lent
+          (VerdictAnswer.Refused r) lent
       unfolding first_refusal too_short refuse_if
-      without_order r e = refused r (rw (sound, ← all, le-ltb (length lent) n room, e))
+      without_order r e = refused r (rw (sound, lines, le-ltb (length lent) (length p) room, e))
 
       -- the order
-      pub ordered : (held : ℕ) (left : List ℕ) → no_order S.devices p ≡ none → held ≡ held_at_end S.devices p
-          → left ≡ over (map line_number (handed p)) lent → OrdersAs S p lent (VerdictAnswer.Held held) left
+      pub ordered : (held : ℕ) (left : List ℕ) → no_order devices p ≡ none → held ≡ held_at_end devices p
+          → left ≡ over (map line_number (handed p)) lent → OrdersAs board p lent (VerdictAnswer.Held held) left
       unfolding ordering first_refusal too_short refuse_if
       ordered held left e h l = rw h
-          (by_none VerdictAnswer.Refused (VerdictAnswer.Held (held_at_end S.devices p))
-          (over (map line_number (handed p)) lent) lent (verdict_refusal S p lent) left
-          (rw (sound, ← all, le-ltb (length lent) n room, e)) l)
+          (by_none VerdictAnswer.Refused (VerdictAnswer.Held (held_at_end devices p))
+          (over (map line_number (handed p)) lent) lent (verdict_refusal board p lent) left
+          (rw (sound, lines, le-ltb (length lent) (length p) room, e)) l)

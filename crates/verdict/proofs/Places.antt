@@ -18,8 +18,13 @@ use Rattle.sets.specs.Only.{only_of}
 use Rattle.sets.specs.Both.{without}
 use Rattle.verdict.specs.declared.waiting.Waiting.{Waiting}
 use Rattle.verdict.specs.Waiting.{all_places, place_at, waits, with_set, taken, vacated, arrived, placed, settled}
-use Rattle.verdict.specs.State.{Shows}
 use Rattle.verdict.proofs.Foremost.{waits_taken, waits_vacated}
+
+-- the lines of which S holds wait at their places, and no place else is taken
+pub record Shows (p : List ℕ) (S : ℕ → Type 0) (places : List ℕ) (w : Waiting) : Type 0 where
+  pub long : length places ≡ all_places
+  pub there : (i : ℕ) → S i → (waits w (place_at p i) ≡ true) × (get_or places (place_at p i) 0 ≡ i)
+  pub only : (s : ℕ) → s < all_places → waits w s ≡ true → (i : ℕ) × S i × (place_at p i ≡ s)
 
 -- line i is line t, and t is a line
 abbrev pub Comes : List ℕ → ℕ → ℕ → Type 0

@@ -16,7 +16,7 @@ use Rattle.model.specs.Line.{job, kind, operand, is_start, starts, at, has_lines
 use Rattle.model.specs.Mate.{device_at, lasting_at}
 use Rattle.model.specs.WellFormed.{WellFormed}
 use Rattle.model.specs.Legal.{precedes}
-use Rattle.model.specs.Board.{devices, board_at}
+use Rattle.model.specs.Board.{devices, board}
 use Rattle.theory.proofs.Tests.{clash, test, falsely, and_split, and_both, le_or_lt}
 use Rattle.theory.proofs.Line.{start_parts, start_of, start_operand, line_parts}
 use Rattle.theory.proofs.WellFormed.{any_line, start_line}
@@ -27,12 +27,10 @@ use Rattle.theory.proofs.Places.{lasting_parts, lasting_keeps}
 use Rattle.theory.proofs.Claims.{outermost}
 use Rattle.rows.proofs.Counted.{lasting_takes_lem, taken_operand}
 use Rattle.theory.proofs.Progress.{lasting_own, device_below}
-use Rattle.theory.proofs.Turns.{Closed}
 use Rattle.theory.proofs.LineByLine.{Stands, LowestIs, stood, more_old, more_only, more_not, not_more}
 use Rattle.plan.specs.Jobs.{first_lines}
 use Rattle.plan.proofs.Firsts.{first_listed}
 use Rattle.verdict.specs.Waiting.{all_places, place_at, followed, goes_on, lasting_after, started_line}
-use Rattle.verdict.specs.State.{Beside}
 use Rattle.verdict.proofs.Places.{Comes}
 
 -- ---- the lines that a line lets stand next
@@ -75,7 +73,7 @@ pub record Starts (p : List ℕ) (x : ℕ) : Type 0 where
   pub listed : get_or (first_lines p) (operand (at p x)) 0 ≡ suc (started_line p x)
   pub begun : Begun p x (started_line p x)
 
-pub the_start : {p : List ℕ} → WellFormed (board_at true) p → (x : ℕ) → is_start (at p x) ≡ true → Starts p x
+pub the_start : {p : List ℕ} → WellFormed board p → (x : ℕ) → is_start (at p x) ≡ true → Starts p x
 unfolding started_line is_start has_lines
 the_start {p} w x e =
     let f = first_listed p j k.0 small k.1 (eqb-true (job (at p k.0)) j k.2) in
@@ -99,10 +97,9 @@ the_start {p} w x e =
     k = any_line (λ l. eqb (job l) j) p (w.rules.start_has_lines x j s)
 
     small : j ≤ max_job
-    small = start_operand (board_at true) (at p x) (w.lines x (start_line p x j s)) (eqb-true (kind (at p x)) 3 e)
+    small = start_operand board (at p x) (w.lines x (start_line p x j s)) (eqb-true (kind (at p x)) 3 e)
 
-started_at : {p : List ℕ} → WellFormed (board_at true) p → (x : ℕ) → started_line p x < length p
-    → Begun p x (started_line p x)
+started_at : {p : List ℕ} → WellFormed board p → (x : ℕ) → started_line p x < length p → Begun p x (started_line p x)
 unfolding started_line
 started_at {p} w x h = go (test (is_start (at p x)))
   where
@@ -121,19 +118,27 @@ module _ (p : List ℕ) (i : ℕ) where
   unfolding place_at
   place_job e = rw e
 
+-- whatever has to come before a line done is done
+abbrev pub Closed : List ℕ → List ℕ → Type 0
+Closed p done = (k i : ℕ) → k < length p → has i done ≡ true → precedes p k i ≡ true → has k done ≡ true
+
+-- the lines that stand next, but line i where its job goes on
+abbrev pub Beside : List ℕ → List ℕ → Bool → ℕ → ℕ → Type 0
+Beside p done on i k = Stands p done k × (on ≡ true → k ≢ i)
+
 -- of two lines of one job the lower does not stand
 pub not_above : {p done : List ℕ} {i k : ℕ} → Stands p done i → Stands p done k → job (at p i) ≡ job (at p k) → i < k
     → ⊥
 not_above {p} {done} {i} {k} s t e l =
     clash (precedes p i k) (earlier_precedes p i k l e) (t.first i s.line s.waiting)
 
-module _ {p : List ℕ} (w : WellFormed (board_at true) p) where
+module _ {p : List ℕ} (w : WellFormed board p) where
   pub job_fits : (i : ℕ) → i < length p → (1 ≤ job (at p i)) × (job (at p i) ≤ max_job)
-  job_fits i h = let r = line_parts (board_at true) (at p i) (w.lines i h) in (r.0, r.1)
+  job_fits i h = let r = line_parts board (at p i) (w.lines i h) in (r.0, r.1)
 
   pub lasting_below : (i : ℕ) → lasting_at p i ≡ true → device_at p i < devices
   lasting_below i e =
-      device_below (board_at true) p w i (device_at p i) (lasting_parts p i (device_at p i) (lasting_own p i e)).0
+      device_below board p w i (device_at p i) (lasting_parts p i (device_at p i) (lasting_own p i e)).0
 
   pub place_below : (i : ℕ) → i < length p → place_at p i < all_places
   place_below i h = go (test (lasting_at p i))
@@ -178,6 +183,36 @@ module _ {p : List ℕ} (w : WellFormed (board_at true) p) where
       go (inr a) (inl b) = absurd (omega (arith, e, place_job p i a, place_lasting p k b, fits.1, fits.0))
       go (inr a) (inr b) =
           one (omega (arith, e, place_job p i a, place_job p k b, fits.0, fits_k.0)) (le_or_lt i k) (le_or_lt k i)
+
+  -- ---- at the start
+
+  pub first_stands : 0 < length p → Stands p [] 0
+  unfolding has
+  first_stands h = record {
+    line = h;
+    waiting = refl;
+    first = λ k l e. falsely (precedes p k 0) (λ b. omega (arith, (precedes_reaches p w.rules k 0 l h b).0));
+  }
+
+  pub stands_first : (i : ℕ) → Stands p [] i → i ≡ 0
+  unfolding has
+  stands_first i s = go (test (eqb i 0)) (test (eqb (job (at p i)) 1))
+    where
+      nonempty : 0 < length p
+      nonempty = omega (arith, s.line)
+
+      go : (eqb i 0 ≡ true) ⊎ (eqb i 0 ≡ false) → (eqb (job (at p i)) 1 ≡ true) ⊎ (eqb (job (at p i)) 1 ≡ false)
+          → i ≡ 0
+      go (inl q) c = eqb-true i 0 q
+      go (inr q) (inl c) =
+          let n = eqb-false i 0 q in
+          clash (precedes p 0 i)
+          (earlier_precedes p 0 i (omega (arith, n)) (w.rules.first nonempty ∙ sym (eqb-true (job (at p i)) 1 c)))
+          (s.first 0 nonempty refl)
+      go (inr q) (inr c) =
+          let r = any_line (λ l. starts l (job (at p i))) p
+          (w.started refl i s.line (eqb-false (job (at p i)) 1 c)) in
+          clash (precedes p r.0 i) (start_precedes p r.0 i r.2) (s.first r.0 r.1 refl)
 
   -- ---- a line is done
 

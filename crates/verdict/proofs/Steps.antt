@@ -11,7 +11,7 @@ use borrow.Author.Tests.{eq-eqb, ne_eqb}
 use Rattle.model.specs.Line.{max_lines}
 use Rattle.model.specs.Mate.{lasting_at}
 use Rattle.model.specs.WellFormed.{WellFormed}
-use Rattle.model.specs.Board.{board_at}
+use Rattle.model.specs.Board.{board}
 use Rattle.theory.proofs.WellFormed.{no_fault_exactly}
 use Rattle.rows.specs.Lasting.{lasting_flag}
 use Rattle.rows.proofs.Wanted.{flag_at}
@@ -19,8 +19,8 @@ use Rattle.verdict.specs.Waiting.{Marked, place_at, placed, followed, goes_on, l
 use Rattle.verdict.proofs.Standing.{followed_parts}
 
 module _ {p lasting : List ℕ} (m : Marked p lasting) where
-  pub formed : WellFormed (board_at true) p
-  formed = (no_fault_exactly (board_at true) p).0 m.sound
+  pub formed : WellFormed board p
+  formed = (no_fault_exactly board p).0 m.sound
 
   pub few : length p ≤ max_lines
   few = formed.few

@@ -1,4 +1,3 @@
 -- What the contracts of `verdict` cite beside `model` and `promises`.
 pub mod Waiting
-pub mod State
 pub mod Findings

@@ -3,15 +3,14 @@
 -- of its job. The places taken are two sets, of jobs and of devices, so the lowest is read off a word; a list says
 -- which line waits at each place. Takes still to do are counted by device, and a third set has the devices that at most
 -- one of them takes; lines are counted as they count, so that a take of what its job holds is none (02, request 2).
-use Rattle.std.specs.Prelude.{ℕ, zero, suc, ◌+◌, ◌-◌, ◌%◌, ◌<◌, ◌≤◌, Bool, true, cond, not, ◌&&◌, ◌||◌, List, ◌≡◌, eqb, leb, ltb, length, get_or, set, replicate}
+use Rattle.std.specs.Prelude.{ℕ, zero, suc, ◌+◌, ◌-◌, ◌%◌, ◌≤◌, Bool, cond, not, ◌&&◌, List, ◌≡◌, eqb, leb, ltb, length, get_or, set, replicate}
 use Rattle.std.proofs.Math.Option.{none}
 use mir.Val.{bool_byte}
 use Rattle.model.specs.Sets.{empty, union, member, lowest_of}
-use Rattle.model.specs.Lists.{any}
-use Rattle.model.specs.Line.{job, operand, is_take, is_start, starts, at, line_number, max_lines, max_job}
-use Rattle.model.specs.Mate.{held_at, lasting_at}
+use Rattle.model.specs.Line.{job, operand, is_take, is_start, at, max_lines, max_job}
+use Rattle.model.specs.Mate.{lasting_at}
 use Rattle.model.specs.WellFormed.{fault}
-use Rattle.model.specs.Board.{devices, board_at}
+use Rattle.model.specs.Board.{devices, board}
 use Rattle.theory.specs.Outer.{plain_at}
 use Rattle.sets.specs.Only.{only_of}
 use Rattle.sets.specs.Both.{both, without}
@@ -22,16 +21,10 @@ use Rattle.verdict.specs.declared.order.Choice.{Choice}
 
 -- ---- what the code is told of a plan
 
--- it has no fault (a plan of the morning has none at midday either), and 1 stands for each lasting take, 0 for every
--- other line
+-- it has no fault, and 1 stands for each lasting take, 0 for every other line
 pub record Marked (p lasting : List ℕ) : Type 0 where
-  pub sound : fault (board_at true) p ≡ none
+  pub sound : fault board p ≡ none
   pub marks : lasting ≡ lasting_flags p
-
--- and for each job the number of its first line is listed
-pub record Numbered (p first : List ℕ) : Type 0 where
-  pub sound : fault (board_at true) p ≡ none
-  pub firsts : first ≡ first_lines p
 
 -- ---- places: those of the jobs, job j at j - 1, and past them those of the devices
 
@@ -157,51 +150,3 @@ passed p counts w i = arrived p (arrived p (settled counts w (plain_at p i)) (la
 -- and the list of the lines that wait
 unfoldable pub replaced : List ℕ → List ℕ → ℕ → List ℕ
 replaced p places i = placed p (placed p places (lasting_after p i)) (started_line p i)
-
--- ---- n lines from line i on are done one after the other, of which none waits at a place
-
-unfoldable pub counted_run : List ℕ → List ℕ → ℕ → ℕ → List ℕ
-counted_run p counts i zero = counts
-counted_run p counts i (suc n) = counted (counted_run p counts i n) (plain_at p (i + n))
-
-unfoldable pub passed_run : List ℕ → List ℕ → Waiting → ℕ → ℕ → Waiting
-passed_run p counts w i zero = w
-passed_run p counts w i (suc n) = passed p (counted_run p counts i n) (passed_run p counts w i n) (i + n)
-
-unfoldable pub replaced_run : List ℕ → List ℕ → ℕ → ℕ → List ℕ
-replaced_run p places i zero = places
-replaced_run p places i (suc n) = replaced p (replaced_run p places i n) (i + n)
-
--- their numbers are written from entry k on
-unfoldable pub written_run : List ℕ → ℕ → ℕ → ℕ → List ℕ
-written_run order k i zero = order
-written_run order k i (suc n) = set (written_run order k i n) (k + n) (line_number (i + n))
-
--- each of them can be taken off the counts
-abbrev pub CanRun : List ℕ → List ℕ → ℕ → ℕ → Type 0
-CanRun p counts i n = (m : ℕ) → m < n → CanFall (counted_run p counts i m) (plain_at p (i + m))
-
--- the line after line i, at which its job stands; else the plan's length
-unfoldable pub line_after : List ℕ → ℕ → ℕ
-line_after p i = cond (goes_on p i) (suc i) (length p)
-
--- ---- at first, with the held lines done (02, request 5)
-
--- line i is the first of its job, or the line before it is held
-unfoldable pub opens_job : List ℕ → ℕ → Bool
-opens_job p zero = true
-opens_job p (suc i) = not (eqb (job (at p i)) (job (at p (suc i)))) || held_at p i
-
--- it stands next at first: it is not held, no line starts its job, and no line that is not held stands before it in
--- its job
-unfoldable pub stands_first : List ℕ → ℕ → Bool
-stands_first p i = (not (held_at p i) && not (any (λ l. starts l (job (at p i))) p)) && opens_job p i
-
--- each of the first n lines that does comes to its place
-unfoldable pub begun : List ℕ → Waiting → ℕ → Waiting
-begun p w zero = w
-begun p w (suc n) = cond (stands_first p n) (arrived p (begun p w n) n) (begun p w n)
-
-unfoldable pub begun_places : List ℕ → List ℕ → ℕ → List ℕ
-begun_places p places zero = places
-begun_places p places (suc n) = cond (stands_first p n) (placed p (begun_places p places n) n) (begun_places p places n)

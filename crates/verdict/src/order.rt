@@ -2,21 +2,21 @@
 // line is no lasting take: it stays the lowest that can go on, since a job starts only higher ones. Every other line
 // that stands next waits at a place, which it leaves to be done. Takes still to do are counted by lines as they count,
 // so that a take of what its job holds is none (02, request 2).
-ghost use Rattle.std.specs.Prelude.{true, false, ◌≡◌, map, ◌<◌, ◌≤◌, length};
+ghost use Rattle.std.specs.Prelude.{false, ◌≡◌, map, ◌<◌, ◌≤◌, length};
 ghost use Rattle.std.proofs.Math.Option.{none};
 ghost use Rattle.model.specs.Lists.{over};
 ghost use Rattle.model.specs.Line.{line_number, job};
 ghost use Rattle.model.specs.WellFormed.{fault};
 ghost use Rattle.model.specs.Handed.{handed};
-ghost use Rattle.model.specs.Mate.{steps as steps_of};
-ghost use Rattle.model.specs.Board.{devices, board_at};
+ghost use Rattle.model.specs.Verdict.{no_order};
+ghost use Rattle.model.specs.Board.{devices, board};
 ghost use Rattle.theory.specs.Outer.{plain_at};
 ghost use Rattle.plan.specs.Again.{again_flags};
-ghost use Rattle.verdict.specs.Waiting.{Marked, Numbered, all_places, waiting_place, foremost, arrived};
+ghost use Rattle.plan.specs.Jobs.{FirstsListed};
+ghost use Rattle.verdict.specs.Waiting.{Marked, all_places, waiting_place, foremost, arrived};
 ghost use Rattle.verdict.specs.Waiting.{placed, followed, goes_on, lasting_after, started_line, passed};
 ghost use Rattle.verdict.specs.Waiting.{replaced, choosing, added, tallied, scarce_below, counted};
 ghost use Rattle.verdict.specs.Waiting.{settled, CanRise, CanFall};
-ghost use Rattle.verdict.specs.State.{Told, Turning};
 
 use crate::waiting;
 use crate::waiting::{PLACES, Waiting};
@@ -38,7 +38,7 @@ fn place(l: u32, lasting: bool) -> u32
 }
 
 // Line `i` comes to its place. Past the plan's end there is no line, and none comes.
-pub fn arrive(
+fn arrive(
     plan: &[u32],
     lasting: &[u8; MOST_LINES],
     places: &mut [usize; PLACES],
@@ -70,7 +70,7 @@ fn job_follows(plan: &[u32], i: usize) -> bool
 }
 
 // Does the job of line `i` go on after it, at a line that is no lasting take?
-pub fn goes_on(plan: &[u32], lasting: &[u8; MOST_LINES], i: usize) -> bool
+fn goes_on(plan: &[u32], lasting: &[u8; MOST_LINES], i: usize) -> bool
     requires { Marked plan.now lasting.now × (i < length plan.now) }
     ensures { result ≡ goes_on plan.now i }
 {
@@ -95,7 +95,7 @@ fn lasting_after(plan: &[u32], lasting: &[u8; MOST_LINES], i: usize) -> usize
 
 // The first line of the job that line `i` starts; the plan's length where it starts none.
 fn started(plan: &[u32], first: &[u32; EACH_JOB], i: usize) -> usize
-    requires { Numbered plan.now first.now × (i < length plan.now) }
+    requires { FirstsListed plan.now first.now × (i < length plan.now) }
     ensures { result ≡ started_line plan.now i }
 {
     let l = plan[i];
@@ -125,7 +125,7 @@ fn settle(counts: &mut [u32; EACH_DEVICE], w: Waiting, l: u32) -> Waiting
 }
 
 // Line `i`, which waits at no place, is done.
-pub fn pass(
+fn pass(
     plan: &[u32],
     first: &[u32; EACH_JOB],
     again: &[u8; MOST_LINES],
@@ -135,7 +135,7 @@ pub fn pass(
     w: Waiting,
     i: usize,
 ) -> Waiting
-    requires marked { Marked plan.now lasting.now × Numbered plan.now first.now × (i < length plan.now) }
+    requires marked { Marked plan.now lasting.now × FirstsListed plan.now first.now × (i < length plan.now) }
     requires again_value { (again.now ≡ again_flags plan.now) × (length places.old ≡ all_places)
         × CanFall counts.old (plain_at plan.now i) }
     ensures value { result ≡ passed plan.now counts.old w i }
@@ -175,8 +175,8 @@ fn count(counts: &mut [u32; EACH_DEVICE], l: u32)
 }
 
 // How many lines take each device. `again` has the flags of the lines that take again.
-pub fn tally(plan: &[u32], again: &[u8; MOST_LINES]) -> [u32; EACH_DEVICE]
-    requires { (fault (board_at true) plan.now ≡ none) × (again.now ≡ again_flags plan.now) }
+fn tally(plan: &[u32], again: &[u8; MOST_LINES]) -> [u32; EACH_DEVICE]
+    requires { (fault board plan.now ≡ none) × (again.now ≡ again_flags plan.now) }
     ensures { result ≡ tallied plan.now (length plan.now) }
 {
     let mut counts = [0u32; EACH_DEVICE];
@@ -189,7 +189,7 @@ pub fn tally(plan: &[u32], again: &[u8; MOST_LINES]) -> [u32; EACH_DEVICE]
 }
 
 // The devices that at most one line takes.
-pub fn scarce(counts: &[u32; EACH_DEVICE]) -> Set
+fn scarce(counts: &[u32; EACH_DEVICE]) -> Set
     ensures { result ≡ scarce_below counts.now devices }
 {
     let mut s = sets::NONE;
@@ -201,35 +201,36 @@ pub fn scarce(counts: &[u32; EACH_DEVICE]) -> Set
     s
 }
 
-// The turns, after `begun` steps, which are written: the rest of the order, up to the plan's last step.
-pub fn turns(
+// The order of a plan that has one, into the front of the lent list.
+pub fn hand_out(
     plan: &[u32],
     first: &[u32; EACH_JOB],
     again: &[u8; MOST_LINES],
     lasting: &[u8; MOST_LINES],
-    steps: usize,
-    places: &mut [usize; PLACES],
-    counts: &mut [u32; EACH_DEVICE],
-    waiting: Waiting,
-    begun: usize,
     order: &mut [u16],
 )
-    requires told { Told plan.now first.now again.now lasting.now
-        × (steps ≡ length (steps_of plan.now)) × (length (steps_of plan.now) ≤ length order.old) }
-    requires turning { Turning plan.now places.old counts.old waiting begun order.old }
+    requires marked { Marked plan.now lasting.now × FirstsListed plan.now first.now
+        × (again.now ≡ again_flags plan.now) }
+    requires plan_value { (no_order devices plan.now ≡ none) × (length plan.now ≤ length order.old) }
     ensures { order.new ≡ over (map line_number (handed plan.now)) order.old }
 {
-    let mut w = waiting;
-    // Line `i` goes next if `on`: the next line of a job that goes on.
-    let mut on = false;
+    let mut places = [0usize; PLACES];
+    let mut counts = tally(plan, again);
+    let mut w = Waiting {
+        ready: sets::NO_JOBS,
+        awaited: sets::NONE,
+        scarce: scarce(&counts),
+    };
+    // Line `i` goes next if `on`: at first line 0, and then the next line of a job that goes on.
+    let mut on = true;
     let mut i: usize = 0;
-    let mut k = begun;
-    while k < steps {
-        let c = goes_next(places, w, on, i);
+    let mut k = 0;
+    while k < plan.len() {
+        let c = goes_next(&places, w, on, i);
         i = c.line;
         w = c.others;
         order[k] = (i + 1) as u16;
-        w = pass(plan, first, again, lasting, places, counts, w, i);
+        w = pass(plan, first, again, lasting, &mut places, &mut counts, w, i);
         on = goes_on(plan, lasting, i);
         i += 1;
         k += 1;

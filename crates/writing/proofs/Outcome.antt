@@ -1,4 +1,4 @@
--- The three outcomes of `write_at`, by what its tests found (01, "Refusal numbers").
+-- The three outcomes of `write`, by what its tests found (01, "Refusal numbers").
 use Prim.Native.Nat.{ℕ, ◌<◌, ◌≤◌}
 use mathlib.Core.List.{List, [], ◌∷◌}
 use mathlib.Core.Option.{Option, none, some}
@@ -8,7 +8,8 @@ use lib.ListN.{length}
 use borrow.Author.Tests.{lt-ltb, le-ltb}
 use Rattle.model.specs.Lists.{over}
 use Rattle.model.specs.Answers.{refuse_if, first_refusal, too_short}
-use Rattle.model.specs.Line.{Settings, max_bytes}
+use Rattle.model.specs.Board.{board}
+use Rattle.model.specs.Line.{max_bytes}
 use Rattle.model.specs.Text.{text_of}
 use Rattle.model.specs.WellFormed.{fault}
 use Rattle.model.specs.Entries.{writing}
@@ -23,35 +24,35 @@ use Rattle.promises.specs.Text.{WritesAs}
 use Rattle.promises.proofs.Tight.{by_refusal, by_none}
 
 -- the text of a plan without a fault has at most so many bytes
-pub text_fits : (S : Settings) (p : List ℕ) → fault S p ≡ none → length (text_of p) ≤ max_bytes
-text_fits S p e =
-    let w = (no_fault_exactly S p).0 e in omega (arith, text_length S p w.lines, w.few)
+pub text_fits : (p : List ℕ) → fault board p ≡ none → length (text_of p) ≤ max_bytes
+text_fits p e =
+    let w = (no_fault_exactly board p).0 e in omega (arith, text_length board p w.lines, w.few)
 
-module _ (S : Settings) (p lent : List ℕ) where
+module _ (p lent : List ℕ) where
   tests : Option Refusal
-  tests = first_refusal (fault S p ∷ too_short (length lent) (length (text_of p)) ∷ [])
+  tests = first_refusal (fault board p ∷ too_short (length lent) (length (text_of p)) ∷ [])
 
-  refused : (r : Refusal) → tests ≡ some r → WritesAs S p lent (WriteAnswer.Refused r) lent
+  refused : (r : Refusal) → tests ≡ some r → WritesAs board p lent (WriteAnswer.Refused r) lent
   unfolding writing tests
   refused r e =
       by_refusal WriteAnswer.Refused (WriteAnswer.Bytes (length (text_of p))) (over (text_of p) lent) lent tests r e
 
-  -- 2 to 7, 16 and 17
-  pub faulty : (r : Refusal) → fault S p ≡ some r → WritesAs S p lent (WriteAnswer.Refused r) lent
+  -- 2 to 7
+  pub faulty : (r : Refusal) → fault board p ≡ some r → WritesAs board p lent (WriteAnswer.Refused r) lent
   unfolding tests first_refusal
   faulty r e = refused r (rw e)
 
   -- the text put from the buffer's start on, where no test of the plan refused
-  module _ (e : fault S p ≡ none) (n : ℕ) (f : n ≡ length (text_of p)) {past : ℕ} {left : List ℕ}
+  module _ (e : fault board p ≡ none) (n : ℕ) (f : n ≡ length (text_of p)) {past : ℕ} {left : List ℕ}
       (x : PutsAs (text_of p) 0 lent past left) where
     -- 11
-    pub short : length lent < past → WritesAs S p lent (WriteAnswer.Refused (ListTooShort n)) left
+    pub short : length lent < past → WritesAs board p lent (WriteAnswer.Refused (ListTooShort n)) left
     unfolding tests first_refusal too_short refuse_if
     short h =
         let u = unfitted x h in
         rw u.1 (refused (ListTooShort n) (rw (e, ← f, lt-ltb (length lent) n (omega (arith, u.0)))))
 
-    pub written : past ≤ length lent → WritesAs S p lent (WriteAnswer.Bytes n) left
+    pub written : past ≤ length lent → WritesAs board p lent (WriteAnswer.Bytes n) left
     unfolding writing tests first_refusal too_short refuse_if
     written h =
         rw f

@@ -1,7 +1,6 @@
-// Writing a plan as text (01, "The plan as text"; "Refusal numbers" as far as it is on writing). The plan is one of the
-// morning or taken up at midday (02, request 5).
-ghost use Rattle.std.specs.Prelude.{ℕ, ◌+◌, ◌≤◌, ◌<◌, true, ◌≡◌, length};
-ghost use Rattle.model.specs.Board.{board, board_at};
+// Writing a plan as text (01, "The plan as text"; "Refusal numbers" as far as it is on writing).
+ghost use Rattle.std.specs.Prelude.{ℕ, ◌+◌, ◌≤◌, ◌<◌, ◌≡◌, length};
+ghost use Rattle.model.specs.Board.{board};
 ghost use Rattle.model.specs.Line.{at, job};
 ghost use Rattle.model.specs.Text.{decimal, line_text, text_of};
 ghost use Rattle.fields.specs.Puts.{PutsAs};
@@ -106,12 +105,12 @@ fn make(plan: &[u32], made: &mut [u8]) -> usize
     at
 }
 
-// A packed plan into a lent buffer of bytes, in the morning or at midday. It is made in full first, since a buffer that
-// is too short is left as it was.
-fn write_at(plan: &[u32], midday: bool, text: &mut [u8]) -> WriteAnswer
-    ensures { WritesAs (board_at midday) plan.now text.old result text.new }
+// A packed plan into a lent buffer of bytes. It is made in full first, since a buffer that is too short is left as it
+// was.
+pub fn write(plan: &[u32], text: &mut [u8]) -> WriteAnswer
+    ensures { WritesAs board plan.now text.old result text.new }
 {
-    if let Checked::Refused(r) = plan::fault(plan, midday) {
+    if let Checked::Refused(r) = plan::fault(plan, false) {
         return WriteAnswer::Refused(r);
     }
     let mut made = [0u8; MOST_BYTES];
@@ -120,18 +119,4 @@ fn write_at(plan: &[u32], midday: bool, text: &mut [u8]) -> WriteAnswer
         return WriteAnswer::Refused(Refusal::ListTooShort(n as u32));
     }
     WriteAnswer::Bytes(n as u32)
-}
-
-// A plan of the morning.
-pub fn write(plan: &[u32], text: &mut [u8]) -> WriteAnswer
-    ensures { WritesAs board plan.now text.old result text.new }
-{
-    write_at(plan, false, text)
-}
-
-// A plan that is taken up at midday (02, request 5), which may have held lines.
-pub fn resume_write(plan: &[u32], text: &mut [u8]) -> WriteAnswer
-    ensures { WritesAs (board_at true) plan.now text.old result text.new }
-{
-    write_at(plan, true, text)
 }

@@ -1,98 +1,33 @@
 //! The two sides on plans of all kinds, before any time is taken: whole and damaged plans, rings, lists too short,
-//! stale tables, orders that are legal and orders that are not, and the same for resumed plans. A version that refused
-//! differently would not be one to hold times against.
+//! stale tables, orders that are legal and orders that are not. A version that refused differently would not be one to
+//! hold times against.
 
 use crate::again::{deep, take_again};
-use crate::sides::{Build, MoveKept, Sides, FAST, MIDDAY, MORNING, OURS};
-use second::damage::{damaged_resumed, damaged_text};
+use crate::sides::{Build, MoveKept, FAST, OURS};
+use bench::fast;
 use second::elsewhere::{damaged, mixed};
-use second::line::{self, pack, Line};
+use second::line::{pack, Line};
 use second::random::{plan, ring, wish, Cut, Random};
-use second::resumed::{self, beside, held_ring, large_midday, midday};
 use std::collections::BTreeMap;
 
-/// Plans tried, and resumed ones.
+/// Plans tried.
 pub const TRIED: usize = 20_000;
-pub const RESUMED: usize = 10_000;
 
 /// How often each entry gave each refusal, 0 being that it gave none.
-pub type Counts = BTreeMap<(String, u64), usize>;
+pub type Counts = BTreeMap<(&'static str, u64), usize>;
 
-/// What is tried: two sides, with what the names of their entries begin with, and the answers so far.
-struct Trial {
-    sides: &'static Sides,
-    prefix: &'static str,
-    counts: Counts,
-}
-
-/// Tries both sides on all plans; what differs is an error.
+/// Tries both sides; what differs is an error.
 pub fn compare(random: &mut Random) -> Result<Counts, String> {
-    // Resumed plans have a generator of their own, so that the others do not hang on them.
-    let mut for_resumed = random.clone();
-    let mut counts = of_morning(random)?;
-    counts.append(&mut of_midday(&mut for_resumed)?);
-    Ok(counts)
-}
-
-/// Resumed plans, whole and damaged.
-fn of_midday(random: &mut Random) -> Result<Counts, String> {
-    let mut trial = Trial { sides: &MIDDAY, prefix: "resume_", counts: Counts::new() };
-    for _ in 0..RESUMED {
-        let mut packed = any_resumed(random);
-        let mut text = vec![0; 16 * packed.len()];
-        let bytes = (MIDDAY.fast.write)(&packed, &mut text) as usize;
-        text.truncate(bytes);
-        let mut table = vec![0; packed.len()];
-        (MIDDAY.fast.table)(&packed, &mut table);
-        if random.once_in(2) {
-            text = damaged_text(random, &text);
-            packed = damaged_resumed(random, &packed);
-        }
-        if random.once_in(4) && !table.is_empty() {
-            let at = random.below(table.len());
-            table[at] ^= 1 << random.below(32);
-        }
-        trial.lists(random, &text, &packed)?;
-        trial.judge(random, &packed)?;
-        trial.moves(random, &packed, &table)?;
-    }
-    Ok(trial.counts)
-}
-
-/// A resumed plan, of a few lines or of up to 1,024.
-fn any_resumed(random: &mut Random) -> Vec<u32> {
-    let lines = match random.below(8) {
-        0 => {
-            let length = 2 + random.below(6);
-            let cut = random.one_of(&[Cut::Whole, Cut::LeftOut, Cut::GivenBack]);
-            let ring = held_ring(random, length, cut);
-            beside(random, &ring)
-        }
-        1 => {
-            let midday = large_midday(random);
-            resumed::plan(random, midday)
-        }
-        _ => {
-            let most = random.one_of(&[8, 40, 300]);
-            let midday = midday(random, most, 64, 32);
-            resumed::plan(random, midday)
-        }
-    };
-    pack(&lines)
-}
-
-/// Plans of the morning.
-fn of_morning(random: &mut Random) -> Result<Counts, String> {
-    let mut trial = Trial { sides: &MORNING, prefix: "", counts: Counts::new() };
+    let mut counts = Counts::new();
     // Orders, and lists that are kept, have generators of their own, so that the plans do not hang on them.
     let (mut for_orders, mut for_kept) = (random.clone(), random.clone());
     for _ in 0..TRIED {
         let mut packed = any_plan(random);
         let mut text = vec![0; 16 * packed.len()];
-        let bytes = (FAST.write)(&packed, &mut text) as usize;
+        let bytes = fast::write(&packed, &mut text) as usize;
         text.truncate(bytes);
         let mut table = vec![0; packed.len()];
-        (FAST.table)(&packed, &mut table);
+        fast::table(&packed, &mut table);
         if random.once_in(2) {
             damage_text(random, &mut text);
             damage_plan(random, &mut packed);
@@ -101,13 +36,13 @@ fn of_morning(random: &mut Random) -> Result<Counts, String> {
             let at = random.below(table.len());
             table[at] ^= 1 << random.below(32);
         }
-        trial.lists(random, &text, &packed)?;
-        trial.judge(&mut for_orders, &packed)?;
-        trial.build(&mut for_kept, &packed)?;
-        trial.kept(&mut for_kept, &packed)?;
-        trial.moves(random, &packed, &table)?;
+        compare_lists(random, &text, &packed, &mut counts)?;
+        compare_judge(&mut for_orders, &packed, &mut counts)?;
+        compare_build(&mut for_kept, &packed, &mut counts)?;
+        compare_kept(&mut for_kept, &packed, &mut counts)?;
+        compare_move(random, &packed, &table, &mut counts)?;
     }
-    Ok(trial.counts)
+    Ok(counts)
 }
 
 /// A well-formed plan, of a few lines or of up to 1,024. About one in eight is a ring, and in about every other one
@@ -184,10 +119,65 @@ fn damage_plan(random: &mut Random, plan: &mut Vec<u32>) {
     }
 }
 
+/// Counts the answer, if the two sides gave the same.
+fn meet<T: PartialEq>(
+    counts: &mut Counts,
+    entry: &'static str,
+    ours: (u64, T),
+    fast: (u64, T),
+) -> Result<(), String> {
+    if ours.0 != fast.0 {
+        return Err(format!(
+            "{entry}, a plan of any kind: ours answers {:#x}, fast {:#x}",
+            ours.0, fast.0
+        ));
+    }
+    if ours.1 != fast.1 {
+        return Err(format!("{entry}, a plan of any kind: the lists differ"));
+    }
+    *counts.entry((entry, ours.0 >> 32)).or_default() += 1;
+    Ok(())
+}
+
 /// Calls an entry with a list of its own.
 fn lend<T: Clone>(list: &[T], call: impl FnOnce(&mut [T]) -> u64) -> (u64, Vec<T>) {
     let mut list = list.to_vec();
     (call(&mut list), list)
+}
+
+/// The entries that fill one list.
+fn compare_lists(
+    random: &mut Random,
+    text: &[u8],
+    plan: &[u32],
+    counts: &mut Counts,
+) -> Result<(), String> {
+    let room = if random.once_in(8) { random.below(plan.len() + 1) } else { 1_030 };
+    let (words, halves, bytes) = (vec![7u32; room], vec![7u16; room], vec![7u8; 12 * room]);
+    let read = |side: fn(&[u8], &mut [u32]) -> u64| lend(&words, |list| side(text, list));
+    meet(counts, "read", read(OURS.read), read(FAST.read))?;
+    let write = |side: fn(&[u32], &mut [u8]) -> u64| lend(&bytes, |list| side(plan, list));
+    meet(counts, "write", write(OURS.write), write(FAST.write))?;
+    let table = |side: fn(&[u32], &mut [u32]) -> u64| lend(&words, |list| side(plan, list));
+    meet(counts, "table", table(OURS.table), table(FAST.table))?;
+    let verdict = |side: fn(&[u32], &mut [u16]) -> u64| lend(&halves, |list| side(plan, list));
+    meet(counts, "verdict", verdict(OURS.verdict), verdict(FAST.verdict))
+}
+
+/// The judge, with the order that is handed out, mixed or not, mostly damaged; for a plan without one, with the lines
+/// as they stand.
+fn compare_judge(random: &mut Random, plan: &[u32], counts: &mut Counts) -> Result<(), String> {
+    let lines: Vec<Line> = plan.iter().map_while(|&line| Line::unpacked(line)).collect();
+    let mut order: Vec<u16> = (1..=plan.len().min(1_030) as u16).collect();
+    let has_order = (FAST.verdict)(plan, &mut order) >> 32 == 0;
+    if has_order && random.once_in(2) {
+        order = mixed(random, &lines, &order);
+    }
+    if !random.once_in(4) {
+        order = damaged(random, plan.len(), &order);
+    }
+    let side = |judge: fn(&[u32], &[u16]) -> u64| (judge(plan, &order), ());
+    meet(counts, "judge", side(OURS.judge), side(FAST.judge))
 }
 
 /// A line, mostly a take, and a device that may not be there.
@@ -202,6 +192,27 @@ fn some_move(random: &mut Random, plan: &[u32]) -> (usize, u32) {
     (line, device)
 }
 
+/// The move, mostly of a take, to a device that may not be there, with a table that may be stale or short.
+fn compare_move(
+    random: &mut Random,
+    plan: &[u32],
+    table: &[u32],
+    counts: &mut Counts,
+) -> Result<(), String> {
+    let (line, device) = some_move(random, plan);
+    let mut table = table.to_vec();
+    // A line under the take, perhaps, has a set that is stale, while all sets on the way may be right.
+    if let Some(set) = table.get_mut(line + random.below(8)).filter(|_| random.once_in(8)) {
+        *set ^= 1 << random.below(32);
+    }
+    let room = if random.once_in(8) { random.below(table.len() + 1) } else { table.len() };
+    let side = |entry: fn(&mut [u32], &mut [u32], u32, u32) -> u64| {
+        let (mut plan, mut sets) = (plan.to_vec(), table[..room].to_vec());
+        (entry(&mut plan, &mut sets, line as u32, device), (plan, sets))
+    };
+    meet(counts, "move", side(OURS.move_claim), side(FAST.move_claim))
+}
+
 /// Lists for table, rows and held set, with this in them, at times shorter than needed or longer.
 fn any_lists(random: &mut Random, beside: &[Vec<u32>; 3]) -> [Vec<u32>; 3] {
     let mut lists = beside.clone();
@@ -212,119 +223,41 @@ fn any_lists(random: &mut Random, beside: &[Vec<u32>; 3]) -> [Vec<u32>; 3] {
     lists
 }
 
-impl Trial {
-    /// Counts the answer, if the two sides gave the same.
-    fn meet<T: PartialEq>(
-        &mut self,
-        entry: &str,
-        ours: (u64, T),
-        fast: (u64, T),
-    ) -> Result<(), String> {
-        let entry = format!("{}{entry}", self.prefix);
-        if ours.0 != fast.0 {
-            return Err(format!(
-                "{entry}, a plan of any kind: ours answers {:#x}, fast {:#x}",
-                ours.0, fast.0
-            ));
-        }
-        if ours.1 != fast.1 {
-            return Err(format!("{entry}, a plan of any kind: the lists differ"));
-        }
-        *self.counts.entry((entry, ours.0 >> 32)).or_default() += 1;
-        Ok(())
+/// Building, and the quick verdict by rows that may be any.
+fn compare_build(random: &mut Random, plan: &[u32], counts: &mut Counts) -> Result<(), String> {
+    let lists = any_lists(random, &[vec![7; plan.len()], vec![7; 32], vec![7]]);
+    let build = |side: Build| {
+        let [mut sets, mut rows, mut held] = lists.clone();
+        (side(plan, &mut sets, &mut rows, &mut held), [sets, rows, held])
+    };
+    let (answer, [_, mut rows, _]) = build(FAST.build);
+    meet(counts, "build", build(OURS.build), build(FAST.build))?;
+    if answer >> 32 == 0 && random.once_in(3) {
+        rows[random.below(32)] ^= 1 << random.below(32);
+    } else if random.once_in(8) {
+        rows.fill_with(|| (random.bits() & random.bits() & random.bits() & random.bits()) as u32);
     }
+    let quick = |side: fn(&[u32], &[u32]) -> u64| (side(plan, &rows), ());
+    meet(counts, "quick", quick(OURS.quick), quick(FAST.quick))
+}
 
-    /// The entries that fill one list.
-    fn lists(&mut self, random: &mut Random, text: &[u8], plan: &[u32]) -> Result<(), String> {
-        let Sides { ours, fast } = self.sides;
-        let room = if random.once_in(8) { random.below(plan.len() + 1) } else { 1_030 };
-        let (words, halves, bytes) = (vec![7u32; room], vec![7u16; room], vec![7u8; 12 * room]);
-        let read = |side: fn(&[u8], &mut [u32]) -> u64| lend(&words, |list| side(text, list));
-        self.meet("read", read(ours.read), read(fast.read))?;
-        let write = |side: fn(&[u32], &mut [u8]) -> u64| lend(&bytes, |list| side(plan, list));
-        self.meet("write", write(ours.write), write(fast.write))?;
-        let table = |side: fn(&[u32], &mut [u32]) -> u64| lend(&words, |list| side(plan, list));
-        self.meet("table", table(ours.table), table(fast.table))?;
-        let verdict = |side: fn(&[u32], &mut [u16]) -> u64| lend(&halves, |list| side(plan, list));
-        self.meet("verdict", verdict(ours.verdict), verdict(fast.verdict))
+/// The move that keeps the rows, with a table that may be stale. The fast version makes all rows anew and is held to
+/// them where table, rows and held set are the plan's own.
+fn compare_kept(random: &mut Random, plan: &[u32], counts: &mut Counts) -> Result<(), String> {
+    let mut beside = [vec![0; plan.len()], vec![0; 32], vec![0]];
+    let [sets, rows, held] = &mut beside;
+    (FAST.build)(plan, sets, rows, held);
+    let (line, device) = some_move(random, plan);
+    let own = !random.once_in(6);
+    if let Some(set) = beside[0].get_mut(line.saturating_sub(random.below(4))).filter(|_| !own) {
+        *set ^= 1 << random.below(32);
     }
-
-    /// The judge, with the order that is handed out, mixed or not, mostly damaged; for a plan without one, with the
-    /// steps as they stand.
-    fn judge(&mut self, random: &mut Random, plan: &[u32]) -> Result<(), String> {
-        let Sides { ours, fast } = self.sides;
-        let lines = plan.iter().map_while(|&line| Line::unpacked_by(line::MIDDAY, line));
-        let lines: Vec<Line> = lines.collect();
-        let is_step = |&at: &usize| lines.get(at).is_none_or(|line| !line.is_held());
-        let steps = (0..plan.len().min(1_030)).filter(is_step).map(|at| at as u16 + 1);
-        let mut order: Vec<u16> = steps.collect();
-        let has_order = (fast.verdict)(plan, &mut order) >> 32 == 0;
-        if has_order && random.once_in(2) {
-            order = mixed(random, &lines, &order);
-        }
-        if !random.once_in(4) {
-            order = damaged(random, plan.len(), &order);
-        }
-        let side = |judge: fn(&[u32], &[u16]) -> u64| (judge(plan, &order), ());
-        self.meet("judge", side(ours.judge), side(fast.judge))
-    }
-
-    /// The move, mostly of a take, to a device that may not be there, with a table that may be stale or short.
-    fn moves(&mut self, random: &mut Random, plan: &[u32], table: &[u32]) -> Result<(), String> {
-        let Sides { ours, fast } = self.sides;
-        let (line, device) = some_move(random, plan);
-        let mut table = table.to_vec();
-        // A line under the take, perhaps, has a set that is stale, while all sets on the way may be right.
-        if let Some(set) = table.get_mut(line + random.below(8)).filter(|_| random.once_in(8)) {
-            *set ^= 1 << random.below(32);
-        }
-        let room = if random.once_in(8) { random.below(table.len() + 1) } else { table.len() };
-        let side = |entry: fn(&mut [u32], &mut [u32], u32, u32) -> u64| {
-            let (mut plan, mut sets) = (plan.to_vec(), table[..room].to_vec());
-            (entry(&mut plan, &mut sets, line as u32, device), (plan, sets))
-        };
-        self.meet("move", side(ours.move_claim), side(fast.move_claim))
-    }
-
-    /// Building, and the quick verdict by rows that may be any.
-    fn build(&mut self, random: &mut Random, plan: &[u32]) -> Result<(), String> {
-        let lists = any_lists(random, &[vec![7; plan.len()], vec![7; 32], vec![7]]);
-        let build = |side: Build| {
-            let [mut sets, mut rows, mut held] = lists.clone();
-            (side(plan, &mut sets, &mut rows, &mut held), [sets, rows, held])
-        };
-        let (answer, [_, mut rows, _]) = build(FAST.build);
-        self.meet("build", build(OURS.build), build(FAST.build))?;
-        if answer >> 32 == 0 && random.once_in(3) {
-            rows[random.below(32)] ^= 1 << random.below(32);
-        } else if random.once_in(8) {
-            rows.fill_with(|| {
-                (random.bits() & random.bits() & random.bits() & random.bits()) as u32
-            });
-        }
-        let quick = |side: fn(&[u32], &[u32]) -> u64| (side(plan, &rows), ());
-        self.meet("quick", quick(OURS.quick), quick(FAST.quick))
-    }
-
-    /// The move that keeps the rows, with a table that may be stale. The fast version makes all rows anew and is held
-    /// to them where table, rows and held set are the plan's own.
-    fn kept(&mut self, random: &mut Random, plan: &[u32]) -> Result<(), String> {
-        let mut beside = [vec![0; plan.len()], vec![0; 32], vec![0]];
-        let [sets, rows, held] = &mut beside;
-        (FAST.build)(plan, sets, rows, held);
-        let (line, device) = some_move(random, plan);
-        let own = !random.once_in(6);
-        if let Some(set) = beside[0].get_mut(line.saturating_sub(random.below(4))).filter(|_| !own)
-        {
-            *set ^= 1 << random.below(32);
-        }
-        let lists = any_lists(random, &beside);
-        let side = |entry: MoveKept| {
-            let (mut plan, [mut sets, mut rows, mut held]) = (plan.to_vec(), lists.clone());
-            let answer = entry(&mut plan, &mut sets, &mut rows, &mut held, line as u32, device);
-            let rows = (own || answer >> 32 != 0).then_some((rows, held));
-            (answer, (plan, sets, rows))
-        };
-        self.meet("move_kept", side(OURS.move_kept), side(FAST.move_kept))
-    }
+    let lists = any_lists(random, &beside);
+    let side = |entry: MoveKept| {
+        let (mut plan, [mut sets, mut rows, mut held]) = (plan.to_vec(), lists.clone());
+        let answer = entry(&mut plan, &mut sets, &mut rows, &mut held, line as u32, device);
+        let rows = (own || answer >> 32 != 0).then_some((rows, held));
+        (answer, (plan, sets, rows))
+    };
+    meet(counts, "move_kept", side(OURS.move_kept), side(FAST.move_kept))
 }

@@ -2,12 +2,11 @@
 //! moves.
 
 use crate::again::lengthen;
-use crate::sides::{Sides, FAST, MIDDAY, MORNING};
+use bench::fast;
 use second::elsewhere::mixed;
 use second::line::{pack, Line, Verb};
 use second::random::{plan, Random, Wish};
 use second::read::write;
-use second::resumed::{self, Midday};
 
 /// Lines a size, spread over its plans: small plans are the more, so that the processor comes back to a plan after the
 /// same number of lines at every size, and learns the plans of none by heart.
@@ -85,52 +84,11 @@ pub struct Move {
     pub device: u32,
 }
 
-/// What the plans of a size are like.
-#[derive(Clone, Copy, PartialEq, Eq, Debug)]
-pub enum Shape {
-    /// About a fifth of all takes are of what the job holds.
-    Again,
-    /// None is.
-    Once,
-    /// Resumed plans in which most devices are held from the beginning, and most of these are given back.
-    Resumed,
-    /// Resumed plans in which each of 32 jobs holds a device and wants that of the next before it gives it back: the
-    /// last has to go first, then the one before it, and so on.
-    Chained,
-}
-
-impl Shape {
-    pub fn words(self) -> &'static str {
-        match self {
-            Shape::Again => "a fifth taken again",
-            Shape::Once => "none taken again",
-            Shape::Resumed => "resumed",
-            Shape::Chained => "resumed, the last first",
-        }
-    }
-
-    /// The sides that take such plans.
-    pub fn sides(self) -> &'static Sides {
-        match self {
-            Shape::Again | Shape::Once => &MORNING,
-            Shape::Resumed | Shape::Chained => &MIDDAY,
-        }
-    }
-
-    /// A plan of so many lines.
-    fn made(self, random: &mut Random, lines: usize) -> Vec<Line> {
-        match self {
-            Shape::Again | Shape::Once => made(random, lines, self == Shape::Again),
-            Shape::Resumed => made_resumed(random, lines),
-            Shape::Chained => made_chained(random, lines),
-        }
-    }
-}
-
 /// The inputs of one size.
 pub struct Inputs {
     pub lines: usize,
-    pub shape: Shape,
+    /// Whether jobs take again what they hold.
+    pub again: bool,
     pub plans: Vec<Input>,
     pub moves: Vec<Move>,
 }
@@ -140,7 +98,6 @@ pub struct Inputs {
 pub struct Make {
     pub plans: usize,
     pub takes: usize,
-    pub held: usize,
     pub again: usize,
     pub lasting: usize,
     pub deepest_take: usize,
@@ -164,53 +121,15 @@ fn made(random: &mut Random, lines: usize, again: bool) -> Vec<Line> {
     plan
 }
 
-/// A resumed plan of so many lines, which has an order in most cases: half of the jobs are running, and of the 24
-/// devices that they hold a quarter is kept to the end.
-fn made_resumed(random: &mut Random, lines: usize) -> Vec<Line> {
-    let wish = Wish {
-        lines: lines * 7 / 8,
-        jobs: JOBS,
-        devices: DEVICES,
-        single: true,
-        rising: true,
-        lasting: 6,
-        again: 0,
-    };
-    let mut plan =
-        resumed::plan(random, Midday { wish, running: 50, held: 24, kept: 25, clear: true });
-    lengthen(random, &mut plan, lines);
-    plan
-}
-
-/// A resumed plan of 32 jobs in a row, with actions at random places behind what is held.
-fn made_chained(random: &mut Random, lines: usize) -> Vec<Line> {
-    let mut plan = Vec::new();
-    for device in 0..DEVICES as u8 {
-        let (job, next) = (device + 1, device + 1);
-        let verbs = [Verb::Held(device), Verb::Take(next), Verb::Give(next), Verb::Give(device)];
-        let last = usize::from(next) == DEVICES;
-        let verbs = verbs
-            .into_iter()
-            .filter(|&verb| !last || (verb != Verb::Take(next) && verb != Verb::Give(next)));
-        plan.extend(verbs.map(|verb| Line { job, verb }));
-    }
-    while plan.len() < lines {
-        let at = random.below(plan.len());
-        let Line { job, .. } = plan[at];
-        plan.insert(at + 1, Line { job, verb: Verb::Do(1) });
-    }
-    plan
-}
-
 impl Inputs {
-    pub fn new(random: &mut Random, lines: usize, shape: Shape) -> (Inputs, Make) {
+    pub fn new(random: &mut Random, lines: usize, again: bool) -> (Inputs, Make) {
         let mut make = Make::default();
         let mut plans = Vec::new();
         let mut for_orders = random.clone();
         while plans.len() < LINES / lines {
-            let made = shape.made(random, lines);
+            let made = made(random, lines, again);
             // One that had no order would be no input for these times.
-            if let Some(input) = Input::new(&mut for_orders, &made, shape) {
+            if let Some(input) = Input::new(&mut for_orders, &made) {
                 make.add(&made);
                 plans.push(input);
             }
@@ -218,22 +137,18 @@ impl Inputs {
         make.plans = plans.len();
         let mut drawn = |plan: usize| Move::new(random, plan, &plans[plan].plan);
         let moves = (0..MOVES).map(|at| drawn(at % plans.len())).collect();
-        (Inputs { lines, shape, plans, moves }, make)
+        (Inputs { lines, again, plans, moves }, make)
     }
 }
 
 impl Input {
     /// The plan with all that is asked about it, if it has an order.
-    fn new(for_orders: &mut Random, lines: &[Line], shape: Shape) -> Option<Input> {
+    fn new(for_orders: &mut Random, lines: &[Line]) -> Option<Input> {
         let plan = pack(lines);
-        let steps = lines.iter().filter(|line| !line.is_held()).count();
-        let (mut table, mut handed) = (vec![0; plan.len()], vec![0; steps]);
+        let (mut table, mut handed) = (vec![0; plan.len()], vec![0; plan.len()]);
         let (mut rows, mut held) = (vec![0; DEVICES], vec![0]);
-        let fast = &shape.sides().fast;
-        (fast.table)(&plan, &mut table);
-        // Of a resumed plan there are no rows: nothing is built, and nothing asked of them.
-        (FAST.build)(&plan, &mut vec![0; plan.len()], &mut rows, &mut held);
-        let accepted = (fast.verdict)(&plan, &mut handed) >> 32 == 0;
+        fast::build(&plan, &mut table, &mut rows, &mut held);
+        let accepted = fast::verdict(&plan, &mut handed) >> 32 == 0;
         accepted.then(|| {
             let orders = Orders::new(for_orders, lines, handed);
             Input { text: write(lines), plan, table, rows, held, orders }
@@ -280,10 +195,6 @@ impl Make {
                     in_hand.push((device, again));
                     self.takes += 1;
                     self.again += usize::from(again);
-                }
-                Verb::Held(device) => {
-                    in_hand.push((device, true));
-                    self.held += 1;
                 }
                 Verb::Give(_) => drop(in_hand.pop()),
                 _ => {}

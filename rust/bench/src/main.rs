@@ -13,26 +13,18 @@ mod sides;
 mod times;
 
 use circles::Circles;
-use inputs::{Inputs, Shape, Which};
+use inputs::{Inputs, Which};
 use mornings::Mornings;
 use report::{Figures, Report};
 use second::random::Random;
-use sides::{Entry, Lent};
+use sides::{Entry, Lent, FAST, OURS};
 use std::process::ExitCode;
 use times::{in_turn, Pair};
 
 const SEED: u64 = 20_260_418;
 const ROUNDS: usize = 301;
-/// The lines of the plans, and what they are like.
-const SIZES: [(usize, Shape); 4] =
-    [(256, Shape::Again), (512, Shape::Again), (1_024, Shape::Again), (1_024, Shape::Once)];
-/// The same for resumed plans.
-const RESUMED: [(usize, Shape); 4] = [
-    (256, Shape::Resumed),
-    (512, Shape::Resumed),
-    (1_024, Shape::Resumed),
-    (1_024, Shape::Chained),
-];
+/// The lines of the plans, and whether their jobs take again what they hold.
+const SIZES: [(usize, bool); 4] = [(256, true), (512, true), (1_024, true), (1_024, false)];
 const ENTRIES: [Entry; 11] = [
     Entry::Read,
     Entry::Write,
@@ -46,16 +38,6 @@ const ENTRIES: [Entry; 11] = [
     Entry::MoveKept,
     Entry::Quick,
 ];
-/// Those of them that have siblings for resumed plans.
-const SIBLINGS: [Entry; 7] = [
-    Entry::Read,
-    Entry::Write,
-    Entry::Table,
-    Entry::Verdict,
-    Entry::Judge(Which::Handed),
-    Entry::Judge(Which::Mixed),
-    Entry::Move,
-];
 
 /// The value of an environment variable, or another where it is not set.
 fn asked<T: std::str::FromStr>(name: &str, otherwise: T) -> T {
@@ -65,11 +47,10 @@ fn asked<T: std::str::FromStr>(name: &str, otherwise: T) -> T {
 /// One round of both sides on one entry at one size, with the answers that both gave.
 fn round(entry: Entry, inputs: &Inputs, ours_first: bool) -> Result<(Pair, Vec<u64>), String> {
     let (mut ours, mut fast) = (Lent::new(inputs, entry), Lent::new(inputs, entry));
-    let sides = inputs.shape.sides();
     let times = in_turn(
         ours_first,
-        || sides.ours.run(entry, inputs, &mut ours),
-        || sides.fast.run(entry, inputs, &mut fast),
+        || OURS.run(entry, inputs, &mut ours),
+        || FAST.run(entry, inputs, &mut fast),
     );
     if ours.answers != fast.answers {
         return Err(format!("{entry}, {} lines: the answers differ", inputs.lines));
@@ -94,27 +75,17 @@ fn measure(entry: Entry, sizes: &[Inputs], rounds: usize) -> Result<Figures, Str
     Ok(figures)
 }
 
-/// The inputs of some sizes, which the report tells of.
-fn made(report: &mut Report, random: &mut Random, sizes: &[(usize, Shape)]) -> Vec<Inputs> {
-    let inputs = sizes.iter().map(|&(lines, shape)| {
-        let (inputs, make) = Inputs::new(random, lines, shape);
-        report.makes.push((lines, shape, make));
-        inputs
-    });
-    inputs.collect()
-}
-
 fn run(seed: u64, rounds: usize) -> Result<Report, String> {
     let mut random = Random::new(seed);
     let mut report = Report { tried: damaged::compare(&mut random)?, ..Report::default() };
-    let sizes = made(&mut report, &mut random, &SIZES);
-    // Resumed plans have a generator of their own, so that the others do not hang on them.
-    let resumed = made(&mut report, &mut Random::new(seed), &RESUMED);
+    let mut sizes = Vec::new();
+    for (lines, again) in SIZES {
+        let (inputs, make) = Inputs::new(&mut random, lines, again);
+        report.makes.push((lines, make));
+        sizes.push(inputs);
+    }
     for entry in ENTRIES {
         report.figures.push(measure(entry, &sizes, rounds)?);
-    }
-    for entry in SIBLINGS {
-        report.figures.push(measure(entry, &resumed, rounds)?);
     }
     // Mornings and rows have generators of their own, so that the plans do not hang on them.
     report.mornings = Mornings::measure(&mut Random::new(seed), &sizes, rounds.div_ceil(10))?;

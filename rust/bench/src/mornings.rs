@@ -7,8 +7,8 @@
 //! one still, but only so often. After a move that leaves a plan without an order the next one of that plan takes it
 //! back. How many came out how is printed with the times.
 
-use crate::inputs::{Input, Inputs, Move, Shape, MOVES};
-use crate::report::counted;
+use crate::inputs::{Input, Inputs, Move, MOVES};
+use crate::report::{counted, share};
 use crate::sides::{Side, FAST, OURS};
 use crate::times::{a_call, median, ratio};
 use bench::fast;
@@ -140,7 +140,7 @@ fn difference(ours: &Left, fast: &Left, plain: &Left) -> Option<&'static str> {
 /// The morning of one size.
 struct OfSize {
     lines: usize,
-    shape: Shape,
+    again: bool,
     moves: Vec<Move>,
     /// Nanoseconds for a move and the verdict after it, of each side, round by round.
     times: [Vec<f64>; 3],
@@ -151,7 +151,7 @@ impl OfSize {
     fn new(random: &mut Random, inputs: &Inputs) -> OfSize {
         let moves = moves(random, inputs);
         let times = [Vec::new(), Vec::new(), Vec::new()];
-        OfSize { lines: inputs.lines, shape: inputs.shape, moves, times, answers: Vec::new() }
+        OfSize { lines: inputs.lines, again: inputs.again, moves, times, answers: Vec::new() }
     }
 
     /// One round of all sides. Who goes first changes from round to round, and then who goes second.
@@ -181,7 +181,7 @@ impl OfSize {
         println!(
             "| Move and verdict | {} | {} | {:.0} | {:.0} | {:.2} | {:.0} | {:.2} |",
             self.lines,
-            self.shape.words(),
+            share(self.again),
             medians[0],
             medians[1],
             ratio(kept, fast),
@@ -217,15 +217,17 @@ impl Mornings {
     /// The table, and how moves and verdicts came out.
     pub fn print(&self) {
         println!("\nA move and then the verdict, with rows kept (ours and fast) and by the plain entries:\n");
-        println!("| | lines | plans | ours, ns | fast, ns | ours/fast | plain, ns | ours/plain |");
+        println!(
+            "| | lines | taken again | ours, ns | fast, ns | ours/fast | plain, ns | ours/plain |"
+        );
         println!("|---|---:|---|---:|---:|---:|---:|---:|");
         self.sizes.iter().for_each(OfSize::print);
         println!("\nOf these {MOVES} moves a size, and of the verdicts after them:\n");
-        for OfSize { lines, shape, answers, .. } in &self.sizes {
+        for OfSize { lines, again, answers, .. } in &self.sizes {
             let [moved, verdicts] =
                 [0, 1].map(|which| counted(answers.iter().map(|pair| &pair[which])));
-            let plans = shape.words();
-            println!("- {lines} lines, {plans}: moves {moved}; verdicts {verdicts}");
+            let again = share(*again);
+            println!("- {lines} lines, {again} taken again: moves {moved}; verdicts {verdicts}");
         }
     }
 }

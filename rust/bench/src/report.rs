@@ -2,8 +2,8 @@
 //! search stands in `circles.rs`, that of moves with the verdict after each in `mornings.rs`.
 
 use crate::circles::Circles;
-use crate::damaged::{Counts, RESUMED, TRIED};
-use crate::inputs::{Inputs, Make, Shape, MOVES};
+use crate::damaged::{Counts, TRIED};
+use crate::inputs::{Inputs, Make, MOVES};
 use crate::mornings::Mornings;
 use crate::sides::Entry;
 use crate::times::{ratio, Pair, Times};
@@ -13,7 +13,7 @@ use std::process::Command;
 /// What one entry took at one size.
 pub struct OfSize {
     lines: usize,
-    shape: Shape,
+    again: bool,
     times: Times,
     /// The answers of the last round.
     answers: Vec<u64>,
@@ -36,11 +36,19 @@ impl Figures {
     pub fn new(entry: Entry, sizes: &[Inputs]) -> Figures {
         let of_size = |inputs: &Inputs| OfSize {
             lines: inputs.lines,
-            shape: inputs.shape,
+            again: inputs.again,
             times: Times::default(),
             answers: Vec::new(),
         };
         Figures { entry, sizes: sizes.iter().map(of_size).collect() }
+    }
+}
+
+/// How many of the takes are of what the job holds.
+pub fn share(again: bool) -> &'static str {
+    match again {
+        true => "a fifth",
+        false => "none",
     }
 }
 
@@ -66,7 +74,7 @@ fn came_out(number: u64, count: usize) -> String {
 #[derive(Default)]
 pub struct Report {
     pub tried: Counts,
-    pub makes: Vec<(usize, Shape, Make)>,
+    pub makes: Vec<(usize, Make)>,
     pub figures: Vec<Figures>,
     pub mornings: Mornings,
     pub circles: Circles,
@@ -74,26 +82,19 @@ pub struct Report {
 
 impl Report {
     pub fn print(&self) {
-        for (lines, shape, make) in &self.makes {
+        for (lines, make) in &self.makes {
             println!(
-                "- {lines} lines, {}: {} plans, together {} held lines, {} takes, {} of what the job holds and {} \
-                 lasting, up to {} open at once, starts up to {} deep",
-                shape.words(),
-                make.plans,
-                make.held,
-                make.takes,
-                make.again,
-                make.lasting,
-                make.deepest_take,
-                make.deepest_start
+                "- {lines} lines: {} plans, together {} takes, {} of what the job holds and {} lasting, up to {} open \
+                 at once, starts up to {} deep",
+                make.plans, make.takes, make.again, make.lasting, make.deepest_take, make.deepest_start
             );
         }
         println!(
-            "\n| entry | lines | plans | ours, ns | fast, ns | ours/fast |\n|---|---:|---|---:|---:|---:|"
+            "\n| entry | lines | taken again | ours, ns | fast, ns | ours/fast |\n|---|---:|---|---:|---:|---:|"
         );
         for Figures { entry, sizes } in &self.figures {
-            for OfSize { lines, shape, times, .. } in sizes {
-                println!("| {entry} | {lines} | {} | {} |", shape.words(), times.cells(0));
+            for OfSize { lines, again, times, .. } in sizes {
+                println!("| {entry} | {lines} | {} | {} |", share(*again), times.cells(0));
             }
         }
         self.print_growth();
@@ -106,21 +107,10 @@ impl Report {
 
     /// How the plans of all kinds came out.
     fn print_tried(&self) {
-        println!(
-            "So they were on {TRIED} plans of all kinds and {RESUMED} resumed ones, whole and damaged. How often each \
-             entry refused:\n"
-        );
+        println!("So they were on {TRIED} plans of all kinds, whole and damaged. How often each entry refused:\n");
         let entries =
             ["read", "write", "table", "verdict", "judge", "move", "build", "move_kept", "quick"];
-        let siblings = [
-            "resume_read",
-            "resume_write",
-            "resume_table",
-            "resume_verdict",
-            "resume_judge",
-            "resume_move",
-        ];
-        for entry in entries.into_iter().chain(siblings) {
+        for entry in entries {
             let of_entry = self.tried.iter().filter(|((name, _), _)| *name == entry);
             let words: Vec<String> =
                 of_entry.map(|((_, number), count)| came_out(*number, *count)).collect();
@@ -130,16 +120,14 @@ impl Report {
 
     /// By how much each entry's time grows from the smallest plans to the largest of the same kind.
     fn print_growth(&self) {
-        println!("\n| entry | lines | plans | ours | fast |\n|---|---|---|---:|---:|");
+        println!("\n| entry | lines | ours | fast |\n|---|---|---:|---:|");
         for Figures { entry, sizes } in &self.figures {
-            let shape = sizes[0].shape;
-            let mut alike = sizes.iter().filter(|of| of.shape == shape);
+            let mut alike = sizes.iter().filter(|of| of.again);
             if let (Some(small), Some(large)) = (alike.next(), alike.next_back()) {
                 let ours = ratio(&large.times.ours, &small.times.ours);
                 let fast = ratio(&large.times.fast, &small.times.fast);
                 let (from, to) = (small.lines, large.lines);
-                let plans = shape.words();
-                println!("| {entry} | {from} to {to} | {plans} | {ours:.2} | {fast:.2} |");
+                println!("| {entry} | {from} to {to} | {ours:.2} | {fast:.2} |");
             }
         }
     }
@@ -149,7 +137,8 @@ impl Report {
         println!("\nOf the {MOVES} moves a size:\n");
         let moves = self.figures.iter().filter(|of| of.entry == Entry::Move);
         for of in moves.flat_map(|of| &of.sizes) {
-            println!("- {} lines, {}: {}", of.lines, of.shape.words(), counted(&of.answers));
+            let (lines, again) = (of.lines, share(of.again));
+            println!("- {lines} lines, {again} taken again: {}", counted(&of.answers));
         }
     }
 }

@@ -12,7 +12,7 @@ pub type Build = fn(&[u32], &mut [u32], &mut [u32], &mut [u32]) -> u64;
 /// A move that keeps the rows: the plan, the same lists, a line and a device.
 pub type MoveKept = fn(&mut [u32], &mut [u32], &mut [u32], &mut [u32], u32, u32) -> u64;
 
-/// The entries of a side, called through pointers, so that neither side grows into the loop that times it.
+/// The nine entries of a side, called through pointers, so that neither side grows into the loop that times it.
 pub struct Side {
     pub read: fn(&[u8], &mut [u32]) -> u64,
     pub write: fn(&[u32], &mut [u8]) -> u64,
@@ -24,37 +24,6 @@ pub struct Side {
     pub move_kept: MoveKept,
     pub quick: fn(&[u32], &[u32]) -> u64,
 }
-
-/// The two sides that are held against each other.
-pub struct Sides {
-    pub ours: Side,
-    pub fast: Side,
-}
-
-/// On plans of the morning.
-pub const MORNING: Sides = Sides { ours: OURS, fast: FAST };
-
-/// On resumed plans. Rows are kept for plans of the morning alone.
-pub const MIDDAY: Sides = Sides {
-    ours: Side {
-        read: raw::resume_read,
-        write: raw::resume_write,
-        table: raw::resume_table,
-        verdict: raw::resume_verdict,
-        judge: raw::resume_judge,
-        move_claim: raw::resume_move,
-        ..OURS
-    },
-    fast: Side {
-        read: fast::read::<{ fast::MIDDAY }>,
-        write: fast::write::<{ fast::MIDDAY }>,
-        table: fast::table::<{ fast::MIDDAY }>,
-        verdict: fast::verdict::<{ fast::MIDDAY }>,
-        judge: fast::judge::<{ fast::MIDDAY }>,
-        move_claim: fast::move_claim::<{ fast::MIDDAY }>,
-        ..FAST
-    },
-};
 
 pub const OURS: Side = Side {
     read: raw::read,
@@ -69,12 +38,12 @@ pub const OURS: Side = Side {
 };
 
 pub const FAST: Side = Side {
-    read: fast::read::<{ fast::MORNING }>,
-    write: fast::write::<{ fast::MORNING }>,
-    table: fast::table::<{ fast::MORNING }>,
-    verdict: fast::verdict::<{ fast::MORNING }>,
-    judge: fast::judge::<{ fast::MORNING }>,
-    move_claim: fast::move_claim::<{ fast::MORNING }>,
+    read: fast::read,
+    write: fast::write,
+    table: fast::table,
+    verdict: fast::verdict,
+    judge: fast::judge,
+    move_claim: fast::move_claim,
     build: fast::build,
     move_kept: fast::move_kept,
     quick: fast::quick,

@@ -3,7 +3,6 @@
 use crate::help;
 use crate::shown;
 use crate::trouble::Trouble;
-use gimmerskip::Reader;
 use std::ffi::{OsStr, OsString};
 use std::os::unix::ffi::OsStrExt;
 
@@ -22,24 +21,12 @@ pub enum Kind {
     Check,
     /// `judge PLAN ORDER`
     Judge,
-    /// `midday PLAN DONE`
-    Midday,
-    /// `resume FILE..`
-    Resume,
 }
 
 impl Kind {
     /// All of them, as the help has them.
-    pub const ALL: [Kind; 8] = [
-        Kind::Order,
-        Kind::Explain,
-        Kind::Table,
-        Kind::Move,
-        Kind::Check,
-        Kind::Judge,
-        Kind::Midday,
-        Kind::Resume,
-    ];
+    pub const ALL: [Kind; 6] =
+        [Kind::Order, Kind::Explain, Kind::Table, Kind::Move, Kind::Check, Kind::Judge];
 
     /// The word by which it is asked for.
     pub fn word(self) -> &'static str {
@@ -50,8 +37,6 @@ impl Kind {
             Kind::Move => "move",
             Kind::Check => "check",
             Kind::Judge => "judge",
-            Kind::Midday => "midday",
-            Kind::Resume => "resume",
         }
     }
 }
@@ -69,15 +54,13 @@ pub enum Asked {
         command: Command,
         /// The file of names.
         names: Option<OsString>,
-        /// As which plans the files are read: those of the morning, or resumed ones.
-        reader: Reader,
     },
 }
 
 /// A subcommand with its operands.
 #[derive(Debug, PartialEq, Eq)]
 pub enum Command {
-    /// Prints the orders of plans, as the programs do or step by step.
+    /// Prints the orders of plans, as the program does or step by step.
     Order {
         /// The plans.
         files: Vec<OsString>,
@@ -115,15 +98,6 @@ pub enum Command {
         /// The list of line numbers.
         order: OsString,
     },
-    /// Prints what is left of a plan that has begun.
-    Midday {
-        /// The plan.
-        plan: OsString,
-        /// The list of the lines that are done.
-        done: OsString,
-        /// Where the table of the lines goes, if it is a file.
-        lines: Option<OsString>,
-    },
 }
 
 /// What is to be moved.
@@ -144,11 +118,9 @@ pub struct Move {
 struct Given {
     operands: Vec<OsString>,
     names: Option<OsString>,
-    lines: Option<OsString>,
     steps: bool,
     in_place: bool,
     watch: bool,
-    resume: bool,
     help: bool,
     version: bool,
 }
@@ -164,28 +136,17 @@ pub fn parsed(arguments: Vec<OsString>) -> Result<Asked, Trouble> {
         return Ok(Asked::Version);
     }
     let kind = kind.ok_or_else(|| misused("a command is missing", None))?;
-    fit(kind, &given)?;
-    let reader =
-        if given.resume || kind == Kind::Resume { Reader::Midday } else { Reader::Morning };
-    let names = given.names.clone();
-    Ok(Asked::Run { command: command(kind, given)?, names, reader })
-}
-
-/// Fails where an option is none of the subcommand's.
-fn fit(kind: Kind, given: &Given) -> Result<(), Trouble> {
-    let is_order = matches!(kind, Kind::Order | Kind::Resume);
-    for (is_given, option, fits) in [
-        (given.steps, "--steps", is_order),
-        (given.in_place, "--in-place", kind == Kind::Move),
-        (given.watch, "--watch", kind == Kind::Move),
-        (given.resume, "--resume", !is_order),
-        (given.lines.is_some(), "--lines", kind == Kind::Midday),
+    for (is_given, option, of) in [
+        (given.steps, "--steps", Kind::Order),
+        (given.in_place, "--in-place", Kind::Move),
+        (given.watch, "--watch", Kind::Move),
     ] {
-        if is_given && !fits {
+        if is_given && kind != of {
             return Err(misused(&format!("{} has no option {option}", kind.word()), Some(kind)));
         }
     }
-    Ok(())
+    let names = given.names.clone();
+    Ok(Asked::Run { command: command(kind, given)?, names })
 }
 
 /// Parts options from operands. The first operand is the subcommand.
@@ -217,33 +178,26 @@ fn option(
         Some("--steps") => given.steps = true,
         Some("--in-place") => given.in_place = true,
         Some("--watch") => given.watch = true,
-        Some("--resume") => given.resume = true,
-        _ => return with_file(given, option, rest),
+        Some("--names") => {
+            let file = rest.next().ok_or_else(|| misused("--names needs a file", None))?;
+            return names(given, file);
+        }
+        _ => {
+            let Some(file) = option.as_bytes().strip_prefix(b"--names=") else {
+                return Err(misused(&format!("unknown option {}", shown::name(option)), None));
+            };
+            return names(given, OsStr::from_bytes(file).to_owned());
+        }
     }
     Ok(())
 }
 
-/// Takes in an option that has a file, behind it or behind an equals sign. Of each there is one.
-fn with_file(
-    given: &mut Given,
-    option: &OsString,
-    rest: &mut impl Iterator<Item = OsString>,
-) -> Result<(), Trouble> {
-    for (word, place) in [("--names", &mut given.names), ("--lines", &mut given.lines)] {
-        let behind = option.as_bytes().strip_prefix(word.as_bytes());
-        let file = match behind {
-            Some([]) => {
-                rest.next().ok_or_else(|| misused(&format!("{word} needs a file"), None))?
-            }
-            Some([b'=', file @ ..]) => OsStr::from_bytes(file).to_owned(),
-            _ => continue,
-        };
-        return match place.replace(file) {
-            None => Ok(()),
-            Some(_) => Err(misused(&format!("{word} is given twice"), None)),
-        };
+/// Takes in the file of names, of which there is one.
+fn names(given: &mut Given, file: OsString) -> Result<(), Trouble> {
+    match given.names.replace(file) {
+        None => Ok(()),
+        Some(_) => Err(misused("--names is given twice", None)),
     }
-    Err(misused(&format!("unknown option {}", shown::name(option)), None))
 }
 
 /// The subcommand with this word.
@@ -254,11 +208,31 @@ fn kind_of(word: &OsString) -> Result<Kind, Trouble> {
 
 /// The subcommand with the operands that it needs.
 fn command(kind: Kind, given: Given) -> Result<Command, Trouble> {
-    let Given { steps, in_place, watch, lines, .. } = given;
+    let (steps, in_place, watch) = (given.steps, given.in_place, given.watch);
     let mut operands: Vec<OsString> = given.operands.into_iter().skip(1).collect();
-    fill(kind, watch, &operands)?;
+    let (least, most) = match kind {
+        Kind::Order | Kind::Check => (1, usize::MAX),
+        Kind::Explain | Kind::Table => (1, 1),
+        Kind::Move if watch => (1, 1),
+        Kind::Move => (3, 3),
+        Kind::Judge => (2, 2),
+    };
+    if operands.len() < least {
+        return Err(misused(&format!("{} needs more operands", kind.word()), Some(kind)));
+    }
+    if operands.len() > most {
+        let over = shown::name(&operands[most]);
+        return Err(misused(&format!("{over} is one operand too many"), Some(kind)));
+    }
+    if kind == Kind::Judge && operands.iter().all(|operand| operand == "-") {
+        return Err(misused("only one of PLAN and ORDER can be `-`", Some(kind)));
+    }
+    if watch && operands[0] == "-" {
+        let words = "with --watch standard input has the moves, so FILE cannot be `-`";
+        return Err(misused(words, Some(kind)));
+    }
     Ok(match kind {
-        Kind::Order | Kind::Resume => Command::Order { files: operands, steps },
+        Kind::Order => Command::Order { files: operands, steps },
         Kind::Check => Command::Check { files: operands },
         Kind::Explain => Command::Explain { file: operands.remove(0) },
         Kind::Table => Command::Table { file: operands.remove(0) },
@@ -268,37 +242,7 @@ fn command(kind: Kind, given: Given) -> Result<Command, Trouble> {
             Command::Move(Move { file, line, device, in_place })
         }
         Kind::Judge => Command::Judge { plan: operands.remove(0), order: operands.remove(0) },
-        Kind::Midday => {
-            Command::Midday { plan: operands.remove(0), done: operands.remove(0), lines }
-        }
     })
-}
-
-/// Fails where the operands are too few or too many, or want standard input more than once.
-fn fill(kind: Kind, watch: bool, operands: &[OsString]) -> Result<(), Trouble> {
-    let wrong = |words: &str| Err(misused(words, Some(kind)));
-    let (least, most) = match kind {
-        Kind::Order | Kind::Resume | Kind::Check => (1, usize::MAX),
-        Kind::Explain | Kind::Table => (1, 1),
-        Kind::Move if watch => (1, 1),
-        Kind::Move => (3, 3),
-        Kind::Judge | Kind::Midday => (2, 2),
-    };
-    if operands.len() < least {
-        return wrong(&format!("{} needs more operands", kind.word()));
-    }
-    if operands.len() > most {
-        return wrong(&format!("{} is one operand too many", shown::name(&operands[most])));
-    }
-    let is_standard = operands.iter().all(|operand| operand == "-");
-    match kind {
-        Kind::Judge if is_standard => wrong("only one of PLAN and ORDER can be `-`"),
-        Kind::Midday if is_standard => wrong("only one of PLAN and DONE can be `-`"),
-        Kind::Move if watch && is_standard => {
-            wrong("with --watch standard input has the moves, so FILE cannot be `-`")
-        }
-        _ => Ok(()),
-    }
 }
 
 /// Wrong use, with a line that says the right one.
@@ -323,7 +267,6 @@ mod tests {
         let order = |names: Option<&str>, files: &[&str], steps| Asked::Run {
             command: Command::Order { files: files.iter().map(OsString::from).collect(), steps },
             names: names.map(OsString::from),
-            reader: Reader::Morning,
         };
         assert_eq!(asked("order a b"), Ok(order(None, &["a", "b"], false)));
         assert_eq!(asked("--names n order --steps a"), Ok(order(Some("n"), &["a"], true)));
@@ -342,40 +285,13 @@ mod tests {
 
     #[test]
     fn moves_one_or_many() {
-        let run = |command| Ok(Asked::Run { command, names: None, reader: Reader::Morning });
+        let run = |command| Ok(Asked::Run { command, names: None });
         let watch = |in_place| run(Command::Watch { file: "a".into(), in_place });
         assert_eq!(asked("move --watch a"), watch(false));
         assert_eq!(asked("move a --in-place --watch"), watch(true));
         let (file, line, device) = ("a".into(), "2".into(), "3".into());
         let one = Move { file, line, device, in_place: true };
         assert_eq!(asked("move --in-place a 2 3"), run(Command::Move(one)));
-    }
-
-    #[test]
-    fn resumed_plans() {
-        let run = |command, reader| Ok(Asked::Run { command, names: None, reader });
-        let order = Command::Order { files: vec!["a".into()], steps: true };
-        assert_eq!(asked("resume --steps a"), run(order, Reader::Midday));
-        let explain = || Command::Explain { file: "a".into() };
-        assert_eq!(asked("explain a --resume"), run(explain(), Reader::Midday));
-        assert_eq!(asked("explain a"), run(explain(), Reader::Morning));
-        let midday = |lines: Option<&str>| {
-            let lines = lines.map(OsString::from);
-            Command::Midday { plan: "a".into(), done: "-".into(), lines }
-        };
-        assert_eq!(asked("midday a -"), run(midday(None), Reader::Morning));
-        assert_eq!(asked("midday --resume a -"), run(midday(None), Reader::Midday));
-        for words in ["midday --lines l a -", "--lines=l midday a -"] {
-            assert_eq!(asked(words), run(midday(Some("l")), Reader::Morning));
-        }
-        assert!(trouble("order --resume a").starts_with("order has no option --resume\nuse: "));
-        assert!(trouble("resume --resume a").starts_with("resume has no option --resume"));
-        assert!(trouble("judge --lines l a b").starts_with("judge has no option --lines"));
-        assert!(trouble("midday a").starts_with("midday needs more operands\nuse: gimmerskip mid"));
-        assert!(trouble("midday - -").starts_with("only one of PLAN and DONE can be `-`\nuse: "));
-        assert!(trouble("midday a b --lines").starts_with("--lines needs a file"));
-        assert!(trouble("midday --lines=l --lines l").starts_with("--lines is given twice"));
-        assert!(trouble("midday --linesl a b").starts_with("unknown option --linesl"));
     }
 
     #[test]

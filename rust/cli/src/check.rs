@@ -5,7 +5,7 @@ use crate::diagnosis;
 use crate::input::Text;
 use crate::judged;
 use crate::trouble::{Status, Trouble};
-use crate::words::{held, lines_of};
+use crate::words::{counted, held};
 use std::ffi::OsString;
 
 /// Checks one file after the other. One that cannot be read does not keep the others from being checked.
@@ -24,9 +24,9 @@ pub fn run(desk: &mut Desk, files: &[OsString]) -> Result<(), Trouble> {
 
 /// The line for one text.
 fn checked(desk: &mut Desk, text: &Text) -> String {
-    match judged(text) {
+    match judged(&text.bytes) {
         Ok((plan, order)) => {
-            let lines = lines_of(&plan);
+            let lines = counted(plan.len(), "line");
             format!("{}: accepted, {lines}, {}\n", text.name, held(order.held))
         }
         Err(refusal) => {

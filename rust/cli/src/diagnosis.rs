@@ -4,7 +4,6 @@
 mod astray;
 mod entry;
 mod faults;
-mod hindered;
 mod inner;
 mod moves;
 mod no_order;
@@ -15,11 +14,10 @@ pub use astray::of_list;
 pub use moves::of_move;
 
 use crate::input::Text;
-use crate::look::look;
 use crate::names::Names;
 use crate::shown::{self, Shown, Tabs};
 use crate::style::Style;
-use gimmerskip::{Reader, Refusal, Step, Verb};
+use gimmerskip::{Plan, Refusal, Step};
 use std::ops::Range;
 
 /// A refusal with its words.
@@ -125,11 +123,11 @@ impl Concerned {
 pub fn of_text(text: &Text, refusal: Refusal, names: &Names) -> Diagnosis {
     let found = match refusal {
         Refusal::TextTooLong => text::too_long(text),
-        Refusal::Malformed(line) => text::malformed(text, line as usize),
+        Refusal::Malformed(line) => text::malformed(&text.bytes, line as usize),
         Refusal::TooManyLines => text::too_many_lines(&text.bytes),
-        Refusal::TwoLasting(device) => no_order::two_lasting(text, device, names),
-        Refusal::LeadsBack(device) => no_order::leads_back(text, device, names),
-        other => faults::of_line(text, other, names),
+        Refusal::TwoLasting(device) => no_order::two_lasting(&text.bytes, device, names),
+        Refusal::LeadsBack(device) => no_order::leads_back(&text.bytes, device, names),
+        other => faults::of_line(&text.bytes, other, names),
     };
     match found {
         Some(found) => Diagnosis::of(refusal, found),
@@ -183,19 +181,11 @@ fn pointed_line(text: &[u8], number: usize, field: Field) -> Option<Concerned> {
 }
 
 /// The steps of a text from the top, as far as the lines are right by themselves.
-fn steps(text: &Text) -> Vec<Step> {
-    let lines = text.bytes.split_inclusive(|&byte| byte == b'\n');
-    lines.map_while(|line| step(text.reader, line.strip_suffix(b"\n")?)).collect()
+fn steps(text: &[u8]) -> Vec<Step> {
+    gimmerskip::lines(text).map_while(Result::ok).collect()
 }
 
-/// The step of a line that is right by itself.
-fn step(reader: Reader, line: &[u8]) -> Option<Step> {
-    if !look(reader, line, true, false).is_empty() {
-        return None;
-    }
-    let mut fields = std::str::from_utf8(line).ok()?.split('\t');
-    let job = fields.next()?.parse().ok()?;
-    let word = fields.next()?;
-    let verb = Verb::ALL.into_iter().find(|verb| verb.word() == word)?;
-    Some(Step { job, verb, operand: fields.next()?.parse().ok()? })
+/// The plan of a text that has no fault.
+fn plan(text: &[u8]) -> Option<Plan> {
+    Plan::from_text(text).ok()
 }

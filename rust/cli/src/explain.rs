@@ -6,14 +6,14 @@ use crate::judged;
 use crate::names::Names;
 use crate::order::kept;
 use crate::trouble::{Status, Trouble};
-use crate::words::{held, lines_of, together};
-use gimmerskip::{Holds, Plan, Reader, Step, Verb};
+use crate::words::{counted, held, together};
+use gimmerskip::{Holds, Plan, Step, Verb};
 use std::ffi::OsStr;
 
 /// Explains one plan.
 pub fn run(desk: &mut Desk, file: &OsStr) -> Result<(), Trouble> {
     let text = desk.input.plan(file)?;
-    let words = match judged(&text) {
+    let words = match judged(&text.bytes) {
         Ok((plan, order)) => accepted(&text.name, &plan, order.held, &desk.names),
         Err(refusal) => {
             desk.met(Status::Refused);
@@ -25,7 +25,7 @@ pub fn run(desk: &mut Desk, file: &OsStr) -> Result<(), Trouble> {
 
 /// What there is to say of a plan that has an order.
 fn accepted(name: &str, plan: &Plan, stay: usize, names: &Names) -> String {
-    let mut out = format!("{name}: accepted, {}, {}\n", lines_of(plan), held(stay));
+    let mut out = format!("{name}: accepted, {}, {}\n", counted(plan.len(), "line"), held(stay));
     let holds = plan.holds();
     let last = plan.steps().next_back().map_or(0, |step| step.job);
     for job in 1..=last {
@@ -33,11 +33,7 @@ fn accepted(name: &str, plan: &Plan, stay: usize, names: &Names) -> String {
     }
     out.push('\n');
     out.push_str(&kept(plan, names));
-    let shows = match plan.reader() {
-        Reader::Midday => "resume",
-        _ => "order",
-    };
-    out.push_str(&format!("The plan has an order: `gimmerskip {shows} --steps` shows it.\n"));
+    out.push_str("The plan has an order: `gimmerskip order --steps` shows it.\n");
     out
 }
 
@@ -51,33 +47,18 @@ fn of_job(plan: &Plan, holds: &Holds, job: u8, names: &Names) -> String {
     let is_start = |step: &Step| step.verb == Verb::Start && step.operand == job;
     let started = match plan.steps().position(|step| is_start(&step)) {
         Some(at) => format!("started in line {}", at + 1),
-        None if plan.reader() == Reader::Midday => "which is running".to_string(),
         None => "which begins by itself".to_string(),
     };
     let stands = together("line", usize::from(*first), usize::from(*last));
     let mut out = format!("\nJob {job}, {stands}, {started}:\n");
-    let is_hold = |step: &Step| matches!(step.verb, Verb::Take | Verb::Held);
-    let takes: Vec<_> = lines.iter().filter(|(_, step)| is_hold(step)).collect();
+    let takes: Vec<_> = lines.iter().filter(|(_, step)| step.verb == Verb::Take).collect();
     for (line, step) in &takes {
-        let device = names.words(step.operand);
-        let words = match step.verb {
-            Verb::Held => of_held(holds, *line, &device),
-            _ => of_take(holds, *line, &device),
-        };
-        out.push_str(&format!("  {words}\n"));
+        out.push_str(&format!("  {}\n", of_take(holds, *line, &names.words(step.operand))));
     }
     if takes.is_empty() {
         out.push_str("  holds no device\n");
     }
     out
-}
-
-/// How long a device is held that is so from the beginning.
-fn of_held(holds: &Holds, line: u16, device: &str) -> String {
-    match holds.mate(line) {
-        Some(give) => format!("holds {device} from the beginning to line {give}"),
-        None => format!("holds {device} from the beginning to the end"),
-    }
 }
 
 /// What a take does: an outermost one has its device held up to its give or to the end, any other takes it again.

@@ -10,17 +10,13 @@ pub fn use_line(kind: Option<Kind>) -> &'static str {
     match kind {
         None => "gimmerskip COMMAND [--names NAMES] ..",
         Some(Kind::Order) => "gimmerskip order [--steps] [--names NAMES] FILE..",
-        Some(Kind::Explain) => "gimmerskip explain [--resume] [--names NAMES] FILE",
-        Some(Kind::Table) => "gimmerskip table [--resume] [--names NAMES] FILE",
+        Some(Kind::Explain) => "gimmerskip explain [--names NAMES] FILE",
+        Some(Kind::Table) => "gimmerskip table [--names NAMES] FILE",
         Some(Kind::Move) => {
-            "gimmerskip move [--in-place] [--resume] [--names NAMES] {FILE LINE DEVICE | --watch FILE}"
+            "gimmerskip move [--in-place] [--names NAMES] {FILE LINE DEVICE | --watch FILE}"
         }
-        Some(Kind::Check) => "gimmerskip check [--resume] [--names NAMES] FILE..",
-        Some(Kind::Judge) => "gimmerskip judge [--resume] [--names NAMES] PLAN ORDER",
-        Some(Kind::Midday) => {
-            "gimmerskip midday [--lines FILE] [--resume] [--names NAMES] PLAN DONE"
-        }
-        Some(Kind::Resume) => "gimmerskip resume [--steps] [--names NAMES] FILE..",
+        Some(Kind::Check) => "gimmerskip check [--names NAMES] FILE..",
+        Some(Kind::Judge) => "gimmerskip judge [--names NAMES] PLAN ORDER",
     }
 }
 
@@ -33,8 +29,6 @@ fn brief(kind: Kind) -> &'static str {
         Kind::Move => "moves the claim of a line to another device, or one claim after another",
         Kind::Check => "says of each plan, in one line, whether it is accepted",
         Kind::Judge => "says whether an order from elsewhere is a legal one of a plan",
-        Kind::Midday => "prints what is left of a plan that has begun, as a resumed plan",
-        Kind::Resume => "prints the order of each resumed plan, or why it is refused",
     }
 }
 
@@ -57,30 +51,9 @@ const MOVE: &str =
     file is as it was. The status is 1 if a move was refused or the plan has no order at the end, 2 if a\n\
     line was no move.\n";
 
-/// What there is to know of what is left.
-const MIDDAY: &str =
-    "DONE is the list of the lines of PLAN that are done, one number a line, in the order in which they were\n\
-    done. It may begin with the first line of what `order` prints, which is passed over. Standard output gets\n\
-    what is left as a resumed plan: each job that has something to do or holds something, numbered anew; first\n\
-    the devices that it holds, by lines with the verb `held`, then what it has not done. A give that would end\n\
-    no more than a second take of a device, made before, becomes a wait (`do` with 1). `resume` orders it.\n\
-    Where DONE has a line that could not come, the list is refused as by `judge`. If nothing is left and no\n\
-    device is held, nothing is printed.\n\n  \
-    --lines FILE   puts into FILE, for each line of what is left, its number, a tab and the number that the line\n\
-    \x20                has in PLAN, of a held line that of the take; without it this is said on standard error\n";
-
 /// What there is to know of a subcommand.
 fn more(kind: Kind) -> &'static str {
     match kind {
-        Kind::Midday => MIDDAY,
-        Kind::Resume => {
-            "A resumed plan is taken up at midday: jobs that no line starts are running, and lines with the verb\n\
-             `held` in front of such a job say what it holds. Standard output gets what the program `resume` prints:\n\
-             `order`, the number of steps and of devices that stay held, and then the line numbers in their order,\n\
-             without the held lines; or `refused`, number and place. What is wrong is said in words on standard\n\
-             error. The other commands take resumed plans with the option --resume; `midday` makes one.\n\n  \
-             --steps   prints a table of the steps in their order instead, as `order` does\n"
-        }
         Kind::Order => {
             "Standard output gets what the program `order` prints: `order`, the number of lines and of devices that\n\
              stay held, and then the line numbers in their order; or `refused`, number and place. What is wrong is\n\
@@ -118,38 +91,24 @@ fn operands(kind: Option<Kind>) -> &'static str {
             "FILE is a plan; `-` is standard input, but not with --watch, and `--` ends the options."
         }
         Some(Kind::Judge) => "PLAN is a plan; `-`, for it or for ORDER, is standard input, and `--` ends the options.",
-        Some(Kind::Midday) => "PLAN is a plan; `-`, for it or for DONE, is standard input, and `--` ends the options.",
-        Some(Kind::Resume) => "FILE is a resumed plan; `-` is standard input, and `--` ends the options.",
         _ => "FILE is a plan; `-` is standard input, and `--` ends the options.",
     }
 }
 
-/// What all subcommands have in common, before and after the option that some have.
-const COMMON: [&str; 2] = [
-    "
+/// What all subcommands have in common.
+const COMMON: &str = "
   --names NAMES   a file with a line for each device that has a name: its number, a tab, the name
-",
-    "  --help          this help, or that of a command
+  --help          this help, or that of a command
   --version       the version
 
 The status is 0 if all went well, 1 if a plan, an order or a move is refused, 2 if there was trouble with the use, with
 a file, or with input and output.
-",
-];
-
-/// What reads a plan as a resumed one, in those subcommands that have an option for it.
-fn resume(kind: Option<Kind>) -> &'static str {
-    match kind {
-        None => "  --resume        the plan is a resumed one: all commands but `order` and `resume` have this\n",
-        Some(Kind::Order | Kind::Resume) => "",
-        _ => "  --resume        the plan is a resumed one, as `resume` reads them\n",
-    }
-}
+";
 
 /// The page of help for a subcommand, or for all of them.
 pub fn page(kind: Option<Kind>) -> String {
     let head = format!("use: {}\n\n", use_line(kind));
-    let common = format!("{}\n{}{}{}", operands(kind), COMMON[0], resume(kind), COMMON[1]);
+    let common = format!("{}\n{COMMON}", operands(kind));
     let Some(kind) = kind else {
         let line = |kind: &Kind| format!("  {:<10}{}\n", kind.word(), brief(*kind));
         let commands: String = Kind::ALL.iter().map(line).collect();
@@ -172,8 +131,6 @@ mod tests {
             let page = page(kind);
             assert!(page.starts_with(&format!("use: {}\n", use_line(kind))));
             assert!(page.lines().all(|line| line.len() <= 120), "{page}");
-            let has_option = page.contains("\n  --resume  ");
-            assert_eq!(has_option, kind.is_none() || use_line(kind).contains("[--resume]"));
         }
     }
 }

@@ -2,7 +2,7 @@
 
 use crate::shown;
 use crate::trouble::Trouble;
-use gimmerskip::{Plan, Reader, Refusal, MAX_BYTES};
+use gimmerskip::MAX_BYTES;
 use std::ffi::OsStr;
 use std::fs::File;
 use std::io::{self, BufRead, BufReader, Read};
@@ -28,34 +28,18 @@ pub struct Text {
     pub bytes: Vec<u8>,
     /// How long the file is, if it is a plain file that was named.
     pub size: Option<u64>,
-    /// As which plans it is read, if it is a plan's.
-    pub reader: Reader,
-}
-
-impl Text {
-    /// A text without a name.
-    pub fn of(reader: Reader, bytes: Vec<u8>) -> Text {
-        Text { name: String::new(), bytes, size: None, reader }
-    }
-
-    /// The plan that stands there, or why there is none.
-    pub fn plan(&self) -> Result<Plan, Refusal> {
-        Plan::from_text_by(self.reader, &self.bytes)
-    }
 }
 
 /// The input side: standard input can be read once, if it is open.
 pub struct Input {
     closed: bool,
     used: bool,
-    /// As which plans texts are read.
-    pub reader: Reader,
 }
 
 impl Input {
     /// Standard input may have been closed at the beginning.
     pub fn new(closed: bool) -> Input {
-        Input { closed, used: false, reader: Reader::Morning }
+        Input { closed, used: false }
     }
 
     /// Reads a plan's text; the name `-` is standard input.
@@ -75,7 +59,7 @@ impl Input {
         let size = about.map(|about| about.len());
         let mut bytes = Vec::new();
         file.take(most as u64).read_to_end(&mut bytes).map_err(|error| told(&error))?;
-        Ok(Text { name: shown, bytes, size, reader: self.reader })
+        Ok(Text { name: shown, bytes, size })
     }
 
     /// The lines of standard input, one after another as they come.

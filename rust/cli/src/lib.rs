@@ -1,10 +1,8 @@
-//! The command for growers: `gimmerskip order`, `explain`, `table`, `move`, `check` and `judge`, and for plans that are
-//! taken up at midday `midday`, `resume` and the option `--resume`.
+//! The command for growers: `gimmerskip order`, `explain`, `table`, `move`, `check` and `judge`.
 //!
 //! It stands on the wrapper of the proved archives: what is accepted or refused, with which number and at which place,
 //! is always theirs. This crate reads files, finds words, and writes. [`run`] is the whole command; a subcommand is a
-//! module, but for `resume`, which is `order` by another reader; and all of them work at a [`desk`]. What is left of a
-//! plan that has begun is worked out in [`left`].
+//! module, and all of them work at a [`desk`].
 
 #![forbid(unsafe_code)]
 #![warn(missing_docs)]
@@ -18,10 +16,8 @@ pub mod gaps;
 pub mod help;
 pub mod input;
 pub mod judge;
-pub mod left;
 pub mod list;
 pub mod look;
-pub mod midday;
 pub mod moving;
 pub mod names;
 pub mod order;
@@ -39,7 +35,6 @@ pub mod words;
 use arguments::{Asked, Command};
 use desk::Desk;
 use gimmerskip::{Order, Plan, Refusal};
-use input::Text;
 use std::ffi::OsString;
 use trouble::{Status, Trouble};
 
@@ -63,12 +58,11 @@ pub fn run(arguments: Vec<OsString>, closed: Closed) -> Status {
 
 /// Answers what was asked.
 fn answer(desk: &mut Desk, asked: Asked) -> Result<(), Trouble> {
-    let (command, names, reader) = match asked {
+    let (command, names) = match asked {
         Asked::Help(of) => return desk.out.put(help::page(of).as_bytes()),
         Asked::Version => return desk.out.put(help::VERSION.as_bytes()),
-        Asked::Run { command, names, reader } => (command, names, reader),
+        Asked::Run { command, names } => (command, names),
     };
-    desk.input.reader = reader;
     if let Some(file) = names {
         desk.read_names(&file)?;
     }
@@ -80,13 +74,12 @@ fn answer(desk: &mut Desk, asked: Asked) -> Result<(), Trouble> {
         Command::Watch { file, in_place } => watch::run(desk, &file, in_place),
         Command::Check { files } => check::run(desk, &files),
         Command::Judge { plan, order } => judge::run(desk, &plan, &order),
-        Command::Midday { plan, done, lines } => midday::run(desk, &plan, &done, lines.as_deref()),
     }
 }
 
 /// The plan of a text with its order, or the refusal.
-pub fn judged(text: &Text) -> Result<(Plan, Order), Refusal> {
-    let plan = text.plan()?;
+pub fn judged(text: &[u8]) -> Result<(Plan, Order), Refusal> {
+    let plan = Plan::from_text(text)?;
     let order = plan.verdict()?;
     Ok((plan, order))
 }

@@ -91,10 +91,9 @@ fn entry(line: &[u8]) -> u16 {
 #[cfg(test)]
 mod tests {
     use super::*;
-    use gimmerskip::Reader;
 
     fn list(text: &str) -> List {
-        List::of(Text::of(Reader::Morning, text.as_bytes().to_vec()))
+        List::of(Text { name: "l".to_string(), bytes: text.as_bytes().to_vec(), size: None })
     }
 
     #[test]
@@ -126,8 +125,8 @@ mod tests {
     fn positions_in_words() {
         assert_eq!(list("1\n").entry_words(3), "entry 3");
         assert_eq!(list("order\t2\t0\n1\n").entry_words(3), "entry 3 (line 4 of the file)");
-        let text = Text::of(Reader::Morning, b"order\t2\t0\n".to_vec());
-        let piped = List::of(Text { name: STANDARD.to_string(), ..text });
+        let name = STANDARD.to_string();
+        let piped = List::of(Text { name, bytes: b"order\t2\t0\n".to_vec(), size: None });
         assert_eq!(piped.entry_words(1), "entry 1 (line 2 of the input)");
     }
 

@@ -6,7 +6,7 @@
 use crate::gaps::{self, Fields};
 use crate::shown;
 use crate::verbs;
-use gimmerskip::{Reader, Verb};
+use gimmerskip::Verb;
 use std::ops::Range;
 
 /// One thing that is wrong with a line.
@@ -31,9 +31,9 @@ const UNIX: &str = "save the file with Unix newlines (LF)";
 /// How a line that should not be there is mended.
 pub const OUT: &str = "take the line out";
 
-/// Everything that is wrong with a line, given without its newline, from left to right. It is told by which reader,
-/// whether the line has a newline, and whether it is the first of the text.
-pub fn look(reader: Reader, line: &[u8], ended: bool, first: bool) -> Vec<Finding> {
+/// Everything that is wrong with a line, given without its newline, from left to right. It is told whether it has one,
+/// and whether it is the first line of the text.
+pub fn look(line: &[u8], ended: bool, first: bool) -> Vec<Finding> {
     if let Some(other) = no_text(line, first) {
         return vec![other];
     }
@@ -48,7 +48,7 @@ pub fn look(reader: Reader, line: &[u8], ended: bool, first: bool) -> Vec<Findin
         return found;
     }
     let end = bare_end(line).max(start);
-    found.extend(between(reader, line, start..end));
+    found.extend(between(line, start..end));
     found.extend(returns(line, end));
     // A line that is to be taken out needs no newline.
     if !ended && found.iter().all(|finding| finding.mend != OUT) {
@@ -94,7 +94,7 @@ fn no_text(line: &[u8], first: bool) -> Option<Finding> {
 }
 
 /// What is wrong between the line's start and its end.
-fn between(reader: Reader, line: &[u8], part: Range<usize>) -> Vec<Finding> {
+fn between(line: &[u8], part: Range<usize>) -> Vec<Finding> {
     let fields = gaps::fields(line, part.clone());
     if fields.is_empty() {
         let words = if part.is_empty() { "is empty" } else { "has only spaces or tabs" };
@@ -108,7 +108,7 @@ fn between(reader: Reader, line: &[u8], part: Range<usize>) -> Vec<Finding> {
     found.extend(match fields.len() {
         1 | 2 => vec![too_few(line, &fields)],
         count => {
-            let mut wrong = wrong_fields(reader, line, &fields);
+            let mut wrong = wrong_fields(line, &fields);
             wrong.extend((count > 3).then(|| too_many(line, &fields, part.end)));
             wrong
         }
@@ -169,14 +169,14 @@ fn too_many(line: &[u8], fields: &Fields, end: usize) -> Finding {
 }
 
 /// What is wrong with the first three words.
-fn wrong_fields(reader: Reader, line: &[u8], fields: &Fields) -> Vec<Finding> {
+fn wrong_fields(line: &[u8], fields: &Fields) -> Vec<Finding> {
     let word = |field: usize| &line[fields[field].clone()];
     let mut found = wrong_number(word(0), &fields[0], "job", Some(1..=64));
-    let verb = verbs::wrong(reader, word(1));
-    found.extend(verb.map(|(words, mend)| finding(fields[1].clone(), words, mend)));
+    found
+        .extend(verbs::wrong(word(1)).map(|(words, mend)| finding(fields[1].clone(), words, mend)));
     let (what, range) = match verbs::named(word(1)) {
         Some(Verb::Do) => ("action", Some(0..=255)),
-        Some(Verb::Take | Verb::Give | Verb::Held) => ("device", Some(0..=31)),
+        Some(Verb::Take | Verb::Give) => ("device", Some(0..=31)),
         Some(Verb::Start) => ("started job", Some(2..=64)),
         // Without the verb nobody knows how far its numbers go.
         _ => ("number", None),
@@ -235,17 +235,11 @@ fn value(digits: &[u8]) -> u64 {
 #[cfg(test)]
 mod tests {
     use super::*;
-    use gimmerskip::Refusal;
     use second::random::Random;
 
     /// The words for a line with its newline.
     fn words(line: &[u8]) -> Vec<String> {
-        seen(line, true, false).into_iter().map(|finding| finding.words).collect()
-    }
-
-    /// A look at a line of a plan of the morning.
-    fn seen(line: &[u8], ended: bool, first: bool) -> Vec<Finding> {
-        look(Reader::Morning, line, ended, first)
+        look(line, true, false).into_iter().map(|finding| finding.words).collect()
     }
 
     #[test]
@@ -267,13 +261,13 @@ mod tests {
         assert_eq!(words(b"1\ttake\t3\r\r"), ["ends with 2 carriage returns"]);
         assert_eq!(words(b"1\t\rtake\t3"), ["has a carriage return inside"]);
         assert_eq!(words(b"\r").len(), 2);
-        assert_eq!(seen(b"\xef\xbb\xbf", false, true).len(), 1);
-        assert_eq!(seen(b" ", false, false).len(), 1);
+        assert_eq!(look(b"\xef\xbb\xbf", false, true).len(), 1);
+        assert_eq!(look(b" ", false, false).len(), 1);
         assert_eq!(words(b"1\ttake\t3\r1\tdo\t2").len(), 1);
-        let last = seen(b"1\ttake\t3", false, false);
+        let last = look(b"1\ttake\t3", false, false);
         assert_eq!((last[0].at.clone(), &last[0].words[..]), (8..8, "has no newline at its end"));
-        assert_eq!(seen(b"\xef\xbb\xbf1\tdo\t1", true, true)[0].at, 0..3);
-        assert_eq!(seen(b"\xff\xfe1\x00", true, true)[0].words, "begins as a text in UTF-16 does");
+        assert_eq!(look(b"\xef\xbb\xbf1\tdo\t1", true, true)[0].at, 0..3);
+        assert_eq!(look(b"\xff\xfe1\x00", true, true)[0].words, "begins as a text in UTF-16 does");
     }
 
     #[test]
@@ -288,7 +282,7 @@ mod tests {
         assert_eq!(words(b"1\tdo\t1.0"), [digits]);
         assert!(words("1\tdo\t\u{ff11}".as_bytes())[0].ends_with("not written in digits alone"));
         assert!(words(b"0x1\tdo\t1")[0].ends_with("not written in digits alone"));
-        let mends = |line: &[u8]| seen(line, true, false).into_iter().map(|finding| finding.mend);
+        let mends = |line: &[u8]| look(line, true, false).into_iter().map(|finding| finding.mend);
         for line in [&b"1\ttake\t-40"[..], b"1\ttake\t00032"] {
             assert!(mends(line).all(|mend| mend == "choose a number from 0 to 31"));
         }
@@ -327,7 +321,7 @@ mod tests {
     /// A line from pieces that growers could put together, right ones and wrong ones.
     fn line(random: &mut Random) -> Vec<u8> {
         let jobs = ["1", "2", "3", "64", "65", "0", "01", "-1", "", "x", "7"];
-        let verbs = ["do", "take", "give", "start", "held", "take", "Take", "tak", "", "doo"];
+        let verbs = ["do", "take", "give", "start", "do", "take", "Take", "tak", "", "doo"];
         let operands =
             ["0", "2", "31", "32", "64", "255", "256", "00", "+1", "", "1.", "4294967298"];
         let tabs = ["\t"; 14];
@@ -352,14 +346,7 @@ mod tests {
             let (line, ended) = (line(&mut random), !random.once_in(8));
             let text = [&line[..], if ended { b"\n" } else { b"" }].concat();
             let says = gimmerskip::entries::line(&text, 0);
-            let found = seen(&line, ended, true);
-            let read = Reader::Midday.read(&text, &mut [0]);
-            let resumed = look(Reader::Midday, &line, ended, true);
-            assert_eq!(
-                resumed.is_empty() || text.is_empty(),
-                read != Err(Refusal::Malformed(1)),
-                "{line:?} {ended}: {resumed:?}"
-            );
+            let found = look(&line, ended, true);
             // A text of no bytes has no line at all.
             if !text.is_empty() {
                 assert_eq!(found.is_empty(), says.is_ok(), "{line:?} {ended}: {found:?}");

@@ -83,13 +83,13 @@ pub fn say_if_without_order(
 
 /// Why a plan has no order, in one line.
 pub fn without_order(plan: &Plan, refusal: Refusal, names: &Names) -> String {
-    let text = Text::of(plan.reader(), plan.text().into_bytes());
+    let text = Text { name: String::new(), bytes: plan.text().into_bytes(), size: None };
     diagnosis::of_text(&text, refusal, names).head
 }
 
 /// The plan before the move; or the words of a refusal are said.
 pub fn plan(desk: &mut Desk, text: &Text) -> Option<Plan> {
-    let plan = text.plan();
+    let plan = Plan::from_text(&text.bytes);
     if let Err(refusal) = plan {
         let refused = diagnosis::of_text(text, refusal, &desk.names);
         desk.say_refusal(&text.name, &refused);

@@ -1,4 +1,4 @@
-//! `gimmerskip order` and `gimmerskip resume`: what the program prints, or the steps as a table.
+//! `gimmerskip order`: what the program prints, or the steps as a table.
 
 use crate::desk::Desk;
 use crate::diagnosis;
@@ -8,7 +8,7 @@ use crate::names::Names;
 use crate::steps::Column;
 use crate::trouble::Trouble;
 use crate::words::{counted, held, listed};
-use gimmerskip::{Order, Plan, Step, Verb, SCREEN_ROOM};
+use gimmerskip::{entries, Order, Plan, Step, SCREEN_ROOM};
 use std::ffi::OsString;
 
 /// Orders one file after the other. A file that cannot be read does not keep the others from being ordered.
@@ -25,23 +25,23 @@ pub fn run(desk: &mut Desk, files: &[OsString], steps: bool) -> Result<(), Troub
 
 /// Prints what the program prints.
 fn put_print(desk: &mut Desk, text: &Text) -> Result<(), Trouble> {
-    desk.out.put(&printed(text))?;
+    desk.out.put(&printed(&text.bytes))?;
     say_if_refused(desk, text);
     Ok(())
 }
 
-/// What the program for such texts prints.
-pub fn printed(text: &Text) -> Vec<u8> {
+/// What the program prints for a text.
+pub fn printed(text: &[u8]) -> Vec<u8> {
     let mut room = vec![0; SCREEN_ROOM];
     // With so much room nothing is refused.
-    let count = text.reader.order(&text.bytes, &mut room).unwrap_or(0);
+    let count = entries::order(text, &mut room).unwrap_or(0);
     room.truncate(count);
     room
 }
 
 /// Says the words of a refusal, if there is one.
 fn say_if_refused(desk: &mut Desk, text: &Text) -> Option<(Plan, Order)> {
-    match judged(text) {
+    match judged(&text.bytes) {
         Ok(judged) => Some(judged),
         Err(refusal) => {
             let refused = diagnosis::of_text(text, refusal, &desk.names);
@@ -58,13 +58,13 @@ fn put_steps(desk: &mut Desk, text: &Text) -> Result<(), Trouble> {
     desk.out.put(table.as_bytes())
 }
 
-/// The order as a table, with what is held from the beginning and what stays held under it.
+/// The order as a table, with what stays held under it.
 fn table(name: &str, plan: &Plan, order: &Order, names: &Names) -> String {
-    let (lines, stay) = (counted(order.lines.len(), "line"), held(order.held));
+    let (lines, stay) = (counted(plan.len(), "line"), held(order.held));
     let mut out = format!("{name}: an order of {lines}, {stay}\n");
     let column = Column::of(plan);
     let mut put = |row: String| out.push_str(&format!("{}\n", row.trim_end()));
-    if !order.lines.is_empty() {
+    if !plan.is_empty() {
         let name = if names.is_empty() { "" } else { "name" };
         put(format!("turn  line  job  {}  {name}", column.head));
     }
@@ -72,7 +72,6 @@ fn table(name: &str, plan: &Plan, order: &Order, names: &Names) -> String {
         let name = step.device().and_then(|device| names.name(device)).unwrap_or_default();
         put(format!("{turn:>4}  {line:>4}  {:>3}  {}  {name}", step.job, column.row(line)));
     }
-    out.push_str(&held_first(plan, names));
     out.push_str(&kept(plan, names));
     out
 }
@@ -82,27 +81,16 @@ fn steps<'a>(plan: &'a Plan, order: &'a Order) -> impl Iterator<Item = (u16, Ste
     order.lines.iter().filter_map(|&line| Some((line, plan.step(line)?)))
 }
 
-/// Which devices are held from the beginning, and by whom: nothing, if none is.
-fn held_first(plan: &Plan, names: &Names) -> String {
-    let held = plan.steps().filter(|step| step.verb == Verb::Held);
-    by_whom("Held from the beginning", held, names)
-}
-
 /// Which devices stay held, and by whom: nothing, if none does.
 pub fn kept(plan: &Plan, names: &Names) -> String {
     let holds = plan.holds();
-    let kept = (1..).zip(plan.steps()).filter(|(line, _)| holds.keeps(*line));
-    by_whom("Held to the end", kept.map(|(_, step)| step), names)
-}
-
-/// The devices of these lines with the jobs that hold them, in a sentence: nothing, if there are none.
-fn by_whom(what: &str, held: impl Iterator<Item = Step>, names: &Names) -> String {
-    let mut held: Vec<(u8, u8)> = held.map(|step| (step.operand, step.job)).collect();
-    held.sort_unstable();
+    let lasting = (1..).zip(plan.steps()).filter(|(line, _)| holds.lasts(*line));
+    let mut lasting: Vec<(u8, u8)> = lasting.map(|(_, step)| (step.operand, step.job)).collect();
+    lasting.sort_unstable();
     let words = |(device, job): &(u8, u8)| format!("{} by job {job}", names.words(*device));
-    let words: Vec<String> = held.iter().map(words).collect();
+    let words: Vec<String> = lasting.iter().map(words).collect();
     match words.is_empty() {
         true => String::new(),
-        false => format!("{what}: {}.\n", listed(&words)),
+        false => format!("Held to the end: {}.\n", listed(&words)),
     }
 }

@@ -5,13 +5,13 @@ use crate::diagnosis;
 use crate::names::Names;
 use crate::steps::Column;
 use crate::trouble::Trouble;
-use gimmerskip::Tabled;
+use gimmerskip::{Plan, Tabled};
 use std::ffi::OsStr;
 
 /// Prints the table of one plan. A plan without an order has one too.
 pub fn run(desk: &mut Desk, file: &OsStr) -> Result<(), Trouble> {
     let text = desk.input.plan(file)?;
-    match text.plan() {
+    match Plan::from_text(&text.bytes) {
         Ok(plan) => {
             let table = printed(&Tabled::new(plan), &desk.names);
             desk.out.put(table.as_bytes())

@@ -1,6 +1,6 @@
 //! Small words: counts, lists, and a refusal as programs print it.
 
-use gimmerskip::{Plan, Refusal, Verb};
+use gimmerskip::Refusal;
 
 /// A count with its word: `1 line`, `7 lines`.
 pub fn counted(count: usize, word: &str) -> String {
@@ -24,20 +24,6 @@ pub fn held(count: usize) -> String {
         0 => "no device stays held".to_string(),
         1 => "1 device stays held".to_string(),
         _ => format!("{count} devices stay held"),
-    }
-}
-
-/// How many lines a plan has, and how many of them say what is held: `7 lines`, `7 lines, 2 of them held`.
-pub fn lines_of(plan: &Plan) -> String {
-    format!("{}{}", counted(plan.len(), "line"), held_of(plan))
-}
-
-/// How many of a plan's lines say what is held: it goes on from their count, and is nothing if none does.
-pub fn held_of(plan: &Plan) -> String {
-    match plan.steps().filter(|step| step.verb == Verb::Held).count() {
-        0 => String::new(),
-        _ if plan.len() == 1 => ", a held one".to_string(),
-        held => format!(", {held} of them held"),
     }
 }
 
@@ -98,7 +84,6 @@ pub fn few(word: &str, lines: &[u16]) -> String {
 #[cfg(test)]
 mod tests {
     use super::*;
-    use gimmerskip::Reader;
 
     #[test]
     fn counts_and_lists() {
@@ -117,13 +102,6 @@ mod tests {
         );
         assert_eq!(together("line", 3, 7), "lines 3 to 7");
         assert_eq!(held(1), "1 device stays held");
-        let lines =
-            |text: &str| lines_of(&Plan::from_text_by(Reader::Midday, text).expect("a plan"));
-        assert_eq!(
-            (lines("1\tdo\t7\n"), lines("1\theld\t3\n")),
-            ("1 line".into(), "1 line, a held one".into())
-        );
-        assert_eq!(lines("1\theld\t3\n1\tdo\t7\n"), "2 lines, 1 of them held");
         assert_eq!(
             (few("line", &[3]), few("line", &[3, 4])),
             ("line 3".into(), "lines 3 and 4".into())

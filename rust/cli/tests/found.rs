@@ -8,63 +8,25 @@ use cli::input::Text;
 use cli::judged;
 use cli::names::Names;
 use cli::style::Style;
-use gimmerskip::{Reader, Refusal, Step, Verb};
-use second::line::{pack, Settings, MIDDAY, MORNING};
+use gimmerskip::{Refusal, Step, Verb};
 use second::random::{plan, ring, wish, Cut, Random};
-use second::read::{Handed, Lines};
-use second::resumed::{self, held_ring, midday};
-use second::{damage, read, Line};
-
-/// The second program's reader for such plans.
-fn settings(reader: Reader) -> Settings {
-    match reader {
-        Reader::Midday => MIDDAY,
-        _ => MORNING,
-    }
-}
-
-/// A plan that may have an order, or a ring.
-fn some_plan(random: &mut Random, reader: Reader, rings: bool) -> Vec<Line> {
-    let length = 1 + random.below(32);
-    match reader {
-        Reader::Midday if rings && random.once_in(2) => {
-            held_ring(random, length.clamp(2, 29), Cut::Whole)
-        }
-        _ if rings => ring(random, length, Cut::Whole),
-        Reader::Midday => {
-            let midday = midday(random, 30, 6, 5);
-            resumed::plan(random, midday)
-        }
-        _ => {
-            let wish = wish(random, 30, 6, 5);
-            plan(random, wish)
-        }
-    }
-}
+use second::{damage, read};
 
 /// A plan of some kind, mostly damaged.
-fn some_text(random: &mut Random, reader: Reader) -> Vec<u8> {
-    let rings = random.once_in(8);
-    let lines = some_plan(random, reader, rings);
-    let damaged = match reader {
-        Reader::Midday => damage::damaged_resumed,
-        _ => damage::damaged_packed,
+fn some_text(random: &mut Random) -> Vec<u8> {
+    let wish = wish(random, 30, 6, 5);
+    let lines = match random.below(8) {
+        0 => {
+            let length = 1 + random.below(32);
+            ring(random, length, Cut::Whole)
+        }
+        _ => plan(random, wish),
     };
     match random.below(3) {
         0 => damage::damaged_text(random, &read::write(&lines)),
-        1 => damage::spelt_by(settings(reader), &damaged(random, &pack(&lines))),
+        1 => damage::spelt(&damage::damaged_packed(random, &second::line::pack(&lines))),
         _ => read::write(&lines),
     }
-}
-
-/// The steps of a text, as far as they can be read one by one.
-fn steps(text: &Text) -> Vec<Step> {
-    let mut lines = Lines::by(settings(text.reader), &text.bytes);
-    let handed = std::iter::from_fn(|| match lines.next_line() {
-        Handed::Line(packed) => Step::from_packed(packed),
-        _ => None,
-    });
-    handed.collect()
 }
 
 /// The number after some words of a sentence.
@@ -88,26 +50,11 @@ fn is_true(steps: &[Step], refusal: Refusal, head: &str) -> bool {
         }
         (Refusal::BadStart(_), Some(here)) => here.operand <= here.job,
         (Refusal::GiveWithoutTake(_), Some(here)) if head.contains(" took device ") => {
-            let (took, verb) = match line(" after it, as held line ") {
-                Some(held) => (Some(held), Verb::Held),
-                None => (line(" after it, in line "), Verb::Take),
-            };
+            let took = line(" after it, in line ");
             took.is_some_and(|took| {
-                (took.job, took.verb) == (here.job, verb) && took.operand != here.operand
+                (took.job, took.verb) == (here.job, Verb::Take) && took.operand != here.operand
             })
         }
-        (Refusal::HeldTwice(_), Some(here)) => {
-            let same = line(", as line ").map(|other| (other, other.job == here.job));
-            let other = line(" holds by line ").map(|other| (other, other.job != here.job));
-            same.or(other).is_some_and(|(other, jobs)| {
-                jobs && (other.verb, other.operand) == (Verb::Held, here.operand)
-            })
-        }
-        (Refusal::HeldLate(_), Some(here)) if head.contains(" before it is a ") => {
-            line("but line ").is_some_and(|other| other.job == here.job && other.verb != Verb::Held)
-        }
-        (Refusal::HeldLate(_), Some(here)) => line("but line ")
-            .is_some_and(|other| (other.verb, other.operand) == (Verb::Start, here.job)),
         (Refusal::NeverStarted(_), Some(here)) => {
             steps.iter().all(|step| (step.verb, step.operand) != (Verb::Start, here.job))
         }
@@ -151,45 +98,43 @@ fn edited(bytes: &[u8], example: &str) -> Vec<u8> {
 
 #[test]
 fn examples_of_mending_are_true() {
-    for reader in [Reader::Morning, Reader::Midday] {
-        let (mut random, mut told, mut refused) = (Random::new(2_027), 0, 0);
-        for _ in 0..3_000 {
-            let rings = random.once_in(2);
-            let bytes = read::write(&some_plan(&mut random, reader, rings));
-            let Some(found) = words(Text::of(reader, bytes.clone())) else { continue };
-            refused += 1;
-            if let Some(example) = found.example {
-                let edited = Text::of(reader, edited(&bytes, &example));
-                assert!(judged(&edited).is_ok(), "{example}");
-                told += 1;
-            }
+    let (mut random, mut told, mut refused) = (Random::new(2_027), 0, 0);
+    for _ in 0..3_000 {
+        let wish = wish(&mut random, 30, 6, 5);
+        let length = 1 + random.below(32);
+        let lines = if random.once_in(2) {
+            plan(&mut random, wish)
+        } else {
+            ring(&mut random, length, Cut::Whole)
+        };
+        let bytes = read::write(&lines);
+        let Some(found) = words(bytes.clone()) else { continue };
+        refused += 1;
+        if let Some(example) = found.example {
+            assert!(judged(&edited(&bytes, &example)).is_ok(), "{example}");
+            told += 1;
         }
-        assert!(told > 200 && told * 2 > refused, "{told} of {refused}");
     }
+    assert!(told > 200 && told * 2 > refused, "{told} of {refused}");
 }
 
 /// The words for a text, or nothing if it is accepted.
-fn words(text: Text) -> Option<Diagnosis> {
-    let refusal = judged(&text).err()?;
+fn words(bytes: Vec<u8>) -> Option<Diagnosis> {
+    let refusal = judged(&bytes).err()?;
+    let text = Text { name: "p".to_string(), bytes, size: None };
     let found = of_text(&text, refusal, &Names::default());
+    let steps: Vec<Step> = gimmerskip::lines(&text.bytes).map_while(Result::ok).collect();
     assert!(!found.mend.is_empty(), "these are the general words: {}", found.head);
-    assert!(is_true(&steps(&text), refusal, &found.head), "{:?}", found);
+    assert!(is_true(&steps, refusal, &found.head), "{:?}", found);
     Some(found)
 }
 
 #[test]
 fn words_are_found_for_every_refusal() {
-    let common = [2, 4, 5, 7, 9, 10];
-    words_are_found(Reader::Morning, &[&common[..], &[6]].concat());
-    words_are_found(Reader::Midday, &[&common[..], &[16, 17]].concat());
-}
-
-fn words_are_found(reader: Reader, numbers: &[usize]) {
     let mut random = Random::new(2_026);
-    let mut seen = [0; 18];
+    let mut seen = [0; 11];
     for _ in 0..20_000 {
-        let text = Text::of(reader, some_text(&mut random, reader));
-        let Some(found) = words(text) else { continue };
+        let Some(found) = words(some_text(&mut random)) else { continue };
         seen[found.refusal.number() as usize] += 1;
         let (short, long) = (found.short("p", Style::default()), found.long("p", Style::default()));
         assert!(short.is_ascii() && long.is_ascii());
@@ -197,5 +142,6 @@ fn words_are_found(reader: Reader, numbers: &[usize]) {
         assert!(long.starts_with(short.lines().next().expect("a line")));
         assert!(long.lines().all(|line| line.len() <= 200), "{long}");
     }
-    assert!(numbers.iter().all(|&number| seen[number] > 30), "{seen:?}");
+    let is_seen = |number: usize| seen[number] > 30;
+    assert!([2, 4, 5, 6, 7, 9, 10].into_iter().all(is_seen), "{seen:?}");
 }

@@ -8,12 +8,11 @@ use cli::input::Text;
 use cli::list::List;
 use cli::names::Names;
 use common::{fed, plans, printed, run, shell, text, Ended, Folder};
-use gimmerskip::{Plan, Reader};
+use gimmerskip::Plan;
 use second::elsewhere::{damaged, mixed, walked};
 use second::judge::{astray, broken, Astray, Rule};
 use second::line::pack;
 use second::random::{plan, wish, Random};
-use second::resumed::{self, midday};
 use second::{judge, plain, read, Line};
 use std::fs;
 
@@ -102,7 +101,7 @@ fn entries_that_are_no_numbers() {
     misspelt("\u{feff}1\n", 1, mark);
     misspelt("1\n 4\n", 2, "entry 2 is ' 4', with a space or tab");
     misspelt("1 4 5\n", 1, "entry 1 is '1 4 5', several numbers: one a line is needed");
-    let plan = "which looks like a line of a plan: PLAN comes first, then the list";
+    let plan = "which looks like a line of a plan: PLAN comes first, then ORDER";
     misspelt("1\ttake\t1\n", 1, &format!("entry 1 is '1<tab>take<tab>1', {plan}"));
     misspelt("1\n4", 2, "entry 2 is '4' without its newline");
     misspelt("1\norder\t6\t2\n", 2, "entry 2 is 'order<tab>6<tab>2', which is no number");
@@ -200,7 +199,7 @@ fn a_plan_with_a_fault_is_refused_before_its_list() {
         let folder = Folder::new();
         let ended = fed(&["judge", &folder.file("p", list), "-"], text(A)).ends(1);
         assert_eq!(ended.text(), "refused\t2\t1\n");
-        ended.says(&["It looks like a list of line numbers: PLAN comes first, then the list.\n"]);
+        ended.says(&["It looks like a list of line numbers: PLAN comes first, then ORDER.\n"]);
     }
 }
 
@@ -234,13 +233,10 @@ fn after(sentence: &str, words: &str) -> usize {
 fn named(head: &str) -> Option<Rule> {
     Some(match head {
         _ if head.contains(" missing") => return None,
-        _ if head.contains(" again: ") || head.contains("it is no step") => Rule::Again,
+        _ if head.contains(" again: ") => Rule::Again,
         _ if head.contains("which starts that job") => Rule::NotStarted(after(head, "but line ")),
         _ if head.contains("of that job is not done") => Rule::Earlier(after(head, "but line ")),
-        _ if head.contains(" holds that from line ") => {
-            Rule::Held(after(head, " holds that from line "))
-        }
-        _ if head.contains(" holds that ") => Rule::Held(after(head, " from the beginning (line ")),
+        _ if head.contains(" holds that ") => Rule::Held(after(head, " holds that from line ")),
         _ => Rule::NoLine,
     })
 }
@@ -295,47 +291,29 @@ fn is_said(plan: &[Line], done: &[bool], found: &Diagnosis) {
 }
 
 /// Compares the words for one list with the second program; gives the rule that they name, if it is refused.
-fn compare(reader: Reader, plan: &[Line], list: &[u16]) -> Option<Option<Rule>> {
+fn compare(plan: &[Line], list: &[u16]) -> Option<Option<Rule>> {
     let bytes: Vec<u8> = list.iter().flat_map(|line| format!("{line}\n").into_bytes()).collect();
-    let list = List::of(Text::of(reader, bytes));
+    let list = List::of(Text { name: "l".to_string(), bytes, size: None });
     let entries: Vec<usize> = list.entries.iter().map(|&entry| entry.into()).collect();
     let wanted = astray(plan, &entries);
-    let judged = Plan::from_packed_by(reader, pack(plan)).expect("no fault").judge(&list.entries);
+    let judged = Plan::from_packed(pack(plan)).expect("no fault").judge(&list.entries);
     assert_eq!(judged.is_err(), wanted.is_some());
     let (refusal, wanted) = (judged.err()?, wanted?);
-    let found = of_list(&Text::of(reader, read::write(plan)), &list, refusal, &Names::default());
+    let found = of_list(&read::write(plan), &list, refusal, &Names::default());
     is_true(plan, &wanted, &found);
-    let mut done: Vec<bool> = plan.iter().map(|line| line.is_held()).collect();
+    let mut done = vec![false; plan.len()];
     entries[..wanted.position - 1].iter().for_each(|&line| done[line - 1] = true);
     is_said(plan, &done, &found);
     Some(named(&found.head))
 }
 
-/// A plan of the morning, or a resumed one.
-fn some_plan(random: &mut Random, reader: Reader, most: usize) -> Vec<Line> {
-    match reader {
-        Reader::Midday => {
-            let midday = midday(random, most, 6, 6);
-            resumed::plan(random, midday)
-        }
-        _ => {
-            let wish = wish(random, most, 6, 6);
-            plan(random, wish)
-        }
-    }
-}
-
 #[test]
 fn the_rule_that_is_named_is_broken() {
-    [Reader::Morning, Reader::Midday].into_iter().for_each(rules_are_broken);
-}
-
-fn rules_are_broken(reader: Reader) {
     let mut random = Random::new(2_028);
     let mut seen = [0; 6];
     for round in 0..4_500 {
-        let most = if round % 40 == 0 { 300 } else { 40 };
-        let plan = some_plan(&mut random, reader, most);
+        let wish = wish(&mut random, if round % 40 == 0 { 300 } else { 40 }, 6, 6);
+        let plan = plan(&mut random, wish);
         let mut list = match plain::verdict(&plan) {
             // As the lines stand, a job often wants what another one holds.
             _ if round % 3 == 0 => (1..=plan.len() as u16).collect(),
@@ -343,7 +321,7 @@ fn rules_are_broken(reader: Reader) {
             _ => walked(&mut random, &plan),
         };
         for _ in 0..4 {
-            let compared = compare(reader, &plan, &list);
+            let compared = compare(&plan, &list);
             list = damaged(&mut random, plan.len(), &list);
             if let Some(rule) = compared {
                 seen[match rule {

@@ -8,7 +8,7 @@ use std::process::Command;
 #[test]
 fn help_and_version() {
     let all = run(&["--help"]).ends(0);
-    for word in ["order", "explain", "table", "move", "check", "judge", "midday", "resume"] {
+    for word in ["order", "explain", "table", "move", "check", "judge"] {
         assert!(all.text().contains(&format!("\n  {word} ")), "{word}");
         let page = run(&[word, "--help"]).ends(0);
         assert!(page.text().starts_with(&format!("use: gimmerskip {word} ")), "{word}");

@@ -1,8 +1,7 @@
 //! What an entry or the program was given, told in full where answers differ: the forms of a plan
 //! are those of "The plan as text" of document 01.
 
-use second::damage::spelt_by;
-use second::line::MIDDAY;
+use second::damage::spelt;
 use second::plain::{members, Beside, Rows};
 use second::random::Move;
 use second::tally::Input;
@@ -49,9 +48,9 @@ fn told_text(text: &[u8]) -> String {
     format!("text of {} bytes: b\"{}\"\n", text.len(), text.escape_ascii())
 }
 
-/// A packed plan, as numbers and as lines. Held lines are told as such, whoever was asked.
+/// A packed plan, as numbers and as lines.
 fn told_plan(plan: &[u32]) -> String {
-    let lines = String::from_utf8_lossy(&spelt_by(MIDDAY, plan)).into_owned();
+    let lines = String::from_utf8_lossy(&spelt(plan)).into_owned();
     format!("packed plan of {} numbers: {plan:?}\n{lines}", plan.len())
 }
 

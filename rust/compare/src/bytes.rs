@@ -11,7 +11,7 @@ use second::random::Random;
 use second::read::{write, TEXT};
 
 /// The bytes that plans are made of.
-const ALPHABET: &[u8] = b"0123456789\t\t\n\ndotakegivestartheld";
+const ALPHABET: &[u8] = b"0123456789\t\t\n\ndotakegivestart";
 
 /// So many bytes, of any kind or of those above.
 fn bytes(random: &mut Random, length: usize) -> Vec<u8> {
@@ -81,19 +81,14 @@ pub fn any_text(random: &mut Random) -> Vec<u8> {
     }
 }
 
-/// Many texts.
+/// The two entries that take texts.
 pub fn texts(run: &mut Run) {
     for _ in 0..20_000 {
         let text = any_text(&mut run.random);
-        through(run, &text);
+        let lines = text.iter().filter(|&&byte| byte == b'\n').count();
+        let for_read = room(&mut run.random, lines);
+        let _ = entries::read(run, &text, for_read);
+        let for_screen = screen_room(&mut run.random);
+        entries::screen(run, &text, for_screen);
     }
-}
-
-/// A text through the two entries that take texts.
-pub fn through(run: &mut Run, text: &[u8]) {
-    let lines = text.iter().filter(|&&byte| byte == b'\n').count();
-    let for_read = room(&mut run.random, lines);
-    let _ = entries::read(run, text, for_read);
-    let for_screen = screen_room(&mut run.random);
-    entries::screen(run, text, for_screen);
 }

@@ -1,52 +1,28 @@
 //! One call of a proved entry, held against the second program: the answer, what is left in the
 //! lent list, and what stands around it. The paragraph is "Refusal numbers" of document 01 with
-//! its lengths and answers, and for the screens the end of "Plans with their verdicts". By request 5
-//! of document 02 each entry has a sibling; it is that of the side on which the run is, and where the
-//! other side takes the plan too, both have to answer alike. The move stands in `moves.rs`, what keeps
-//! the rows in `kept.rs`.
+//! its lengths and answers, and for the screens the end of "Plans with their verdicts". The move
+//! stands in `moves.rs`, what keeps the rows in `kept.rs`.
 
 use crate::asked::Asked;
 use crate::lent::{Lent, Word};
-use crate::midday;
 use crate::run::{Answer, Run};
-use crate::side::{answer, Side, OF_MORNING};
 use gimmerskip::raw;
-use second::line::Settings;
 use second::orders;
 use second::plain::{self, passes_over, SCREEN};
-use second::read::{check_packed, check_packed_by, read_by, Handed, Lines};
+use second::read::{check_packed, Handed, Lines};
 use second::tally::circle_class;
 use second::{shapes, Line, Refusal};
-use std::fmt::Debug;
 use std::hint::black_box;
 
 /// What an entry left in its list, with its number, or its refusal.
 pub type Filled<T> = Result<(u64, Vec<T>), Refusal>;
 
-/// Holds what the entry of this side says, and leaves, against what that of the morning does. Of what the
-/// morning's takes as a plan both say the same.
-pub fn on_both_sides<A: PartialEq + Debug>(
-    run: &mut Run,
-    entry: &str,
-    asked: &Asked,
-    said: [A; 2],
-) {
-    run.tally.meet(midday::BOTH);
-    let [here, morning] = said;
-    let name = format!("both readers take the plan: {entry} answers alike");
-    run.tally.compare(&name, asked, morning, here);
-}
-
-/// Whether the run is at midday, and the readers of the morning would take the plan.
-pub fn both_take(run: &Run, asked: &Asked) -> bool {
-    run.side.is_midday()
-        && match asked {
-            Asked::Text { text, .. } => second::read::read(text).is_ok(),
-            Asked::Packed { plan, .. } | Asked::Move { plan, .. } | Asked::Order { plan, .. } => {
-                check_packed(plan).is_ok()
-            }
-            _ => false,
-        }
+/// A 64-bit answer in its two forms.
+pub fn answer(number: u64) -> Answer {
+    match number >> 32 {
+        0 => Ok(number),
+        refusal => Err(Refusal { number: refusal as u32, place: number & 0xffff_ffff }),
+    }
 }
 
 /// Calls an entry that fills a list, and the second program on a copy of the list.
@@ -54,21 +30,15 @@ fn fill<T: Word>(
     run: &mut Run,
     entry: &str,
     asked: &Asked,
-    proved: impl Fn(&Side, &mut [T]) -> Answer,
-    second: impl Fn(Settings, &mut [T]) -> Answer,
+    proved: impl FnOnce(&mut [T]) -> Answer,
+    second: impl FnOnce(&mut [T]) -> Answer,
 ) -> Filled<T> {
     let mut lent = Lent::filled(&mut run.random, asked.room());
     let before = lent.clone();
     let mut wanted_list = before.list().to_vec();
-    let said = proved(run.side, lent.list_mut());
-    let wanted = second(run.side.settings, &mut wanted_list);
-    let entry = &run.side.name(entry);
+    let said = proved(lent.list_mut());
+    let wanted = second(&mut wanted_list);
     run.meet(entry, &wanted);
-    if both_take(run, asked) {
-        let mut list = before.list().to_vec();
-        let of_morning = proved(&OF_MORNING, &mut list);
-        on_both_sides(run, entry, asked, [(said, lent.list()), (of_morning, &list)]);
-    }
     let tally = &mut run.tally;
     tally.compare(&format!("{entry}: the answer"), asked, wanted, said);
     let name = format!("{entry}: what stands around the list stays");
@@ -85,7 +55,7 @@ fn fill<T: Word>(
 /// What was lent for reading has to be there unchanged. The compiler may take that for granted, so
 /// the list is looked at again as if it were new.
 pub fn stays<T: Word>(run: &mut Run, entry: &str, asked: &Asked, list: &[T], lent: &Lent<T>) {
-    let name = format!("{}: what was lent for reading stays", run.side.name(entry));
+    let name = format!("{entry}: what was lent for reading stays");
     run.tally.compare(&name, asked, list, black_box(lent).list());
 }
 
@@ -132,18 +102,13 @@ pub fn lines(run: &mut Run, text: &[u8]) {
     }
 }
 
-/// Compares a call of `read`, and in the morning, which alone has an entry for them, the lines of the
-/// same text.
+/// Compares a call of `read`, and the lines of the same text.
 pub fn read(run: &mut Run, text: &[u8], room: usize) -> Filled<u32> {
-    if !run.side.is_midday() {
-        lines(run, text);
-    }
+    lines(run, text);
     let asked = Asked::Text { text, room };
     let lent = lent_text(run, text);
-    let proved = |side: &Side, list: &mut [u32]| answer((side.read)(lent.list(), list));
-    let second = |settings, list: &mut [u32]| {
-        plain::read_into_by(settings, text, list).map(|lines| lines as u64)
-    };
+    let proved = |list: &mut [u32]| answer(raw::read(lent.list(), list));
+    let second = |list: &mut [u32]| plain::read_into(text, list).map(|lines| lines as u64);
     let filled = fill(run, "read", &asked, proved, second);
     stays(run, "read", &asked, text, &lent);
     filled
@@ -153,10 +118,8 @@ pub fn read(run: &mut Run, text: &[u8], room: usize) -> Filled<u32> {
 pub fn write(run: &mut Run, plan: &[u32], room: usize) -> Filled<u8> {
     let asked = Asked::Packed { plan, room };
     let lent = lent_plan(plan);
-    let proved = |side: &Side, list: &mut [u8]| answer((side.write)(lent.list(), list));
-    let second = |settings, list: &mut [u8]| {
-        plain::write_into_by(settings, plan, list).map(|bytes| bytes as u64)
-    };
+    let proved = |list: &mut [u8]| answer(raw::write(lent.list(), list));
+    let second = |list: &mut [u8]| plain::write_into(plan, list).map(|bytes| bytes as u64);
     let filled = fill(run, "write", &asked, proved, second);
     stays(run, "write", &asked, plan, &lent);
     filled
@@ -166,10 +129,8 @@ pub fn write(run: &mut Run, plan: &[u32], room: usize) -> Filled<u8> {
 pub fn table(run: &mut Run, plan: &[u32], room: usize) -> Filled<u32> {
     let asked = Asked::Packed { plan, room };
     let lent = lent_plan(plan);
-    let proved = |side: &Side, list: &mut [u32]| answer((side.table)(lent.list(), list));
-    let second = |settings, list: &mut [u32]| {
-        plain::table_into_by(settings, plan, list).map(|lines| lines as u64)
-    };
+    let proved = |list: &mut [u32]| answer(raw::table(lent.list(), list));
+    let second = |list: &mut [u32]| plain::table_into(plan, list).map(|lines| lines as u64);
     let filled = fill(run, "table", &asked, proved, second);
     stays(run, "table", &asked, plan, &lent);
     filled
@@ -179,9 +140,8 @@ pub fn table(run: &mut Run, plan: &[u32], room: usize) -> Filled<u32> {
 pub fn verdict(run: &mut Run, plan: &[u32], room: usize) -> Filled<u16> {
     let asked = Asked::Packed { plan, room };
     let lent = lent_plan(plan);
-    let proved = |side: &Side, list: &mut [u16]| answer((side.verdict)(lent.list(), list));
-    let second =
-        |settings, list: &mut [u16]| plain::verdict_into_by(settings, plan, list).map(u64::from);
+    let proved = |list: &mut [u16]| answer(raw::verdict(lent.list(), list));
+    let second = |list: &mut [u16]| plain::verdict_into(plan, list).map(u64::from);
     let filled = fill(run, "verdict", &asked, proved, second);
     stays(run, "verdict", &asked, plan, &lent);
     if let Ok((held, order)) = &filled {
@@ -194,32 +154,20 @@ pub fn verdict(run: &mut Run, plan: &[u32], room: usize) -> Filled<u16> {
 /// Follows an order step by step, by "Legal orders" alone: however long the plan is, this needs no
 /// trying of others.
 fn legal(run: &mut Run, asked: &Asked, plan: &[u32], held: u64, order: &[u16]) {
-    let entry = run.side.name("verdict");
-    let name = format!("{entry}: what is handed out is legal, with its devices held");
-    let lines = check_packed_by(run.side.settings, plan).unwrap_or_default();
-    let order = &order[..steps(&lines).min(order.len())];
-    let numbers: Vec<usize> = order.iter().map(|&line| line.into()).collect();
-    let wanted = orders::held_after(&lines, &numbers).map(u64::from);
-    run.tally.compare(&name, asked, wanted, Some(held));
-    let said = answer((run.side.judge)(plan, order));
-    let name = format!("{entry}: what is handed out passes the judge");
-    run.tally.compare(&name, asked, Ok(0), said);
-}
-
-/// How many lines of a plan are steps.
-pub fn steps(plan: &[Line]) -> usize {
-    plan.iter().filter(|line| !line.is_held()).count()
+    let name = "verdict: what is handed out is legal, with its devices held";
+    let lines = order.iter().take(plan.len()).map(|&line| line.into()).collect::<Vec<usize>>();
+    let wanted = check_packed(plan).ok().and_then(|plan| orders::held_after(&plan, &lines));
+    run.tally.compare(name, asked, wanted.map(u64::from), Some(held));
+    let said = answer(raw::judge(plan, &order[..plan.len()]));
+    let name = "verdict: what is handed out passes the judge";
+    run.tally.compare(name, asked, Ok(0), said);
 }
 
 /// Counts a plan in its classes, after its verdict.
 fn sort(run: &mut Run, plan: &[u32], refusal: Option<&Refusal>) {
-    let Ok(plan) = check_packed_by(run.side.settings, plan) else {
+    let Ok(plan) = check_packed(plan) else {
         return;
     };
-    if run.side.is_midday() {
-        midday::sort(run, &plan, refusal);
-        return;
-    }
     match refusal.map(|refusal| refusal.number) {
         None => sort_accepted(run, &plan),
         Some(10) => run.tally.meet(circle_class(&plan)),
@@ -250,24 +198,18 @@ pub fn screen(run: &mut Run, text: &[u8], room: usize) -> Vec<u8> {
     let mut lent = Lent::filled(&mut run.random, room);
     let before = lent.clone();
     let mut wanted_list = before.list().to_vec();
-    let count = (run.side.screen)(shown.list(), lent.list_mut());
-    let wanted = plain::screen_by(run.side.settings, text, &mut wanted_list);
+    let count = raw::order(shown.list(), lent.list_mut());
+    let wanted = plain::screen(text, &mut wanted_list);
     sort_screen(run, text, room);
-    let entry = &run.side.name("screen");
-    if both_take(run, &asked) {
-        let mut list = before.list().to_vec();
-        let of_morning = raw::order(shown.list(), &mut list);
-        on_both_sides(run, entry, &asked, [(count, lent.list()), (of_morning, &list)]);
-    }
     let tally = &mut run.tally;
-    tally.compare(&format!("{entry}: the count"), &asked, wanted, count);
-    let name = format!("{entry}: what stands around the buffer stays");
-    tally.compare(&name, &asked, None, lent.stray(&before));
-    let name = format!("{entry}: the bytes that the program prints, and past them what it held");
-    tally.compare(&name, &asked, &wanted_list[..], lent.list());
+    tally.compare("screen: the count", &asked, wanted, count);
+    let name = "screen: what stands around the buffer stays";
+    tally.compare(name, &asked, None, lent.stray(&before));
+    let name = "screen: the bytes that the program prints, and past them what the buffer held";
+    tally.compare(name, &asked, &wanted_list[..], lent.list());
     if room < SCREEN {
-        let name = format!("{entry}: too little room leaves the buffer");
-        tally.compare(&name, &asked, (0, before.list()), (count, lent.list()));
+        let name = "screen: too little room leaves the buffer";
+        tally.compare(name, &asked, (0, before.list()), (count, lent.list()));
     }
     stays(run, "screen", &asked, text, &shown);
     lent.list()[..count.min(room)].to_vec()
@@ -275,14 +217,13 @@ pub fn screen(run: &mut Run, text: &[u8], room: usize) -> Vec<u8> {
 
 /// Counts a call of the screens' entry, and keeps its text for the program.
 fn sort_screen(run: &mut Run, text: &[u8], room: usize) {
-    let order = read_by(run.side.settings, text).and_then(|plan| plain::verdict(&plan));
+    let order = second::read::read(text).and_then(|plan| plain::verdict(&plan));
     let wanted = order.map(|order| u64::from(order.held));
-    let entry = run.side.name("screen");
     run.texts.keep(text, &wanted);
     if room < SCREEN {
-        run.tally.meet(&format!("{entry}: calls"));
-        run.tally.meet(&format!("{entry}: too little room"));
+        run.tally.meet("screen: calls");
+        run.tally.meet("screen: too little room");
     } else {
-        run.meet(&entry, &wanted);
+        run.meet("screen", &wanted);
     }
 }

@@ -1,23 +1,21 @@
 //! Orders from elsewhere: one call of the proved judge, held against the second program, for every
 //! list that a small plan can be given, and for random ones, legal and damaged, of plans up to the
-//! limits. The paragraphs are requests 1, 2 and 5 of document 02 and "Legal orders" of document 01.
+//! limits. The paragraphs are requests 1 and 2 of document 02 and "Legal orders" of document 01.
 
 use crate::asked::Asked;
-use crate::entries::{both_take, lent_plan, on_both_sides, stays};
+use crate::entries::{answer, lent_plan, stays};
 use crate::lent::Lent;
-use crate::midday;
 use crate::plans::{any_plan, any_ring, long_plan, short_plan};
 use crate::run::{Answer, Run};
-use crate::side::{answer, OF_MORNING};
 use crate::wrapper::as_second;
-use gimmerskip::Plan;
+use gimmerskip::{raw, Plan};
 use second::damage::damaged_packed;
 use second::elsewhere::{damaged, mixed, too_soon, walked};
 use second::judge::{self, Astray, Rule};
 use second::line::pack;
 use second::plain::verdict;
 use second::random::Random;
-use second::read::check_packed_by;
+use second::read::check_packed;
 use second::small::small_plans;
 use second::{shapes, Line};
 
@@ -53,19 +51,15 @@ fn class(astray: &Astray) -> &'static str {
 
 /// Counts a list in its classes.
 fn sort(run: &mut Run, plan: &[u32], order: &[u16], wanted: &Answer) {
-    let entry = run.side.name("judge");
-    run.meet(&entry, wanted);
+    run.meet("judge", wanted);
     let entries: Vec<usize> = order.iter().map(|&entry| entry.into()).collect();
-    let Ok(plan) = check_packed_by(run.side.settings, plan) else {
+    let Ok(plan) = check_packed(plan) else {
         return;
     };
     if let Some(astray) = judge::astray(&plan, &entries) {
-        run.tally.meet(&format!("{entry}: {}", class(&astray)));
+        run.tally.meet(&format!("judge: {}", class(&astray)));
         if shapes::given_in_part(&plan, &entries, &astray) {
-            run.tally.meet(&format!("{entry}: {}", shapes::GIVEN_IN_PART));
-        }
-        if run.side.is_midday() {
-            midday::sort_astray(run, &plan, &entries, &astray);
+            run.tally.meet(&format!("judge: {}", shapes::GIVEN_IN_PART));
         }
     }
 }
@@ -77,25 +71,20 @@ pub fn judge(run: &mut Run, plan: &[u32], order: &[u16]) -> Answer {
     let lent = lent_plan(plan);
     let next = order.last().map_or(1, |last| last.wrapping_add(1));
     let entries = Lent::among(order, &[next]);
-    let said = answer((run.side.judge)(lent.list(), entries.list()));
-    let wanted = judge::judge_by(run.side.settings, plan, order).map(|()| 0);
+    let said = answer(raw::judge(lent.list(), entries.list()));
+    let wanted = judge::judge(plan, order).map(|()| 0);
     sort(run, plan, order, &wanted);
-    let entry = &run.side.name("judge");
-    run.tally.compare(&format!("{entry}: the answer"), &asked, wanted, said);
+    run.tally.compare("judge: the answer", &asked, wanted, said);
     stays(run, "judge", &asked, plan, &lent);
     stays(run, "judge", &asked, order, &entries);
-    let wrapped = Plan::from_packed_by(run.side.reader, plan).and_then(|plan| plan.judge(order));
+    let wrapped = Plan::from_packed(plan).and_then(|plan| plan.judge(order));
     let wrapped = wrapped.map(|()| 0).map_err(as_second);
-    run.tally.compare(&format!("{entry}: the wrapper's answer"), &asked, wanted, wrapped);
-    if both_take(run, &asked) {
-        let of_morning = answer((OF_MORNING.judge)(lent.list(), entries.list()));
-        on_both_sides(run, entry, &asked, [said, of_morning]);
-    }
+    run.tally.compare("judge: the wrapper's answer", &asked, wanted, wrapped);
     said
 }
 
 /// Every list of different lines of a plan.
-pub fn arranged(run: &mut Run, plan: &[u32], list: &mut Vec<u16>) {
+fn arranged(run: &mut Run, plan: &[u32], list: &mut Vec<u16>) {
     let _ = judge(run, plan, list);
     for entry in 1..=plan.len() as u16 {
         if !list.contains(&entry) {
@@ -128,7 +117,7 @@ pub fn some_order(random: &mut Random, plan: &[Line]) -> Vec<u16> {
 }
 
 /// A list as it was made, with a take that comes too soon, and twice damaged.
-pub fn with_damage(run: &mut Run, plan: &[Line]) {
+fn with_damage(run: &mut Run, plan: &[Line]) {
     let mut list = some_order(&mut run.random, plan);
     judge_alike(run, plan, &list);
     if let Some(list) = too_soon(&mut run.random, plan, &list) {
@@ -154,13 +143,15 @@ fn judge_alike(run: &mut Run, plan: &[Line], list: &[u16]) {
 }
 
 /// A list for a plan that was damaged after it.
-pub fn for_damaged_plan(run: &mut Run, plan: &[Line], spoilt: &[u32]) {
+fn for_damaged_plan(run: &mut Run) {
+    let plan = any_plan(&mut run.random);
     let list: Vec<u16> = (1..=plan.len() as u16).collect();
-    let _ = judge(run, spoilt, &list);
+    let spoilt = damaged_packed(&mut run.random, &pack(&plan));
+    let _ = judge(run, &spoilt, &list);
 }
 
 /// A list far longer than any plan: one that `some_order` gives, and then anything.
-pub fn long_list(run: &mut Run, plan: &[Line]) {
+fn long_list(run: &mut Run, plan: &[Line]) {
     let mut list = some_order(&mut run.random, plan);
     while list.len() < 2_000 {
         list.push(run.random.bits() as u16);
@@ -183,9 +174,7 @@ pub fn judged(run: &mut Run) {
         with_damage(run, &ring);
     }
     for _ in 0..6_000 {
-        let plan = any_plan(&mut run.random);
-        let spoilt = damaged_packed(&mut run.random, &pack(&plan));
-        for_damaged_plan(run, &plan, &spoilt);
+        for_damaged_plan(run);
     }
     for _ in 0..150 {
         let plan = long_plan(&mut run.random);

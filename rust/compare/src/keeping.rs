@@ -3,10 +3,10 @@
 //! plans. The paragraph is request 4 of document 02; the calls stand in `kept.rs`.
 
 use crate::asked::Asked;
+use crate::entries::answer;
 use crate::kept::{build, move_kept, quick, WithRows};
 use crate::plans::{any_plan, any_ring, deep_plan, forms, long_plan, room, short_plan};
 use crate::run::Run;
-use crate::side::answer;
 use gimmerskip::raw;
 use second::damage::{damaged_packed, stale_table};
 use second::leading::{chain, dense, forward, parts, some_parts, sparse, Numbering};

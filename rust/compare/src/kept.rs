@@ -3,10 +3,9 @@
 //! and lists they are called on stands in `keeping.rs`.
 
 use crate::asked::Asked;
-use crate::entries::{lent_plan, stays};
+use crate::entries::{answer, lent_plan, stays};
 use crate::lent::Lent;
 use crate::run::{Answer, Run};
-use crate::side::answer;
 use crate::wrapper::as_second;
 use gimmerskip::{entries, raw};
 use second::line::{pack, DEVICES};

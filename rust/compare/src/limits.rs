@@ -4,11 +4,11 @@
 //! 02.
 
 use crate::asked::Asked;
-use crate::entries::{self, steps};
+use crate::entries;
 use crate::plans::{any_plan, forms, room, screen_room};
 use crate::run::Run;
 use second::line::pack;
-use second::read::check_packed_by;
+use second::read::check_packed;
 use second::shapes;
 
 /// Every entry but the move on plans of all sizes.
@@ -16,38 +16,27 @@ pub fn plans(run: &mut Run) {
     for _ in 0..40_000 {
         let plan = any_plan(&mut run.random);
         let (packed, text) = forms(&mut run.random, &plan);
-        through_entries(run, &packed, &text);
+        let lines = text.iter().filter(|&&byte| byte == b'\n').count();
+        let for_read = room(&mut run.random, lines);
+        let _ = entries::read(run, &text, for_read);
+        let for_write = room(&mut run.random, text.len());
+        let _ = entries::write(run, &packed, for_write);
+        let for_table = room(&mut run.random, packed.len());
+        let _ = entries::table(run, &packed, for_table);
+        let for_verdict = room(&mut run.random, packed.len());
+        let _ = entries::verdict(run, &packed, for_verdict);
+        let for_screen = screen_room(&mut run.random);
+        entries::screen(run, &text, for_screen);
+        if run.random.once_in(3) {
+            there_and_back(run, &packed, &text);
+        }
+        if run.random.once_in(3) {
+            other_codes(run, &packed);
+        }
+        if run.random.once_in(3) {
+            as_actions(run, &packed);
+        }
     }
-}
-
-/// A list and a text, right or not, through the entries.
-pub fn through_entries(run: &mut Run, packed: &[u32], text: &[u8]) {
-    let lines = text.iter().filter(|&&byte| byte == b'\n').count();
-    let for_read = room(&mut run.random, lines);
-    let _ = entries::read(run, text, for_read);
-    let for_write = room(&mut run.random, text.len());
-    let _ = entries::write(run, packed, for_write);
-    let for_table = room(&mut run.random, packed.len());
-    let _ = entries::table(run, packed, for_table);
-    let needed = needed(run, packed);
-    let for_verdict = room(&mut run.random, needed);
-    let _ = entries::verdict(run, packed, for_verdict);
-    let for_screen = screen_room(&mut run.random);
-    entries::screen(run, text, for_screen);
-    if run.random.once_in(3) {
-        there_and_back(run, packed, text);
-    }
-    if run.random.once_in(3) {
-        other_codes(run, packed);
-    }
-    if run.random.once_in(3) {
-        as_actions(run, packed);
-    }
-}
-
-/// How many entries the order of a plan needs.
-fn needed(run: &Run, packed: &[u32]) -> usize {
-    check_packed_by(run.side.settings, packed).map_or(packed.len(), |plan| steps(&plan))
 }
 
 /// The code of an action touches no device.
@@ -61,8 +50,7 @@ fn other_codes(run: &mut Run, packed: &[u32]) {
 
 /// To take again, and to give back what was taken so, has no more effect than an action.
 fn as_actions(run: &mut Run, packed: &[u32]) {
-    let plan = check_packed_by(run.side.settings, packed).ok();
-    if let Some(plan) = plan.filter(|plan| shapes::takes_again(plan)) {
+    if let Some(plan) = check_packed(packed).ok().filter(|plan| shapes::takes_again(plan)) {
         alike(run, "actions for what takes again", packed, &pack(&shapes::as_actions(&plan)));
     }
 }
@@ -73,9 +61,8 @@ fn alike(run: &mut Run, what: &str, plan: &[u32], other: &[u32]) {
     let table = entries::table(run, plan, plan.len());
     let table_then = entries::table(run, other, plan.len());
     run.tally.compare(&format!("{what}: the same table"), &asked, table, table_then);
-    let needed = needed(run, plan);
-    let verdict = entries::verdict(run, plan, needed);
-    let verdict_then = entries::verdict(run, other, needed);
+    let verdict = entries::verdict(run, plan, plan.len());
+    let verdict_then = entries::verdict(run, other, plan.len());
     run.tally.compare(&format!("{what}: the same verdict"), &asked, verdict, verdict_then);
 }
 

@@ -4,9 +4,9 @@
 //!
 //! Prints its seed, the number of calls and plans by class, and each check with its number of
 //! comparisons. A difference is printed with all that was given and both answers. The seed is taken
-//! from the environment variable SEED; without it, a fixed one is used. The programs `order`, `resume`
-//! and `judge` are looked for under the paths in ORDER, RESUME and JUDGE; without them, where the build
-//! leaves them. The last line counts the checks.
+//! from the environment variable SEED; without it, a fixed one is used. The programs `order` and
+//! `judge` are looked for under the paths in ORDER and JUDGE; without them, where the build leaves
+//! them. The last line counts the checks.
 
 #![forbid(unsafe_code)]
 
@@ -21,13 +21,11 @@ mod kept;
 mod lent;
 mod limits;
 mod listed;
-mod midday;
 mod moves;
 mod plans;
 mod processes;
 mod program;
 mod run;
-mod side;
 mod small;
 mod wrapper;
 
@@ -49,23 +47,11 @@ fn there(run: &mut Run, program: Program) -> Option<Program> {
     processes::is_there(run, &program).then_some(program)
 }
 
-/// The parts on resumed plans.
-fn at_midday(run: &mut Run) {
-    part(run, "listed plans of midday", midday::listed);
-    part(run, "resumed plans up to the limits, and texts", midday::plans);
-    part(run, "resumed plans against all orders", midday::against_orders);
-    part(run, "all small resumed plans against all orders", midday::all_small);
-    part(run, "moves of resumed plans", midday::moves);
-    part(run, "orders from elsewhere for resumed plans", midday::judged);
-    part(run, "the wrapper at midday", wrapper::at_midday);
-}
-
 fn main() -> ExitCode {
     seeded(|seed| {
         let mut run = Run::new(seed);
         let order = there(&mut run, Program::order());
         let judge = there(&mut run, Program::judge());
-        let resume = there(&mut run, Program::resume());
         let (order_there, judge_there) = (order.as_ref(), judge.as_ref());
         part(&mut run, "listed plans", |run| listed::listed(run, order_there, judge_there));
         part(&mut run, "plans up to the limits", limits::plans);
@@ -83,11 +69,6 @@ fn main() -> ExitCode {
         }
         if let Some(judge) = judge {
             part(&mut run, "the program judge", |run| judge_texts::processes(run, &judge));
-        }
-        midday::on_its_side(&mut run, at_midday);
-        if let Some(resume) = resume {
-            let texts = std::mem::take(&mut run.texts);
-            part(&mut run, "the program resume", |run| processes::processes(run, &resume, texts));
         }
         part(&mut run, "the wrapper", wrapper::wrapper);
         part(&mut run, "the circle search by itself", circles::by_itself);

@@ -1,19 +1,18 @@
 //! Moves of claims on plans and tables that are kept from call to call, with stale tables and
 //! damaged plans among them, and every move of small plans. The paragraphs are "Moving a claim" of
-//! document 01 and requests 2 and 5 of document 02.
+//! document 01 and request 2 of document 02.
 
 use crate::asked::Asked;
-use crate::entries::{self, both_take, on_both_sides, steps};
+use crate::entries::{self, answer};
 use crate::lent::Lent;
-use crate::midday;
 use crate::plans::{any_plan, any_ring, deep_plan, long_plan, short_plan};
 use crate::run::{Answer, Run};
-use crate::side::{answer, OF_MORNING};
+use gimmerskip::raw;
 use second::damage::{damaged_packed, stale_table};
-use second::line::{pack, MIDDAY};
+use second::line::pack;
 use second::plain::{self, edited, table};
 use second::random::{some_move, Move, Random};
-use second::read::check_packed_by;
+use second::read::check_packed;
 use second::small::small_plans;
 use second::{shapes, Line};
 
@@ -35,34 +34,24 @@ pub fn moved(run: &mut Run, kept: &mut Kept, asked_move: Move) -> Answer {
     let mut plan = Lent::holding(&mut run.random, &kept.plan);
     let mut sets = Lent::holding(&mut run.random, &kept.sets);
     let (plan_before, sets_before) = (plan.clone(), sets.clone());
-    let said = answer((run.side.move_claim)(plan.list_mut(), sets.list_mut(), line, device));
+    let said = answer(raw::move_claim(plan.list_mut(), sets.list_mut(), line, device));
     let mut second = before.clone();
-    let wanted = {
-        let Kept { plan, sets } = &mut second;
-        plain::move_claim_by(run.side.settings, plan, sets, line, device).map(u64::from)
-    };
+    let wanted = plain::move_claim(&mut second.plan, &mut second.sets, line, device).map(u64::from);
     sort(run, &before, asked_move, wanted);
-    let entry = &run.side.name("move");
     let tally = &mut run.tally;
-    tally.compare(&format!("{entry}: the answer"), &asked, wanted, said);
-    let name = format!("{entry}: what stands around plan and table stays");
+    tally.compare("move: the answer", &asked, wanted, said);
+    let name = "move: what stands around plan and table stays";
     let stray = (plan.stray(&plan_before), sets.stray(&sets_before));
-    tally.compare(&name, &asked, (None, None), stray);
-    tally.compare(&format!("{entry}: the plan"), &asked, &second.plan[..], plan.list());
-    let name = format!("{entry}: the table, and past the lines what it held");
-    tally.compare(&name, &asked, &second.sets[..], sets.list());
+    tally.compare(name, &asked, (None, None), stray);
+    tally.compare("move: the plan", &asked, &second.plan[..], plan.list());
+    let name = "move: the table, and past the lines what it held";
+    tally.compare(name, &asked, &second.sets[..], sets.list());
     if said.is_err() {
-        let name = format!("{entry}: a refusal leaves plan and table");
+        let name = "move: a refusal leaves plan and table";
         let lists = (plan_before.list(), sets_before.list());
-        tally.compare(&name, &asked, lists, (plan.list(), sets.list()));
+        tally.compare(name, &asked, lists, (plan.list(), sets.list()));
     }
     *kept = Kept { plan: plan.list().to_vec(), sets: sets.list().to_vec() };
-    if both_take(run, &asked) {
-        let Kept { mut plan, mut sets } = before.clone();
-        let of_morning = answer((OF_MORNING.move_claim)(&mut plan, &mut sets, line, device));
-        let here = (said, &kept.plan, &kept.sets);
-        on_both_sides(run, entry, &asked, [here, (of_morning, &plan, &sets)]);
-    }
     if let Ok(count) = said {
         accepted(run, &before, kept, asked_move, count);
     }
@@ -71,14 +60,10 @@ pub fn moved(run: &mut Run, kept: &mut Kept, asked_move: Move) -> Answer {
 
 /// Counts a move in its classes.
 fn sort(run: &mut Run, before: &Kept, asked_move: Move, wanted: Answer) {
-    let entry = run.side.name("move");
-    run.meet(&entry, &wanted);
-    if let Ok(plan) = check_packed_by(run.side.settings, &before.plan) {
+    run.meet("move", &wanted);
+    if let Ok(plan) = check_packed(&before.plan) {
         for shape in shapes::of_move(&plan, &before.sets, asked_move, wanted) {
-            run.tally.meet(&format!("{entry}: {shape}"));
-        }
-        if run.side.is_midday() {
-            midday::sort_move(run, &plan, asked_move, wanted);
+            run.tally.meet(&format!("move: {shape}"));
         }
     }
 }
@@ -90,14 +75,14 @@ fn accepted(run: &mut Run, before: &Kept, after: &Kept, asked_move: Move, count:
     let asked = Asked::Move { plan: &before.plan, sets: &before.sets, line, device };
     let differ = before.sets.iter().zip(&after.sets).filter(|(old, new)| old != new).count();
     run.tally.compare("accepted move: the count of sets that differ", &asked, differ as u64, count);
-    let Ok(lines) = check_packed_by(run.side.settings, &before.plan) else {
+    let Ok(lines) = check_packed(&before.plan) else {
         return;
     };
     let (at, device) = (line as usize - 1, device as u8);
     let fresh = edited(&lines, at, device);
     let name = "accepted move: the plan is the edited one";
     run.tally.compare(name, &asked, pack(&fresh), after.plan.clone());
-    let verdict = entries::verdict(run, &after.plan, steps(&fresh));
+    let verdict = entries::verdict(run, &after.plan, after.plan.len());
     let wanted = plain::verdict(&fresh).map(|order| (u64::from(order.held), order.lines));
     let name = "accepted move: the verdict is that of the edited plan";
     run.tally.compare(name, &asked, wanted, verdict);
@@ -128,9 +113,7 @@ fn spoilt(random: &mut Random, kept: &Kept, older: &[u32], to: Move) -> Vec<u32>
             }
         }
         _ => {
-            // Plans of the morning are among those that a reader of resumed ones takes.
-            let plan = check_packed_by(MIDDAY, &kept.plan);
-            let plan = plan.expect("a moved plan stays without a fault");
+            let plan = check_packed(&kept.plan).expect("a moved plan stays without a fault");
             return stale_table(random, &plan, to, &spoilt);
         }
     }
@@ -139,7 +122,7 @@ fn spoilt(random: &mut Random, kept: &Kept, older: &[u32], to: Move) -> Vec<u32>
 
 /// So many moves on one plan and its table. Accepted ones go on from what they left; a table that
 /// was spoilt is put back afterwards.
-pub fn keep_moving(run: &mut Run, plan: &[Line], moves: usize) {
+fn keep_moving(run: &mut Run, plan: &[Line], moves: usize) {
     let mut sets = table(plan);
     let tail = run.random.below(3);
     sets.extend((0..tail).map(|_| run.random.bits() as u32));
@@ -159,42 +142,44 @@ pub fn keep_moving(run: &mut Run, plan: &[Line], moves: usize) {
 }
 
 /// A move of a damaged plan, with the table it had when it was whole, or one long enough.
-pub fn move_damaged(run: &mut Run, plan: &[Line], damaged: Vec<u32>) {
-    let asked = some_move(&mut run.random, &pack(plan));
-    let mut sets = table(plan);
+fn move_damaged(run: &mut Run) {
+    let plan = any_plan(&mut run.random);
+    let asked = some_move(&mut run.random, &pack(&plan));
+    let damaged = damaged_packed(&mut run.random, &pack(&plan));
+    let mut sets = table(&plan);
     if run.random.once_in(2) {
         sets.resize(damaged.len(), 0);
     }
     let _ = moved(run, &mut Kept { plan: damaged, sets }, asked);
 }
 
-/// Every line of a small plan moved to each of its two devices and to a third, with its own table and
-/// with each in which one of these devices stands wrongly in one set.
-pub fn all_moves(run: &mut Run, plan: &[Line]) {
-    let own = Kept { plan: pack(plan), sets: table(plan) };
-    for at in 0..3 * plan.len() as u32 {
-        let to = Move { line: at / 3 + 1, device: at % 3 };
-        let _ = moved(run, &mut own.clone(), to);
-        for wrong in 0..3 * plan.len() {
-            let mut stale = own.clone();
-            stale.sets[wrong / 3] ^= 1 << (wrong % 3);
-            let _ = moved(run, &mut stale, to);
+/// Every line of every small plan moved to each of its two devices and to a third, with its own
+/// table and with each in which one of these devices stands wrongly in one set.
+fn all_moves(run: &mut Run) {
+    small_plans(SMALL, &mut |plan| {
+        let own = Kept { plan: pack(plan), sets: table(plan) };
+        for at in 0..3 * plan.len() as u32 {
+            let to = Move { line: at / 3 + 1, device: at % 3 };
+            let _ = moved(run, &mut own.clone(), to);
+            for wrong in 0..3 * plan.len() {
+                let mut stale = own.clone();
+                stale.sets[wrong / 3] ^= 1 << (wrong % 3);
+                let _ = moved(run, &mut stale, to);
+            }
         }
-    }
+    });
 }
 
 /// All moves.
 pub fn moves(run: &mut Run) {
-    small_plans(SMALL, &mut |plan| all_moves(run, plan));
+    all_moves(run);
     for _ in 0..2_500 {
         let plan = short_plan(&mut run.random);
         keep_moving(run, &plan, 8);
         let plan = any_ring(&mut run.random);
         keep_moving(run, &plan, 4);
         for _ in 0..4 {
-            let plan = any_plan(&mut run.random);
-            let damaged = damaged_packed(&mut run.random, &pack(&plan));
-            move_damaged(run, &plan, damaged);
+            move_damaged(run);
         }
     }
     for _ in 0..30 {

@@ -1,6 +1,6 @@
 //! A program held against the second program, on the texts that were kept for it, and on streams
 //! that fail. The paragraphs are that on the program `order` in "Plans with their verdicts" of
-//! document 01, that on the program `judge` in request 1 of document 02, and request 5 for `resume`.
+//! document 01, and that on the program `judge` in request 1 of document 02.
 
 use crate::asked::Asked;
 use crate::program::{Ended, Program};

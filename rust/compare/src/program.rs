@@ -1,10 +1,9 @@
-//! The programs `order`, `resume` and `judge` as processes: standard input whole, in pieces, too long or
-//! not to be read, and standard output, also one that takes nothing. The paragraphs are that on the
-//! program in "Plans with their verdicts" of document 01, and requests 1 and 5 of document 02.
+//! The programs `order` and `judge` as processes: standard input whole, in pieces, too long or not
+//! to be read, and standard output, also one that takes nothing. The paragraphs are that on the
+//! program in "Plans with their verdicts" of document 01, and request 1 of document 02.
 
 use crate::run::Answer;
-use second::line::{Settings, MIDDAY, MORNING};
-use second::read::read_by;
+use second::read::read;
 use second::{judge, plain};
 use std::io::{Read, Write};
 use std::path::PathBuf;
@@ -40,26 +39,15 @@ fn path(variable: &str, program: &str) -> PathBuf {
     std::env::var_os(variable).map_or_else(built, PathBuf::from)
 }
 
-/// How many devices stay held by the order of a text, or its refusal.
-fn held_by(settings: Settings, text: &[u8]) -> Answer {
-    let order = read_by(settings, text).and_then(|plan| plain::verdict(&plan));
-    order.map(|order| u64::from(order.held))
-}
-
 impl Program {
     /// The program `order`.
     pub fn order() -> Program {
+        let answers = |text: &[u8]| {
+            let order = read(text).and_then(|plan| plain::verdict(&plan));
+            order.map(|order| u64::from(order.held))
+        };
         let path = path("ORDER", "order");
-        let answers = |text: &[u8]| held_by(MORNING, text);
         Program { name: "program order", path, answers, prints: plain::printed }
-    }
-
-    /// The program `resume`.
-    pub fn resume() -> Program {
-        let path = path("RESUME", "resume");
-        let answers = |text: &[u8]| held_by(MIDDAY, text);
-        let prints = |text: &[u8]| plain::printed_by(MIDDAY, text);
-        Program { name: "program resume", path, answers, prints }
     }
 
     /// The program `judge`.

@@ -2,11 +2,9 @@
 //! numbers of "Refusal numbers" of document 01 without 8, and 15 of document 02, entry by entry, the
 //! shapes of plans on which "Claims and rows" and "The order handed out" turn, the sentences of "Legal
 //! orders", the shapes of plans, moves and tables on which request 2 of document 02 turns, those of
-//! rows on which request 3 does, of lists kept beside a plan on which request 4 does, and of resumed
-//! plans on which request 5 does.
+//! rows on which request 3 does, and of lists kept beside a plan on which request 4 does.
 
-use crate::side::{Side, OF_MORNING};
-use crate::{circles, judging, kept, midday, small, wrapper};
+use crate::{circles, judging, kept, small, wrapper};
 use second::random::Random;
 use second::tally::{Tally, LEAST};
 use second::{shapes, Refusal};
@@ -22,7 +20,7 @@ const KEPT: usize = 240;
 /// Each entry, and each program, with the refusals that it can give. The lists are checked by each
 /// entry itself, so a packed list too long gives 3; a text too long, 1, reaches readers of texts
 /// alone. The screens' entry has no list that could be too short: too little room is no refusal.
-const REFUSALS: [(&str, &[u32]); 21] = [
+const REFUSALS: [(&str, &[u32]); 13] = [
     ("line", &[1, 2, 3]),
     ("read", &[1, 2, 3, 4, 5, 6, 7, 11]),
     ("write", &[2, 3, 4, 5, 6, 7, 11]),
@@ -36,20 +34,11 @@ const REFUSALS: [(&str, &[u32]); 21] = [
     ("judge", &[2, 3, 4, 5, 6, 7, 15]),
     ("program order", &[1, 2, 3, 4, 5, 6, 7, 9, 10]),
     ("program judge", &[1, 2, 3, 4, 5, 6, 7, 15]),
-    ("resume_read", &[1, 2, 3, 4, 5, 7, 11, 16, 17]),
-    ("resume_write", &[2, 3, 4, 5, 7, 11, 16, 17]),
-    ("resume_table", &[2, 3, 4, 5, 7, 11, 16, 17]),
-    ("resume_verdict", &[2, 3, 4, 5, 7, 9, 10, 11, 16, 17]),
-    ("resume_move", &[2, 3, 4, 5, 7, 11, 12, 13, 14, 16, 17]),
-    ("resume_screen", &[1, 2, 3, 4, 5, 7, 9, 10, 16, 17]),
-    ("resume_judge", &[2, 3, 4, 5, 7, 15, 16, 17]),
-    ("program resume", &[1, 2, 3, 4, 5, 7, 9, 10, 16, 17]),
 ];
 
 /// The other classes.
-const OTHERS: [&str; 9] = [
+const OTHERS: [&str; 8] = [
     "screen: too little room",
-    "resume_screen: too little room",
     "plan: shortest circle 1",
     "plan: shortest circle 2",
     "plan: shortest circle 3",
@@ -84,12 +73,10 @@ impl Texts {
     }
 }
 
-/// The run: what it has seen, what it draws from, the side whose entries it calls, and the texts kept for
-/// the program of that side.
+/// The run: what it has seen, what it draws from, and the texts kept for the program `order`.
 pub struct Run {
     pub tally: Tally,
     pub random: Random,
-    pub side: &'static Side,
     pub texts: Texts,
 }
 
@@ -97,8 +84,7 @@ impl Run {
     /// Nothing seen yet.
     pub fn new(seed: u64) -> Run {
         let tally = Tally::new(classes());
-        let random = Random::new(seed);
-        Run { tally, random, side: &OF_MORNING, texts: Texts::default() }
+        Run { tally, random: Random::new(seed), texts: Texts::default() }
     }
 
     /// Counts a call by its answer.
@@ -126,7 +112,6 @@ fn classes() -> Vec<(String, u64)> {
     classes.extend(shapes::MOVED.map(|shape| (format!("move: {shape}"), LEAST)));
     classes.extend(shapes::TABLES.map(|shape| (format!("move: {shape}"), MOVES)));
     classes.extend(judging::CLASSES.map(|class| (format!("judge: {class}"), LEAST)));
-    classes.extend(midday::classes());
     classes.push(small::all_class());
     classes.extend(wrapper::classes());
     classes.extend(circles::classes());

@@ -4,16 +4,16 @@
 //! the verdict.
 
 use crate::asked::Asked;
-use crate::entries::{self, steps};
+use crate::entries;
 use crate::keeping;
 use crate::plans::{any_ring, room, screen_room};
 use crate::run::Run;
-use second::damage::{damaged_packed, spelt_by};
+use second::damage::{damaged_packed, spelt};
 use second::line::pack;
 use second::orders;
 use second::plain::SCREEN;
 use second::random::{plan, wish};
-use second::read::{check_packed_by, write};
+use second::read::{check_packed, write};
 use second::small::{how_many, small_plans};
 use second::Line;
 
@@ -22,12 +22,11 @@ const SMALL: usize = 5;
 /// Their class.
 const ALL: &str = "plan: each of up to five lines over two devices, one action code";
 
-/// Holds the verdict on a well-formed plan against all its orders; in the morning the quick one too.
-pub fn against_all_orders(run: &mut Run, family: &str, plan: &[Line]) {
+/// Holds the verdict on a well-formed plan against all its orders.
+fn against_all_orders(run: &mut Run, family: &str, plan: &[Line]) {
     let packed = pack(plan);
-    let room = steps(plan);
-    let asked = Asked::Packed { plan: &packed, room };
-    let said = entries::verdict(run, &packed, room);
+    let asked = Asked::Packed { plan: &packed, room: packed.len() };
+    let said = entries::verdict(run, &packed, packed.len());
     let some = orders::some_legal_order(plan).is_some();
     let name = format!("{family}: accepted exactly if some order is legal");
     run.tally.compare(&name, &asked, some, said.is_ok());
@@ -37,13 +36,11 @@ pub fn against_all_orders(run: &mut Run, family: &str, plan: &[Line]) {
         let name = format!("{family}: what is handed out is legal, with its devices held");
         run.tally.compare(&name, &asked, wanted, Some(held));
     }
-    if !run.side.is_midday() {
-        keeping::agrees(run, &packed);
-    }
+    keeping::agrees(run, &packed);
 }
 
 /// Calls the other entries on a packed list, right or not, and on its text.
-pub fn other_entries(run: &mut Run, packed: &[u32], text: &[u8]) {
+fn other_entries(run: &mut Run, packed: &[u32], text: &[u8]) {
     let lines = room(&mut run.random, packed.len());
     let bytes = room(&mut run.random, text.len());
     let _ = entries::read(run, text, lines);
@@ -69,8 +66,8 @@ pub fn random_plans(run: &mut Run) {
 }
 
 /// A damaged list: refused by its own number and place, or a plan again and then judged as one.
-pub fn judge_damaged(run: &mut Run, damaged: &[u32]) {
-    match check_packed_by(run.side.settings, damaged) {
+fn judge_damaged(run: &mut Run, damaged: &[u32]) {
+    match check_packed(damaged) {
         Ok(plan) => against_all_orders(run, "damaged plans to 8 lines", &plan),
         Err(refusal) => {
             let said = entries::verdict(run, damaged, damaged.len());
@@ -79,7 +76,7 @@ pub fn judge_damaged(run: &mut Run, damaged: &[u32]) {
             run.tally.compare(name, &asked, Some(refusal), said.err());
         }
     }
-    other_entries(run, damaged, &spelt_by(run.side.settings, damaged));
+    other_entries(run, damaged, &spelt(damaged));
 }
 
 /// Planted rings, whole and cut. They have more than seven lines, but few enough for all orders.

@@ -1,21 +1,14 @@
 //! The wrapper's own workings, which no proof covers: the steps of a plan, the lines of a text one by one, who holds
 //! what, the circles, a plan that keeps its table, and the printed order. They are held against the second program and
 //! against the proved entries. The paragraphs of document 01 are "Claims and rows", "The line reader" and "Packed"; by
-//! request 2 of document 02 the first of them speaks of outermost takes, and by request 5 there are held lines, with
-//! what they keep others from.
+//! request 2 of document 02 the first of them speaks of outermost takes.
 
 use crate::asked::Asked;
-use crate::plans::{
-    any_plan, any_resumed, any_ring, forms, forms_by, held_ring_beside, long_plan, long_resumed,
-};
-use crate::plans::{short_plan, short_resumed};
+use crate::plans::{any_plan, any_ring, forms, long_plan, short_plan};
 use crate::run::Run;
-use crate::side::Side;
-use gimmerskip::{Arc, Hindrance, Holds, Plan, Segment, Step, Tabled, Wait};
-use second::line::{pack, DEVICES, MIDDAY};
-use second::plain::{
-    self, circle, circles as leading_back, gives, lasting, outermost, successors, Rows,
-};
+use gimmerskip::{Arc, Holds, Plan, Step, Tabled};
+use second::line::{pack, DEVICES};
+use second::plain::{self, circle, gives, lasting, outermost, successors, Rows};
 use second::random::{some_move, Move, Random};
 use second::read::{Handed, Lines};
 use second::tally::LEAST;
@@ -31,7 +24,7 @@ const PLANTED: &str = "wrapper: planted rings, of each length from 1 to 32";
 const SHORT: usize = 80;
 
 /// The classes besides.
-const CLASSES: [&str; 14] = [
+const CLASSES: [&str; 11] = [
     "wrapper: a shortest circle of 1 device",
     "wrapper: a shortest circle of 2 devices",
     "wrapper: a shortest circle of 3 devices",
@@ -43,9 +36,6 @@ const CLASSES: [&str; 14] = [
     "wrapper: moved, accepted",
     "wrapper: moved, refusal 12",
     "wrapper: moved, refusal 13",
-    "wrapper: segments",
-    "wrapper: takes of what a held line keeps",
-    "wrapper: segments that cannot be done",
 ];
 
 /// All classes, with the least number that has to be met.
@@ -66,8 +56,8 @@ fn number(at: usize) -> u16 {
 }
 
 /// A plan without a fault, for the wrapper.
-fn owned(side: &Side, lines: &[Line]) -> Plan {
-    Plan::from_packed_by(side.reader, pack(lines)).expect("the plan has no fault")
+fn owned(lines: &[Line]) -> Plan {
+    Plan::from_packed(pack(lines)).expect("the plan has no fault")
 }
 
 /// Mates, lasting takes and rows.
@@ -97,16 +87,6 @@ fn held(run: &mut Run, lines: &[Line], holds: &Holds) {
     let wanted: Vec<Vec<u16>> = (0..40).map(keepers).collect();
     let said = (0..40).map(|device| holds.lasting_takes(device)).collect();
     tally.compare("holds: the lasting takes of each device", lines, wanted, said);
-    let keeps =
-        |at: &usize| lasting[*at].is_some() || (lines[*at].is_held() && gives[*at].is_none());
-    let of_device = |at: &usize, device| lines[*at].verb.operand() == device;
-    let keepers = |device: u8| -> Vec<u16> {
-        let lines = (0..lines.len()).filter(|at| keeps(at) && of_device(at, device));
-        lines.map(number).collect()
-    };
-    let wanted: Vec<Vec<u16>> = (0..40).map(keepers).collect();
-    let said = (0..40).map(|device| holds.keepers(device)).collect();
-    tally.compare("holds: the lines that keep each device", lines, wanted, said);
     tally.compare("holds: the rows", lines, plain::rows(lines), *holds.rows());
 }
 
@@ -203,9 +183,7 @@ fn told_circle(run: &mut Run, lines: &[Line], plan: &Plan, holds: &Holds) {
         }
         verdict => {
             let name = "circle: exactly where the verdict is 10, through the device it names";
-            // At midday what is held can be the reason for a 10 as well.
-            let by_rows = !run.side.is_midday() || leading_back(&rows) != 0;
-            let wanted = verdict.err().filter(|_| by_rows).map(|refusal| refusal.place);
+            let wanted = verdict.err().map(|refusal| refusal.place);
             run.tally.compare(name, lines, wanted, named);
         }
     }
@@ -231,97 +209,11 @@ fn sort(run: &mut Run, lines: &[Line], holds: &Holds) {
     });
 }
 
-/// The segments of a plan, and what hinders every order of it.
-fn closing(run: &mut Run, lines: &[Line], holds: &Holds) {
-    let closing = plain::closing(lines);
-    let segment = |segment: &plain::Segment| Segment {
-        job: segment.job,
-        first: number(segment.lines.start),
-        last: segment.lines.end as u16,
-    };
-    let segments: Vec<Segment> = closing.segments.iter().map(segment).collect();
-    if !segments.is_empty() {
-        run.tally.meet("wrapper: segments");
-    }
-    run.tally.compare("holds: the segments", lines, segments, holds.segments());
-    let line_of =
-        |device| lines.iter().position(|line| line.verb == Verb::Held(device)).map(number);
-    let wanted: Vec<Option<u16>> = (0..40).map(line_of).collect();
-    let said = (0..40).map(|device| holds.held_line(device)).collect();
-    run.tally.compare("holds: the held line of each device", lines, wanted, said);
-    let wanted = plain::hindrance(lines);
-    let said = holds.hindrance();
-    let kind = said.as_ref().map(|said| match said {
-        Hindrance::Kept(_) => plain::Hindrance::Kept,
-        Hindrance::Stuck(_) => plain::Hindrance::Stuck,
-    });
-    run.tally.compare("holds: what hinders every order", lines, wanted, kind);
-    match said {
-        Some(Hindrance::Kept(waits)) => kept(run, lines, waits),
-        Some(Hindrance::Stuck(stuck)) => stuck_in(run, lines, holds, stuck),
-        None => {}
-    }
-}
-
-/// The takes of what held lines keep to the end: each of them, with its held line.
-fn kept(run: &mut Run, lines: &[Line], waits: Vec<Wait>) {
-    run.tally.meet("wrapper: takes of what a held line keeps");
-    let (gives, outermost) = (gives(lines), outermost(lines));
-    let keeper = |device| {
-        let mut held = (0..lines.len()).filter(|&at| gives[at].is_none());
-        held.find(|&at| lines[at].verb == Verb::Held(device))
-    };
-    let wait = |at: usize| {
-        let device = outermost[at]?;
-        Some(Wait { take: number(at), device, held: number(keeper(device)?) })
-    };
-    let wanted = (0..lines.len()).filter_map(wait).collect();
-    run.tally.compare("holds: each take of what a held line keeps", lines, wanted, waits);
-}
-
-/// The segments that cannot be done: of each job the one behind those that are done, up to a give of what it holds, and
-/// in it the first outermost take of what another of these jobs holds and has not given back.
-fn stuck_in(run: &mut Run, lines: &[Line], holds: &Holds, stuck: Vec<(Segment, Wait)>) {
-    run.tally.meet("wrapper: segments that cannot be done");
-    let (gives, outermost, done) = (gives(lines), outermost(lines), holds.segments());
-    let is_done = |give: usize| done.iter().any(|segment| segment.last == number(give));
-    // For each held line whose give is still to do, that give; by job the first of them ends its segment.
-    let open: Vec<(usize, usize)> = (0..lines.len())
-        .filter(|&at| lines[at].is_held())
-        .filter_map(|at| Some((at, gives[at].filter(|&give| !is_done(give))?)))
-        .collect();
-    let mut jobs: Vec<u8> = open.iter().map(|&(held, _)| lines[held].job).collect();
-    jobs.dedup();
-    let next = |job: u8| {
-        let last =
-            open.iter().filter(|(held, _)| lines[*held].job == job).map(|&(_, give)| give).min();
-        let ends = done.iter().filter(|segment| segment.job == job).map(|segment| segment.last);
-        let steps = (0..lines.len()).filter(|&at| lines[at].job == job && !lines[at].is_held());
-        let first = ends.max().map(usize::from).or(steps.min())?;
-        let mut takes = (first..=last?).filter_map(|at| Some((at, outermost[at]?)));
-        let (take, device, held) = takes.find_map(|(take, device)| {
-            let mut held = open.iter().map(|&(held, _)| held);
-            let held = held.find(|&held| lines[held].verb == Verb::Held(device))?;
-            Some((number(take), device, number(held)))
-        })?;
-        Some((
-            Segment { job, first: number(first), last: number(last?) },
-            Wait { take, device, held },
-        ))
-    };
-    let wanted = jobs.into_iter().map(next).collect::<Option<Vec<_>>>();
-    run.tally.compare("holds: each segment that cannot be done", lines, wanted, Some(stuck));
-}
-
 /// All that is held in a plan.
 fn holds(run: &mut Run, lines: &[Line]) {
-    let plan = owned(run.side, lines);
+    let plan = owned(lines);
     let holds = plan.holds();
-    if run.side.is_midday() {
-        closing(run, lines, &holds);
-    } else {
-        sort(run, lines, &holds);
-    }
+    sort(run, lines, &holds);
     held(run, lines, &holds);
     circles(run, lines, &holds);
     told_circle(run, lines, &plan, &holds);
@@ -329,7 +221,7 @@ fn holds(run: &mut Run, lines: &[Line]) {
 
 /// The steps of a plan, and its order as it is printed.
 fn steps(run: &mut Run, lines: &[Line]) {
-    let plan = owned(run.side, lines);
+    let plan = owned(lines);
     let text = second::read::write(lines);
     let steps: Vec<Step> = plan.steps().collect();
     let packed = steps.iter().map(|step| step.packed()).collect();
@@ -339,14 +231,13 @@ fn steps(run: &mut Run, lines: &[Line]) {
     let by_line = (0..=number(lines.len())).filter_map(|line| plan.step(line)).collect();
     run.tally.compare("steps: one by one", lines, steps, by_line);
     let devices = lines.iter().map(|line| match line.verb {
-        Verb::Take(device) | Verb::Give(device) | Verb::Held(device) => Some(device),
-        Verb::Do(_) | Verb::Start(_) => None,
+        Verb::Take(device) | Verb::Give(device) => Some(device),
+        Verb::Do(_) | Verb::Start(_) | Verb::Held(_) => None,
     });
     let said = plan.steps().map(Step::device).collect();
     run.tally.compare("steps: the device of each", lines, devices.collect::<Vec<_>>(), said);
     if let Ok(order) = plan.verdict() {
-        let print = plain::printed_by(run.side.settings, &text);
-        let wanted = String::from_utf8(print).expect("the print is text");
+        let wanted = String::from_utf8(plain::printed(&text)).expect("the print is text");
         run.tally.compare("order: as it is printed", lines, wanted, order.to_string());
     }
 }
@@ -378,14 +269,9 @@ fn lines_of(run: &mut Run, text: &[u8], packed: &[u32]) {
     let asked = Asked::Text { text, room: 0 };
     run.tally.compare("lines: those of a text, one after another", &asked, wanted, said);
     let asked = Asked::Packed { plan: packed, room: 0 };
-    let parts = |line: Line| (line.job, line.is_held(), line.verb.kind(), line.verb.operand());
-    let wanted = packed.iter().map(|&number| Line::unpacked_by(MIDDAY, number).map(parts));
-    let kind = |verb: gimmerskip::Verb| match verb {
-        gimmerskip::Verb::Held => 1,
-        other => other as u32,
-    };
-    let is_held = |step: Step| step.verb == gimmerskip::Verb::Held;
-    let parts = |step: Step| (step.job, is_held(step), kind(step.verb), step.operand);
+    let parts = |line: Line| (line.job, line.verb.kind(), line.verb.operand());
+    let wanted = packed.iter().map(|&number| Line::unpacked(number).map(parts));
+    let parts = |step: Step| (step.job, step.verb as u32, step.operand);
     let said = packed.iter().map(|&number| Step::from_packed(number).map(parts));
     let (wanted, said) = (wanted.collect::<Vec<_>>(), said.collect());
     run.tally.compare("steps: those of packed numbers", &asked, wanted, said);
@@ -393,7 +279,7 @@ fn lines_of(run: &mut Run, text: &[u8], packed: &[u32]) {
 
 /// So many moves of a plan with its own table, beside a plan whose table is kept here, and the second program.
 fn moves(run: &mut Run, lines: &[Line], count: usize) {
-    let mut plan = owned(run.side, lines);
+    let mut plan = owned(lines);
     let mut table = plan.table();
     let mut tabled = Tabled::new(plan.clone());
     for _ in 0..count {
@@ -401,9 +287,7 @@ fn moves(run: &mut Run, lines: &[Line], count: usize) {
         let before = (plan.packed().to_vec(), table.clone());
         let asked = Asked::Move { plan: &before.0, sets: &before.1, line, device };
         let (mut second_plan, mut second_table) = before.clone();
-        let settings = run.side.settings;
-        let second =
-            plain::move_claim_by(settings, &mut second_plan, &mut second_table, line, device);
+        let second = plain::move_claim(&mut second_plan, &mut second_table, line, device);
         let wanted = plan.move_claim(&mut table, line, device);
         let said = tabled.move_claim(line, device);
         let tally = &mut run.tally;
@@ -418,8 +302,6 @@ fn moves(run: &mut Run, lines: &[Line], count: usize) {
         tally.compare("tabled: the table", &asked, &table[..], tabled.table());
         tally.compare("tabled: the table is the plan's", &asked, plan.table(), table.clone());
         tally.compare("tabled: the verdict", &asked, plan.verdict(), tabled.verdict());
-        let held = plan.verdict().map(|order| order.held);
-        tally.compare("tabled: the quick verdict", &asked, held, tabled.quick());
     }
     let asked = Asked::Packed { plan: plan.packed(), room: 0 };
     run.tally.compare("tabled: the plan at the end", &asked, plan.clone(), tabled.into_plan());
@@ -460,35 +342,10 @@ fn rings(run: &mut Run) {
         run.tally.meet(PLANTED);
         let lowest = (0..length).min_by_key(|&at| ring[at]).expect("a ring has a device");
         ring.rotate_left(lowest);
-        let arcs = owned(run.side, &lines).holds().circle().unwrap_or_default();
+        let arcs = owned(&lines).holds().circle().unwrap_or_default();
         let said = arcs.iter().map(|arc| arc.device).collect();
         run.tally.compare("planted ring: the circle is the ring", &lines, ring, said);
         holds(run, &lines);
-    }
-}
-
-/// The wrapper on resumed plans.
-pub fn at_midday(run: &mut Run) {
-    for _ in 0..5_000 {
-        let plan = if run.random.once_in(4) {
-            held_ring_beside(&mut run.random)
-        } else {
-            short_resumed(&mut run.random)
-        };
-        holds(run, &plan);
-        steps(run, &plan);
-        moves(run, &plan, 3);
-    }
-    for _ in 0..60 {
-        let plan = long_resumed(&mut run.random);
-        holds(run, &plan);
-        steps(run, &plan);
-        moves(run, &plan, 10);
-    }
-    for _ in 0..1_000 {
-        let plan = any_resumed(&mut run.random);
-        let (packed, text) = forms_by(MIDDAY, &mut run.random, &plan);
-        lines_of(run, &text, &packed);
     }
 }
 

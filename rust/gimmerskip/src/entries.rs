@@ -2,10 +2,6 @@
 //!
 //! Each tests what it is given, so that nothing has to be true of it beforehand. A list that is filled may be longer
 //! than needed: what lies past the last entry written stays as it was. A refusal changes nothing at all.
-//!
-//! The entries for resumed plans, those taken up at midday, have names with `resume` and are siblings of the entries
-//! for plans of the morning: the same lists are lent, and what is said there holds for them too, but for what is told
-//! here. [`Reader`](crate::Reader) has both under one name.
 
 use crate::refusal::outcome;
 use crate::{raw, Refusal, SCREEN_ROOM};
@@ -30,27 +26,6 @@ pub fn read(text: &[u8], plan: &mut [u32]) -> Result<usize, Refusal> {
     outcome(raw::read(text, plan))
 }
 
-/// Reads the text of a resumed plan into packed numbers, as [`read`] does. A held line has the kind of a take, and for
-/// its operand 128 and the device.
-///
-/// # Errors
-///
-/// Refuses with 1 to 5, 7, 16 and 17 what is no resumed plan, and then with 11 a list that is too short. A job that no
-/// line starts is running: there is no 6.
-///
-/// ```
-/// use gimmerskip::{entries, Refusal};
-///
-/// let mut plan = [0; 2];
-/// assert_eq!(entries::resume_read(b"1\theld\t5\n1\tgive\t5\n", &mut plan), Ok(2));
-/// assert_eq!(plan, [1_024 + 256 + 128 + 5, 1_541]);
-/// assert_eq!(entries::resume_read(b"1\tgive\t5\n", &mut plan), Err(Refusal::GiveWithoutTake(1)));
-/// assert_eq!(entries::read(b"1\theld\t5\n1\tgive\t5\n", &mut plan), Err(Refusal::Malformed(1)));
-/// ```
-pub fn resume_read(text: &[u8], plan: &mut [u32]) -> Result<usize, Refusal> {
-    outcome(raw::resume_read(text, plan))
-}
-
 /// Writes a packed plan as text. The count is that of the bytes, and the buffer needs as many;
 /// [`MAX_BYTES`](crate::MAX_BYTES) are always enough.
 ///
@@ -67,23 +42,6 @@ pub fn resume_read(text: &[u8], plan: &mut [u32]) -> Result<usize, Refusal> {
 /// ```
 pub fn write(plan: &[u32], text: &mut [u8]) -> Result<usize, Refusal> {
     outcome(raw::write(plan, text))
-}
-
-/// Writes a packed resumed plan as text, as [`write`] does.
-///
-/// # Errors
-///
-/// Refuses with 2 to 5, 7, 16 and 17 what is no resumed plan, and then with 11 a buffer that is too short.
-///
-/// ```
-/// use gimmerskip::entries;
-///
-/// let mut text = [b'.'; 20];
-/// assert_eq!(entries::resume_write(&[1_413, 1_541], &mut text), Ok(18));
-/// assert_eq!(&text, b"1\theld\t5\n1\tgive\t5\n..");
-/// ```
-pub fn resume_write(plan: &[u32], text: &mut [u8]) -> Result<usize, Refusal> {
-    outcome(raw::resume_write(plan, text))
 }
 
 /// Works out the table of claims: for each line the set of the devices that it or what comes after it takes, device d
@@ -105,24 +63,6 @@ pub fn table(plan: &[u32], sets: &mut [u32]) -> Result<usize, Refusal> {
     outcome(raw::table(plan, sets))
 }
 
-/// Works out the table of claims of a resumed plan, as [`table`] does. A held line claims nothing: its set is that of
-/// what comes after it. A take of what its job holds by a held line claims nothing either.
-///
-/// # Errors
-///
-/// Refuses with 2 to 5, 7, 16 and 17 what is no resumed plan, and then with 11 a list that is too short.
-///
-/// ```
-/// use gimmerskip::entries;
-///
-/// let mut sets = [9; 3];
-/// assert_eq!(entries::resume_table(&[1_413, 1_285, 1_286], &mut sets), Ok(3));
-/// assert_eq!(sets, [1 << 6; 3]);
-/// ```
-pub fn resume_table(plan: &[u32], sets: &mut [u32]) -> Result<usize, Refusal> {
-    outcome(raw::resume_table(plan, sets))
-}
-
 /// Works out the order: the numbers of the lines, as they are to be done. The count is that of the devices which are
 /// still held after the last line; the list needs as many entries as there are lines.
 ///
@@ -140,31 +80,6 @@ pub fn resume_table(plan: &[u32], sets: &mut [u32]) -> Result<usize, Refusal> {
 /// ```
 pub fn verdict(plan: &[u32], order: &mut [u16]) -> Result<usize, Refusal> {
     outcome(raw::verdict(plan, order))
-}
-
-/// Works out the order of a resumed plan, as [`verdict`] does: the numbers of its steps, as they are to be done from
-/// the state in which the held lines stand. Held lines are no steps: the list needs as many entries as there are other
-/// lines. Among the devices that are still held after the last step are those of held lines without a give.
-///
-/// # Errors
-///
-/// Refuses with 2 to 5, 7, 16 and 17 what is no resumed plan, then with 11 a list that is too short, then with 9 or 10
-/// a plan that has no legal order. A held line without a give counts in 9 as a lasting take. 10 has the lowest device
-/// that leads back to itself or, where none does and what is held leaves no order, the lowest held device.
-///
-/// ```
-/// use gimmerskip::{entries, Refusal};
-///
-/// // Two jobs are running. Job 1 holds device 0 and takes device 1, which job 2 holds and gives back first.
-/// let plan = [1_408, 1_281, 1_537, 1_536, 2_433, 2_561];
-/// let mut order = [0; 4];
-/// assert_eq!(entries::resume_verdict(&plan, &mut order), Ok(0));
-/// assert_eq!(order, [6, 2, 3, 4]);
-/// // Job 2 keeps it.
-/// assert_eq!(entries::resume_verdict(&plan[..5], &mut order), Err(Refusal::LeadsBack(0)));
-/// ```
-pub fn resume_verdict(plan: &[u32], order: &mut [u16]) -> Result<usize, Refusal> {
-    outcome(raw::resume_verdict(plan, order))
 }
 
 /// Judges an order from elsewhere: whether these line numbers, whoever made the list, are a legal order of the plan.
@@ -185,23 +100,6 @@ pub fn resume_verdict(plan: &[u32], order: &mut [u16]) -> Result<usize, Refusal>
 /// ```
 pub fn judge(plan: &[u32], order: &[u16]) -> Result<(), Refusal> {
     outcome(raw::judge(plan, order)).map(|_| ())
-}
-
-/// Judges an order from elsewhere for a resumed plan, as [`judge`] does. The number of a held line is no legal step,
-/// and an order without it is whole.
-///
-/// # Errors
-///
-/// Refuses with 2 to 5, 7, 16 and 17 what is no resumed plan, and then with 15 a list that is no legal order.
-///
-/// ```
-/// use gimmerskip::{entries, Refusal};
-///
-/// assert_eq!(entries::resume_judge(&[1_413, 1_541], &[2]), Ok(()));
-/// assert_eq!(entries::resume_judge(&[1_413, 1_541], &[1, 2]), Err(Refusal::IllegalStep(1)));
-/// ```
-pub fn resume_judge(plan: &[u32], order: &[u16]) -> Result<(), Refusal> {
-    outcome(raw::resume_judge(plan, order)).map(|_| ())
 }
 
 /// Moves the claim of a line, counted from 1, to another device: the take there, and the give that matches it. The sets
@@ -229,32 +127,6 @@ pub fn move_claim(
     device: u32,
 ) -> Result<usize, Refusal> {
     outcome(raw::move_claim(plan, sets, line, device))
-}
-
-/// Moves the claim of a line of a resumed plan, as [`move_claim`] does. The way back ends at the first line of a job
-/// that no line starts. A held line has no claim that could be moved.
-///
-/// # Errors
-///
-/// Refuses with 2 to 5, 7, 16 and 17 what is no resumed plan, then with 11 a table that is too short, and then with 12,
-/// which a held line gets too, to 14.
-///
-/// ```
-/// use gimmerskip::{entries, Refusal};
-///
-/// let (mut plan, mut sets) = ([1_413, 1_285, 1_541], [0; 3]);
-/// assert_eq!(entries::resume_move(&mut plan, &mut sets, 1, 6), Err(Refusal::NotATake(1)));
-/// // The take was of what the job holds, and claimed nothing; now it claims device 6.
-/// assert_eq!(entries::resume_move(&mut plan, &mut sets, 2, 6), Ok(2));
-/// assert_eq!((plan, sets), ([1_413, 1_286, 1_542], [1 << 6, 1 << 6, 0]));
-/// ```
-pub fn resume_move(
-    plan: &mut [u32],
-    sets: &mut [u32],
-    line: u32,
-    device: u32,
-) -> Result<usize, Refusal> {
-    outcome(raw::resume_move(plan, sets, line, device))
 }
 
 /// Works out what is kept beside a plan, for [`move_kept`] and [`quick`]: its table into `sets`, its rows into `rows`,
@@ -395,33 +267,8 @@ pub fn line(text: &[u8], offset: usize) -> Result<Option<u32>, Refusal> {
 /// # Ok::<(), Refusal>(())
 /// ```
 pub fn order(text: &[u8], out: &mut [u8]) -> Result<usize, Refusal> {
-    print(raw::order(text, out))
-}
-
-/// Orders the text of a resumed plan and prints the outcome, as the program `resume` does and as [`order`] does for
-/// plans of the morning. The first line of an order counts the steps and the devices that stay held.
-///
-/// # Errors
-///
-/// The one refusal is 11, for a buffer of less than [`SCREEN_ROOM`], whatever the text.
-///
-/// ```
-/// use gimmerskip::{entries, Refusal, SCREEN_ROOM};
-///
-/// let mut out = [0; SCREEN_ROOM];
-/// let count = entries::resume(b"1\theld\t5\n1\tdo\t7\n2\tdo\t7\n", &mut out)?;
-/// assert_eq!(&out[..count], b"order\t2\t1\n2\n3\n");
-/// let count = entries::resume(b"1\theld\t5\n1\tdo\t7\n1\theld\t6\n", &mut out)?;
-/// assert_eq!(&out[..count], b"refused\t17\t3\n");
-/// # Ok::<(), Refusal>(())
-/// ```
-pub fn resume(text: &[u8], out: &mut [u8]) -> Result<usize, Refusal> {
-    print(raw::resume(text, out))
-}
-
-/// What the count of a print means. No print is empty, so that 0 is the answer to too little room and to nothing else.
-fn print(count: usize) -> Result<usize, Refusal> {
-    match count {
+    match raw::order(text, out) {
+        // No print is empty, so this is the answer to too little room and to nothing else.
         0 => Err(Refusal::ListTooShort(SCREEN_ROOM as u32)),
         count => Ok(count),
     }

@@ -1,6 +1,5 @@
 //! Who holds what in a plan, and where it leads: mates, what is taken again, lasting takes, rows, and circles told line
-//! by line. A job holds a device from an outermost take on, or from the beginning by a held line; what it takes again
-//! within changes nothing for others. What held lines keep others from stands in `closing.rs`.
+//! by line. A job holds a device from an outermost take on; what it takes again within changes nothing for others.
 //!
 //! The entries say whether a plan has an order; what is worked out here says why. It rests on the plan's table of
 //! claims, which is proved code's, and is else plain Rust, which the comparisons hold against the second program.
@@ -11,7 +10,7 @@ use std::vec;
 use std::vec::Vec;
 
 /// How many devices there are.
-pub(crate) const DEVICES: usize = 32;
+const DEVICES: usize = 32;
 
 /// What is held in a plan, and by which lines: [`Plan::holds`] works it out. Lines count from 1; a line or a device
 /// that does not exist holds nothing.
@@ -64,18 +63,13 @@ impl Holds {
             Some(next) if next.job == holds.job(line) => sets[usize::from(line)],
             _ => 0,
         };
-        let row = |device: usize| holds.lasting(device as u8).map(claimed_behind);
+        let row = |device: usize| holds.keepers(device as u8).map(claimed_behind);
         holds.rows = array::from_fn(|device| row(device).fold(0, |row, set| row | set));
         holds
     }
 
-    /// All lines with their steps, going down the plan.
-    pub(crate) fn lines(&self) -> impl Iterator<Item = (u16, Step)> + '_ {
-        (1..).zip(self.steps.iter().copied())
-    }
-
     /// The step of a line.
-    pub(crate) fn step(&self, line: u16) -> Option<Step> {
+    fn step(&self, line: u16) -> Option<Step> {
         self.steps.get(usize::from(line).checked_sub(1)?).copied()
     }
 
@@ -85,28 +79,31 @@ impl Holds {
     }
 
     /// Whether a line has this verb.
-    pub(crate) fn is(&self, line: u16, verb: Verb) -> bool {
+    fn is(&self, line: u16, verb: Verb) -> bool {
         self.step(line).is_some_and(|step| step.verb == verb)
     }
 
-    /// The other line of a pair.
-    fn other(&self, line: u16) -> Option<u16> {
-        self.pairs.other.get(usize::from(line).checked_sub(1)?).copied()?
+    /// The other line of a pair, if the line has this verb.
+    fn other(&self, line: u16, verb: Verb) -> Option<u16> {
+        if !self.is(line, verb) {
+            return None;
+        }
+        self.pairs.other[usize::from(line) - 1]
     }
 
-    /// The give that belongs to the take or held line at this line: `None` if it has none, or the line is neither.
-    /// Gives match what was taken or held last, be it taken again or not.
+    /// The give that belongs to the take at this line: `None` if the take has none, or the line is no take. Gives match
+    /// the take made last, be it one that takes again or not.
     pub fn mate(&self, line: u16) -> Option<u16> {
-        self.other(line).filter(|_| !self.is(line, Verb::Give))
+        self.other(line, Verb::Take)
     }
 
-    /// The take or held line to which the give at this line belongs: `None` if the line is no give.
+    /// The take to which the give at this line belongs: `None` if the line is no give.
     pub fn take_of(&self, line: u16) -> Option<u16> {
-        self.other(line).filter(|_| self.is(line, Verb::Give))
+        self.other(line, Verb::Give)
     }
 
-    /// The outermost take or the held line by which the job of this line holds the device that the line takes, gives or
-    /// holds: of an outermost take and a held line the line itself, and `None` of a line without a device.
+    /// The outermost take by which the job of this line holds the device that the line takes or gives: of an outermost
+    /// take the line itself, and `None` of a line that neither takes nor gives.
     pub fn outermost(&self, line: u16) -> Option<u16> {
         self.pairs.outermost.get(usize::from(line).checked_sub(1)?).copied()?
     }
@@ -133,43 +130,19 @@ impl Holds {
 
     /// Whether this line is a lasting take, an outermost one without a give: its device stays held to the end.
     pub fn lasts(&self, line: u16) -> bool {
-        self.is(line, Verb::Take) && self.keeps(line)
-    }
-
-    /// Whether this line keeps its device to the end: a lasting take, or a held line without a give.
-    pub fn keeps(&self, line: u16) -> bool {
         self.outermost(line) == Some(line) && self.mate(line).is_none()
     }
 
-    /// The lines that keep a device to the end, going down the plan.
-    fn keeping(&self, device: u8) -> impl Iterator<Item = u16> + '_ {
-        let of_device = self.lines().filter(move |(_, step)| step.device() == Some(device));
-        of_device.map(|(line, _)| line).filter(|&line| self.keeps(line))
+    /// The lasting takes of a device, going down the plan.
+    fn keepers(&self, device: u8) -> impl Iterator<Item = u16> + '_ {
+        let lines = (1..).zip(&self.steps);
+        let of_device = lines.filter(move |(_, step)| step.device() == Some(device));
+        of_device.map(|(line, _)| line).filter(|&line| self.lasts(line))
     }
 
-    /// The lasting takes among them.
-    fn lasting(&self, device: u8) -> impl Iterator<Item = u16> + '_ {
-        self.keeping(device).filter(|&line| self.lasts(line))
-    }
-
-    /// The lines with the lasting takes of a device, ascending.
+    /// The lines with the lasting takes of a device, ascending. There is more than one where the verdict is refusal 9.
     pub fn lasting_takes(&self, device: u8) -> Vec<u16> {
-        self.lasting(device).collect()
-    }
-
-    /// The lines that keep a device to the end, ascending: its lasting takes, and its held line if that has no give.
-    /// There is more than one where the verdict is refusal 9.
-    ///
-    /// ```
-    /// use gimmerskip::{Plan, Reader};
-    ///
-    /// let plan = Plan::from_text_by(Reader::Midday, "1\theld\t3\n2\ttake\t3\n")?;
-    /// let holds = plan.holds();
-    /// assert_eq!((holds.keepers(3), holds.lasting_takes(3)), (vec![1, 2], vec![2]));
-    /// # Ok::<(), gimmerskip::Refusal>(())
-    /// ```
-    pub fn keepers(&self, device: u8) -> Vec<u16> {
-        self.keeping(device).collect()
+        self.keepers(device).collect()
     }
 
     /// The rows: for each device the set of the devices that are claimed behind its lasting takes, device d being bit
@@ -179,8 +152,8 @@ impl Holds {
     }
 
     /// A shortest circle through the lowest device that leads back to itself, or `None` where none does. That is the
-    /// device that refusal 10 names; where there is a refusal 10 and no circle, [`Holds::hindrance`] tells the reason.
-    /// It is looked for whether or not refusal 9, which comes first, has something to say.
+    /// device that refusal 10 names. It is looked for whether or not refusal 9, which comes first, has something to
+    /// say.
     ///
     /// ```
     /// use gimmerskip::{Arc, Plan};
@@ -235,7 +208,7 @@ impl Holds {
 
     /// The arc from a device to one in its row: of its lasting takes, the first that has such a line behind it.
     fn arc(&self, device: u8, needs: u8) -> Option<Arc> {
-        self.lasting(device).find_map(|line| {
+        self.keepers(device).find_map(|line| {
             let then = self.take_behind(line, needs)?;
             Some(Arc { device, job: self.job(line), line, then, needs })
         })
@@ -246,7 +219,7 @@ impl Holds {
     fn take_behind(&self, line: u16, device: u8) -> Option<u16> {
         let bit = |job: u8| 1_u64 << (job - 1);
         let mut behind = bit(self.job(line));
-        for (at, step) in self.lines().skip(line.into()) {
+        for (at, step) in (1..).zip(&self.steps).skip(line.into()) {
             match step.verb {
                 _ if behind & bit(step.job) == 0 => {}
                 Verb::Take if step.operand == device && !self.takes_again(at) => return Some(at),
@@ -258,12 +231,12 @@ impl Holds {
     }
 }
 
-/// What is known of the takes, held lines and gives, line by line.
+/// What is known of the takes and gives, line by line.
 #[derive(Clone, Debug, PartialEq, Eq)]
 struct Pairs {
-    /// The other line of the pair: of a take or held line its give, of a give the line that it belongs to.
+    /// The other line of the pair: of a take its give, of a give its take.
     other: Vec<Option<u16>>,
-    /// The outermost take or held line by which the job holds the device.
+    /// The outermost take by which the job holds the device.
     outermost: Vec<Option<u16>>,
 }
 
@@ -278,7 +251,7 @@ impl Pairs {
             for step in job {
                 line += 1;
                 match step.verb {
-                    Verb::Take | Verb::Held => pairs.take(&mut in_hand, line, step.operand),
+                    Verb::Take => pairs.take(&mut in_hand, line, step.operand),
                     Verb::Give => pairs.give(&mut in_hand, line, step.operand),
                     Verb::Do | Verb::Start => {}
                 }
@@ -287,15 +260,14 @@ impl Pairs {
         pairs
     }
 
-    /// The job takes a device, or has it from the beginning. Where it holds it already, the line that it holds it by
-    /// stays the outermost.
+    /// The job takes a device. Where it holds it already, the take that it holds it by stays the outermost.
     fn take(&mut self, in_hand: &mut InHand, line: u16, device: u8) {
         in_hand.takes.push(line);
         let held = &mut in_hand.held[usize::from(device)];
         self.outermost[usize::from(line) - 1] = Some(*held.get_or_insert(line));
     }
 
-    /// The job gives what it took or held last.
+    /// The job gives what it took last.
     fn give(&mut self, in_hand: &mut InHand, line: u16, device: u8) {
         let take = in_hand.takes.pop().expect("a give of a plan has its take");
         self.other[usize::from(take) - 1] = Some(line);
@@ -308,9 +280,9 @@ impl Pairs {
 
 /// What a job has in hand while its lines are gone through.
 struct InHand {
-    /// The takes and held lines whose gives have not come, the last one at the end.
+    /// The takes whose gives have not come, the last one at the end.
     takes: Vec<u16>,
-    /// For each device the outermost take or held line by which the job holds it.
+    /// For each device the outermost take by which the job holds it.
     held: [Option<u16>; DEVICES],
 }
 

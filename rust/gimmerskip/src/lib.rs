@@ -4,17 +4,16 @@
 //! does something that touches no device. [`Plan`] reads a plan and gives its order, its steps, its table of claims and
 //! its text, and judges orders from elsewhere; [`Tabled`] keeps a plan with its table and its rows while claims are
 //! moved, and says quickly after each move whether there is an order; [`Holds`] says who holds what, and why a plan has
-//! no order. A plan is one of the morning, or a resumed one, which is taken up at midday: [`Reader`] tells them apart.
-//! The functions of [`entries`] work on slices that the caller lends, and [`lines`](lines()) hands out the lines of a
-//! text one by one. What is refused comes back as a [`Refusal`], which says in words what is wrong and where.
+//! no order. The functions of [`entries`] work on slices that the caller lends, and [`lines`](lines()) hands out the
+//! lines of a text one by one. What is refused comes back as a [`Refusal`], which says in words what is wrong and
+//! where.
 //!
 //! Jobs and lines count from 1, devices from 0 to 31. The work is done by archives of proved code, `libport.a`,
 //! `libreader.a` and `libscreen.a`; [`raw`] is the only place that calls into them. [`Step`], [`Holds`] and the words
 //! of refusals are plain Rust, not proved but compared with the second program or tested.
 //!
 //! Lists are owned by what the feature `std` brings, which is there unless it is left out: [`Plan`], [`Order`],
-//! [`Steps`], [`Tabled`], [`Holds`] and what it tells ([`Arc`], [`Segment`], [`Wait`], [`Hindrance`]). Without it the
-//! crate needs nothing beyond `core`.
+//! [`Steps`], [`Tabled`], [`Holds`] and [`Arc`]. Without it the crate needs nothing beyond `core`.
 //!
 //! # A plan and its order
 //!
@@ -111,8 +110,7 @@
 //! let jobs = ["1 start 2", "1 take 0", "1 take 1", "1 give 1", "2 take 1", "2 take 5", "2 give 5"];
 //! let text: String = jobs.iter().map(|line| line.replace(' ', "\t") + "\n").collect();
 //! let mut tabled = Tabled::new(Plan::from_text(&text)?);
-//! assert_eq!(tabled.held(), Some(1 << 0 | 1 << 1));
-//! assert_eq!(tabled.rows().map(|rows| (rows[0], rows[1])), Some((1 << 1, 1 << 5)));
+//! assert_eq!((tabled.held(), tabled.rows()[0], tabled.rows()[1]), (1 << 0 | 1 << 1, 1 << 1, 1 << 5));
 //! assert_eq!(tabled.quick(), Ok(2));
 //! // Line 6 is to need device 0, which job 1 keeps: each job waits for the other.
 //! assert_eq!(tabled.move_claim(6, 0), Ok(3));
@@ -143,27 +141,6 @@
 //! # Ok::<(), Refusal>(())
 //! ```
 //!
-//! # A plan taken up at midday
-//!
-//! After a power failure job 1 has the pump, device 0, in hand and job 2 the dosing tank, device 1. Held lines say so;
-//! they are no steps. Before job 1 can take the tank, job 2 has to give it back: that closes a stretch that was under
-//! way, and comes first. After it comes the rest of job 1's own.
-//!
-//! ```
-//! use gimmerskip::{Plan, Reader, Segment};
-//!
-//! let lines = [
-//!     "1 held 0", "1 take 1", "1 give 1", "1 give 0", //
-//!     "2 held 1", "2 give 1", "2 take 0", "2 give 0",
-//! ];
-//! let text: String = lines.iter().map(|line| line.replace(' ', "\t") + "\n").collect();
-//! let plan = Plan::from_text_by(Reader::Midday, &text)?;
-//! assert_eq!(plan.verdict()?.to_string(), "order\t6\t0\n6\n2\n3\n4\n7\n8\n");
-//! let (first, second) = (Segment { job: 2, first: 6, last: 6 }, Segment { job: 1, first: 2, last: 4 });
-//! assert_eq!(plan.holds().segments(), [first, second]);
-//! # Ok::<(), gimmerskip::Refusal>(())
-//! ```
-//!
 //! # A text that is no plan
 //!
 //! ```
@@ -182,8 +159,6 @@
 #[cfg(feature = "std")]
 extern crate std;
 
-#[cfg(feature = "std")]
-mod closing;
 pub mod entries;
 #[cfg(feature = "std")]
 mod holds;
@@ -191,19 +166,15 @@ mod holds;
 mod plan;
 #[allow(unsafe_code)]
 pub mod raw;
-mod reader;
 mod refusal;
 mod step;
 #[cfg(feature = "std")]
 mod tabled;
 
 #[cfg(feature = "std")]
-pub use closing::{Hindrance, Segment, Wait};
-#[cfg(feature = "std")]
 pub use holds::{Arc, Holds};
 #[cfg(feature = "std")]
 pub use plan::{Order, Plan};
-pub use reader::Reader;
 pub use refusal::{outcome, Refusal};
 #[cfg(feature = "std")]
 pub use step::Steps;
@@ -215,7 +186,7 @@ pub use tabled::Tabled;
 pub const MAX_LINES: usize = 1_024;
 /// The most bytes of a text. A buffer of so many bytes is long enough for every plan that is written.
 pub const MAX_BYTES: usize = 12_288;
-/// The least room that [`entries::order`] and [`entries::resume`] ask for: the longest print there is.
+/// The least room that [`entries::order`] asks for: the longest print there is.
 pub const SCREEN_ROOM: usize = 4_027;
 /// The rows that are kept beside a plan's table: one set for each device.
 pub const ROWS: usize = 32;

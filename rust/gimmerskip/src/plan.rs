@@ -1,7 +1,7 @@
 //! A plan that owns its lines.
 
 use crate::step::of_plan;
-use crate::{entries, Holds, Reader, Refusal, Step, Steps, Verb, MAX_BYTES, MAX_LINES, ROWS};
+use crate::{entries, Holds, Refusal, Step, Steps, MAX_BYTES, MAX_LINES, ROWS};
 use core::fmt;
 use core::slice::from_mut;
 use core::str::FromStr;
@@ -13,17 +13,13 @@ use std::vec::Vec;
 ///
 /// So its text and its table are there without further asking. It need not have a legal order: [`Plan::verdict`] tells.
 /// The examples at the top of [the crate](crate) show one of each kind.
-///
-/// A plan knows by which [`Reader`] it was read, and is asked and moved by the entries of that one. Plans of two
-/// readers are two plans, even if their lines are the same.
 #[derive(Clone, Debug, Default, PartialEq, Eq, Hash)]
 pub struct Plan {
     /// The packed lines, at most [`MAX_LINES`].
     lines: Vec<u32>,
-    reader: Reader,
 }
 
-/// The order of a plan. As text it is what the program prints: a first line that counts the steps and the devices that
+/// The order of a plan. As text it is what the program prints: a first line that counts the lines and the devices that
 /// stay held, then the line numbers, each on its own line.
 ///
 /// ```
@@ -33,9 +29,9 @@ pub struct Plan {
 /// ```
 #[derive(Clone, Debug, PartialEq, Eq, Hash)]
 pub struct Order {
-    /// The numbers of the lines, from 1, as they are to be done; each line that is not a held one stands here once.
+    /// The numbers of the lines, from 1, as they are to be done; each line stands here once.
     pub lines: Vec<u16>,
-    /// How many devices are still held after the last of them.
+    /// How many devices are still held after the last line.
     pub held: usize,
 }
 
@@ -58,30 +54,10 @@ impl Plan {
     /// assert_eq!(refusal.in_text().to_string(), "line 1 is malformed, or its newline is missing");
     /// ```
     pub fn from_text(text: impl AsRef<[u8]>) -> Result<Plan, Refusal> {
-        Plan::from_text_by(Reader::Morning, text)
-    }
-
-    /// Reads a plan from text, of the morning or a resumed one.
-    ///
-    /// # Errors
-    ///
-    /// Refuses what is no plan for that reader: with 1 to 7, or with 1 to 5, 7, 16 and 17.
-    ///
-    /// ```
-    /// use gimmerskip::{Plan, Reader, Refusal};
-    ///
-    /// // Job 1 is in the middle of a stretch with device 5, and job 2 wants that device.
-    /// let text = "1\theld\t5\n1\tdo\t7\n1\tgive\t5\n2\ttake\t5\n";
-    /// let plan = Plan::from_text_by(Reader::Midday, text)?;
-    /// assert_eq!(plan.verdict()?.lines, [2, 3, 4]);
-    /// assert_eq!(Plan::from_text(text), Err(Refusal::Malformed(1)));
-    /// # Ok::<(), Refusal>(())
-    /// ```
-    pub fn from_text_by(reader: Reader, text: impl AsRef<[u8]>) -> Result<Plan, Refusal> {
         let mut lines = vec![0; MAX_LINES];
-        let count = reader.read(text.as_ref(), &mut lines)?;
+        let count = entries::read(text.as_ref(), &mut lines)?;
         lines.truncate(count);
-        Ok(Plan { lines, reader })
+        Ok(Plan { lines })
     }
 
     /// Makes a plan of packed numbers.
@@ -98,24 +74,10 @@ impl Plan {
     /// # Ok::<(), Refusal>(())
     /// ```
     pub fn from_packed(numbers: impl Into<Vec<u32>>) -> Result<Plan, Refusal> {
-        Plan::from_packed_by(Reader::Morning, numbers)
-    }
-
-    /// Makes a plan of packed numbers, of the morning or a resumed one.
-    ///
-    /// # Errors
-    ///
-    /// Refuses what is no plan for that reader: with 2 to 7, or with 2 to 5, 7, 16 and 17.
-    pub fn from_packed_by(reader: Reader, numbers: impl Into<Vec<u32>>) -> Result<Plan, Refusal> {
         let lines = numbers.into();
         // The table is asked for its tests alone. A longer list is refused before its room matters.
-        reader.table(&lines, &mut [0; MAX_LINES])?;
-        Ok(Plan { lines, reader })
-    }
-
-    /// The reader that the plan was read by.
-    pub fn reader(&self) -> Reader {
-        self.reader
+        entries::table(&lines, &mut [0; MAX_LINES])?;
+        Ok(Plan { lines })
     }
 
     /// The packed numbers, one a line.
@@ -145,7 +107,7 @@ impl Plan {
         self.lines.get(usize::from(line).checked_sub(1)?).map(of_plan)
     }
 
-    /// The steps, from the first line to the last. Held lines are among them, with their verb.
+    /// The steps, from the first line to the last.
     ///
     /// ```
     /// use gimmerskip::{Plan, Verb};
@@ -167,14 +129,14 @@ impl Plan {
         Holds::of_plan(self)
     }
 
-    /// The text, which the plan's reader reads as the same plan.
+    /// The text, which [`Plan::from_text`] reads as the same plan.
     ///
     /// # Panics
     ///
     /// Never, as long as the archives are those that this crate is made for: a plan has no fault.
     pub fn text(&self) -> String {
         let mut text = [0; MAX_BYTES];
-        let count = self.reader.write(&self.lines, &mut text).expect(NO_FAULT);
+        let count = entries::write(&self.lines, &mut text).expect(NO_FAULT);
         // Digits, small letters, tabs and newlines: each byte is a character by itself.
         text[..count].iter().map(|&byte| char::from(byte)).collect()
     }
@@ -186,7 +148,7 @@ impl Plan {
     /// Never, as long as the archives are those that this crate is made for: a plan has no fault.
     pub fn table(&self) -> Vec<u32> {
         let mut sets = vec![0; self.lines.len()];
-        self.reader.table(&self.lines, &mut sets).expect(NO_FAULT);
+        entries::table(&self.lines, &mut sets).expect(NO_FAULT);
         sets
     }
 
@@ -196,8 +158,8 @@ impl Plan {
     ///
     /// Refuses with 9 or 10 where no order is legal; [`Plan::holds`] can tell why.
     pub fn verdict(&self) -> Result<Order, Refusal> {
-        let mut lines = vec![0; self.steps().filter(|step| step.verb != Verb::Held).count()];
-        let held = self.reader.verdict(&self.lines, &mut lines)?;
+        let mut lines = vec![0; self.lines.len()];
+        let held = entries::verdict(&self.lines, &mut lines)?;
         Ok(Order { lines, held })
     }
 
@@ -207,9 +169,7 @@ impl Plan {
     ///
     /// # Errors
     ///
-    /// Refuses with 11 rows that are too few, then with 9 by the plan, then with 10 by the rows. Rows are kept for
-    /// plans of the morning: a resumed plan with a held line is refused with 2 first, and one with a running job with
-    /// 6.
+    /// Refuses with 11 rows that are too few, then with 9 by the plan, then with 10 by the rows.
     ///
     /// ```
     /// use gimmerskip::{Plan, Refusal, ROWS};
@@ -244,7 +204,7 @@ impl Plan {
     /// # Ok::<(), Refusal>(())
     /// ```
     pub fn judge(&self, order: &[u16]) -> Result<(), Refusal> {
-        self.reader.judge(&self.lines, order)
+        entries::judge(&self.lines, order)
     }
 
     /// Moves the claim of a line, counted from 1, to another device, and mends the plan's table along the way and under
@@ -271,17 +231,17 @@ impl Plan {
         line: u32,
         device: u32,
     ) -> Result<usize, Refusal> {
-        self.reader.move_claim(&mut self.lines, table, line, device)
+        entries::move_claim(&mut self.lines, table, line, device)
     }
 
-    /// The table, the rows and the set of the devices held to the end, of a plan of the morning.
+    /// The table, the rows and the set of the devices held to the end.
     pub(crate) fn built(&self) -> (Vec<u32>, [u32; ROWS], u32) {
         let (mut table, mut rows, mut held) = (vec![0; self.lines.len()], [0; ROWS], 0);
         entries::build(&self.lines, &mut table, &mut rows, from_mut(&mut held)).expect(NO_FAULT);
         (table, rows, held)
     }
 
-    /// Moves a claim of a plan of the morning, and keeps what is kept beside the plan.
+    /// Moves a claim, and keeps what is kept beside the plan.
     pub(crate) fn move_kept(
         &mut self,
         (table, rows, held): (&mut [u32], &mut [u32; ROWS], &mut u32),

@@ -5,7 +5,6 @@
 mod c {
     extern "C" {
         pub fn gimmerskip_order(text: *const u8, n: usize, out: *mut u8, room: usize) -> usize;
-        pub fn gimmerskip_resume(text: *const u8, n: usize, out: *mut u8, room: usize) -> usize;
         pub fn gimmerskip_line(text: *const u8, n: usize, offset: usize) -> u64;
         pub fn gimmerskip_read(text: *const u8, n: usize, plan: *mut u32, room: usize) -> u64;
         pub fn gimmerskip_write(plan: *const u32, n: usize, text: *mut u8, room: usize) -> u64;
@@ -13,44 +12,6 @@ mod c {
         pub fn gimmerskip_verdict(plan: *const u32, n: usize, order: *mut u16, room: usize) -> u64;
         pub fn gimmerskip_judge(plan: *const u32, n: usize, order: *const u16, m: usize) -> u64;
         pub fn gimmerskip_move(
-            plan: *mut u32,
-            n: usize,
-            sets: *mut u32,
-            room: usize,
-            line: u32,
-            device: u32,
-        ) -> u64;
-        pub fn gimmerskip_resume_read(
-            text: *const u8,
-            n: usize,
-            plan: *mut u32,
-            room: usize,
-        ) -> u64;
-        pub fn gimmerskip_resume_write(
-            plan: *const u32,
-            n: usize,
-            text: *mut u8,
-            room: usize,
-        ) -> u64;
-        pub fn gimmerskip_resume_table(
-            plan: *const u32,
-            n: usize,
-            sets: *mut u32,
-            room: usize,
-        ) -> u64;
-        pub fn gimmerskip_resume_verdict(
-            plan: *const u32,
-            n: usize,
-            order: *mut u16,
-            room: usize,
-        ) -> u64;
-        pub fn gimmerskip_resume_judge(
-            plan: *const u32,
-            n: usize,
-            order: *const u16,
-            m: usize,
-        ) -> u64;
-        pub fn gimmerskip_resume_move(
             plan: *mut u32,
             n: usize,
             sets: *mut u32,
@@ -90,44 +51,11 @@ mod c {
 }
 
 // Each call below lends the entry whole slices, and the entry is proved to stay inside them. What it asks of its caller
-// holds by the types: a slice's pointer is never null, and nothing overlaps a slice that may be written to. An entry
-// for plans of the morning and its sibling for resumed plans are called alike.
+// holds by the types: a slice's pointer is never null, and nothing overlaps a slice that may be written to.
 
-/// An entry that is lent a list to read and a list to fill.
-type Fills<Given, Filled, Answer> =
-    unsafe extern "C" fn(*const Given, usize, *mut Filled, usize) -> Answer;
-/// An entry that is lent two lists to read.
-type Looks<One, Other> = unsafe extern "C" fn(*const One, usize, *const Other, usize) -> u64;
-/// An entry that moves a claim.
-type Moves = unsafe extern "C" fn(*mut u32, usize, *mut u32, usize, u32, u32) -> u64;
-
-/// Calls an entry of `c` that fills a list.
-fn fill<Given, Filled, Answer>(
-    entry: Fills<Given, Filled, Answer>,
-    given: &[Given],
-    filled: &mut [Filled],
-) -> Answer {
-    unsafe { entry(given.as_ptr(), given.len(), filled.as_mut_ptr(), filled.len()) }
-}
-
-/// Calls an entry of `c` that writes nothing.
-fn look<One, Other>(entry: Looks<One, Other>, one: &[One], other: &[Other]) -> u64 {
-    unsafe { entry(one.as_ptr(), one.len(), other.as_ptr(), other.len()) }
-}
-
-/// Calls an entry of `c` that moves a claim.
-fn moved(entry: Moves, plan: &mut [u32], sets: &mut [u32], line: u32, device: u32) -> u64 {
-    unsafe { entry(plan.as_mut_ptr(), plan.len(), sets.as_mut_ptr(), sets.len(), line, device) }
-}
-
-/// What the program `order` prints for a text, into `out`: the number of bytes.
+/// What the program prints for a text, into `out`: the number of bytes.
 pub fn order(text: &[u8], out: &mut [u8]) -> usize {
-    fill(c::gimmerskip_order, text, out)
-}
-
-/// What the program `resume` prints for the text of a resumed plan, into `out`: the number of bytes.
-pub fn resume(text: &[u8], out: &mut [u8]) -> usize {
-    fill(c::gimmerskip_resume, text, out)
+    unsafe { c::gimmerskip_order(text.as_ptr(), text.len(), out.as_mut_ptr(), out.len()) }
 }
 
 /// The line of a text at an offset: its packed number, or 0 at the end.
@@ -137,62 +65,41 @@ pub fn line(text: &[u8], offset: usize) -> u64 {
 
 /// A text into packed numbers: the number of lines.
 pub fn read(text: &[u8], plan: &mut [u32]) -> u64 {
-    fill(c::gimmerskip_read, text, plan)
-}
-
-/// The text of a resumed plan into packed numbers: the number of lines.
-pub fn resume_read(text: &[u8], plan: &mut [u32]) -> u64 {
-    fill(c::gimmerskip_resume_read, text, plan)
+    unsafe { c::gimmerskip_read(text.as_ptr(), text.len(), plan.as_mut_ptr(), plan.len()) }
 }
 
 /// A packed plan into text: the number of bytes.
 pub fn write(plan: &[u32], text: &mut [u8]) -> u64 {
-    fill(c::gimmerskip_write, plan, text)
-}
-
-/// A packed resumed plan into text: the number of bytes.
-pub fn resume_write(plan: &[u32], text: &mut [u8]) -> u64 {
-    fill(c::gimmerskip_resume_write, plan, text)
+    unsafe { c::gimmerskip_write(plan.as_ptr(), plan.len(), text.as_mut_ptr(), text.len()) }
 }
 
 /// The table of a plan's claims: the number of lines.
 pub fn table(plan: &[u32], sets: &mut [u32]) -> u64 {
-    fill(c::gimmerskip_table, plan, sets)
-}
-
-/// The table of a resumed plan's claims: the number of lines.
-pub fn resume_table(plan: &[u32], sets: &mut [u32]) -> u64 {
-    fill(c::gimmerskip_resume_table, plan, sets)
+    unsafe { c::gimmerskip_table(plan.as_ptr(), plan.len(), sets.as_mut_ptr(), sets.len()) }
 }
 
 /// The verdict on a plan, with its order: the number of devices still held.
 pub fn verdict(plan: &[u32], order: &mut [u16]) -> u64 {
-    fill(c::gimmerskip_verdict, plan, order)
-}
-
-/// The verdict on a resumed plan, with the order of its steps: the number of devices still held.
-pub fn resume_verdict(plan: &[u32], order: &mut [u16]) -> u64 {
-    fill(c::gimmerskip_resume_verdict, plan, order)
+    unsafe { c::gimmerskip_verdict(plan.as_ptr(), plan.len(), order.as_mut_ptr(), order.len()) }
 }
 
 /// An order from elsewhere, judged for a plan: 0 if it is legal.
 pub fn judge(plan: &[u32], order: &[u16]) -> u64 {
-    look(c::gimmerskip_judge, plan, order)
-}
-
-/// An order from elsewhere, judged for a resumed plan: 0 if it is legal.
-pub fn resume_judge(plan: &[u32], order: &[u16]) -> u64 {
-    look(c::gimmerskip_resume_judge, plan, order)
+    unsafe { c::gimmerskip_judge(plan.as_ptr(), plan.len(), order.as_ptr(), order.len()) }
 }
 
 /// The claim of a line, counted from 1, moved to a device: the number of sets that changed.
 pub fn move_claim(plan: &mut [u32], sets: &mut [u32], line: u32, device: u32) -> u64 {
-    moved(c::gimmerskip_move, plan, sets, line, device)
-}
-
-/// The claim of a line of a resumed plan, moved likewise.
-pub fn resume_move(plan: &mut [u32], sets: &mut [u32], line: u32, device: u32) -> u64 {
-    moved(c::gimmerskip_resume_move, plan, sets, line, device)
+    unsafe {
+        c::gimmerskip_move(
+            plan.as_mut_ptr(),
+            plan.len(),
+            sets.as_mut_ptr(),
+            sets.len(),
+            line,
+            device,
+        )
+    }
 }
 
 /// The table of a plan's claims, its rows and the set of the devices that it holds to the end: the number of lines.
@@ -239,5 +146,5 @@ pub fn move_kept(
 
 /// The quick verdict on a plan, by lent rows: the number of devices held to the end.
 pub fn quick(plan: &[u32], rows: &[u32]) -> u64 {
-    look(c::gimmerskip_quick, plan, rows)
+    unsafe { c::gimmerskip_quick(plan.as_ptr(), plan.len(), rows.as_ptr(), rows.len()) }
 }

@@ -30,22 +30,18 @@ pub enum Refusal {
     JobOutOfSequence(u32),
     /// 5: this line starts a job that is not higher than its own, that is started already, or that has no lines.
     BadStart(u32),
-    /// 6: nothing starts the job whose first line this is. In a resumed plan such a job is running, and this is not
-    /// given.
+    /// 6: nothing starts the job whose first line this is.
     NeverStarted(u32),
     /// 7: this line gives a device that is not the latest its job still holds.
     GiveWithoutTake(u32),
-    /// 9: this device has more than one lasting take; it is the lowest such device. In a resumed plan a held line
-    /// without a give counts as one.
+    /// 9: this device has more than one lasting take; it is the lowest such device.
     TwoLasting(u32),
-    /// 10: this device leads back to itself; it is the lowest such device. In a resumed plan where none does, it is the
-    /// lowest device that a held line names, and what is held from the beginning leaves no order: `Holds::hindrance`
-    /// tells why.
+    /// 10: this device leads back to itself; it is the lowest such device.
     LeadsBack(u32),
     /// 11: a list that was lent is too short; it needs this length. Of several the first is told: the table, then the
     /// rows, then the held set.
     ListTooShort(u32),
-    /// 12: the line that was asked for, this one, is no take of the plan. A held line is none.
+    /// 12: the line that was asked for, this one, is no take of the plan.
     NotATake(u32),
     /// 13: the device that was asked for, this one, is over 31.
     NoSuchDevice(u32),
@@ -56,12 +52,7 @@ pub enum Refusal {
     /// position is the list's length plus one, every entry is right so far, and the list stops too soon; the refusal
     /// does not know the length, so that its words leave both open.
     IllegalStep(u32),
-    /// 16: this line of a resumed plan holds a device that an earlier line holds, in its job or in another.
-    HeldTwice(u32),
-    /// 17: this line of a resumed plan is a held line after a line with another verb in its job, or in a job that a
-    /// line starts.
-    HeldLate(u32),
-    /// None of these, kept as it came: a number over 17, say, or 8, which is free since a job may take again what it
+    /// None of these, kept as it came: a number over 15, say, or 8, which is free since a job may take again what it
     /// holds. The archives that this crate is made for never answer so; only others, with rules that are not known
     /// here, could. It is no success, and under another number it would send its reader to the wrong place: so it has a
     /// case of its own.
@@ -91,13 +82,11 @@ impl Refusal {
             (13, asked) => Refusal::NoSuchDevice(asked),
             (14, line) => Refusal::StaleTable(line),
             (15, position) => Refusal::IllegalStep(position),
-            (16, line) => Refusal::HeldTwice(line),
-            (17, line) => Refusal::HeldLate(line),
             (number, place) => Refusal::Unlisted { number, place },
         }
     }
 
-    /// The number: 1 to 7 or 9 to 17, unless it is [`Refusal::Unlisted`].
+    /// The number: 1 to 7 or 9 to 15, unless it is [`Refusal::Unlisted`].
     pub fn number(self) -> u32 {
         match self {
             Refusal::TextTooLong => 1,
@@ -114,8 +103,6 @@ impl Refusal {
             Refusal::NoSuchDevice(_) => 13,
             Refusal::StaleTable(_) => 14,
             Refusal::IllegalStep(_) => 15,
-            Refusal::HeldTwice(_) => 16,
-            Refusal::HeldLate(_) => 17,
             Refusal::Unlisted { number, .. } => number,
         }
     }
@@ -127,7 +114,7 @@ impl Refusal {
             TextTooLong => 0,
             TooManyLines => MAX_LINES as u32 + 1,
             Malformed(line) | JobOutOfSequence(line) | BadStart(line) | NeverStarted(line) => line,
-            GiveWithoutTake(line) | StaleTable(line) | HeldTwice(line) | HeldLate(line) => line,
+            GiveWithoutTake(line) | StaleTable(line) => line,
             TwoLasting(device) | LeadsBack(device) => device,
             ListTooShort(needed) => needed,
             NotATake(asked) | NoSuchDevice(asked) => asked,
@@ -171,36 +158,15 @@ impl Refusal {
             Refusal::StaleTable(_) => {
                 "has a stale set: it does not follow from the plan and the sets after it"
             }
-            Refusal::HeldTwice(_) => "holds a device that an earlier line holds already",
-            Refusal::HeldLate(_) => {
-                "is a held line behind another verb, or in a job that a line starts"
-            }
             _ => return None,
         })
-    }
-
-    /// What leaves a plan without an order, where the place is a device.
-    fn of_its_device(self) -> Option<&'static str> {
-        match self {
-            Refusal::TwoLasting(_) => Some(
-                "has two lasting takes, a held line without a give counted as one: two jobs would hold it to the end",
-            ),
-            Refusal::LeadsBack(_) => Some(
-                "leads back to itself, or is the lowest that is held from the beginning where that leaves no order",
-            ),
-            _ => None,
-        }
     }
 }
 
 impl fmt::Display for Refusal {
     fn fmt(&self, out: &mut fmt::Formatter<'_>) -> fmt::Result {
-        let place = self.place();
         if let Some(wrong) = self.on_its_line() {
-            return write!(out, "line {place} {wrong}");
-        }
-        if let Some(wrong) = self.of_its_device() {
-            return write!(out, "device {place} {wrong}");
+            return write!(out, "line {} {wrong}", self.place());
         }
         match self {
             Refusal::TextTooLong => write!(out, "the text has more than {MAX_BYTES} bytes"),
@@ -209,6 +175,15 @@ impl fmt::Display for Refusal {
                     out,
                     "something stands after line {MAX_LINES}, the last that a plan can have"
                 )
+            }
+            Refusal::TwoLasting(device) => {
+                write!(
+                    out,
+                    "device {device} has two lasting takes: two jobs would hold it to the end"
+                )
+            }
+            Refusal::LeadsBack(device) => {
+                write!(out, "device {device} leads back to itself: what follows its lasting take comes back to it")
             }
             Refusal::ListTooShort(needed) => {
                 write!(out, "a lent list is too short: it needs a length of {needed}")
@@ -223,7 +198,7 @@ impl fmt::Display for Refusal {
                 )
             }
             other => {
-                write!(out, "refused with number {} and place {place}", other.number())
+                write!(out, "refused with number {} and place {}", other.number(), other.place())
             }
         }
     }

@@ -10,8 +10,6 @@ use core::ops::RangeInclusive;
 const JOB: u32 = 1_024;
 /// What a packed number has for each kind of verb; the operand stays below it.
 const KIND: u32 = 256;
-/// What the operand of a held line has beside its device, packed, by which it is told from a take.
-const HELD: u8 = 128;
 /// The jobs that there are.
 const JOBS: RangeInclusive<u32> = 1..=64;
 
@@ -27,20 +25,16 @@ pub enum Verb {
     Give,
     /// Another job is started; the operand is that job, 2 to 64.
     Start,
-    /// The job holds a device from the beginning; the operand is the device, 0 to 31. Resumed plans alone have such
-    /// lines, which are no steps to be done and stand in no order.
-    Held,
 }
 
 impl Verb {
-    /// All verbs. The first four stand at the places that are their kinds in packed numbers; a held line has the kind
-    /// of a take.
-    pub const ALL: [Verb; 5] = [Verb::Do, Verb::Take, Verb::Give, Verb::Start, Verb::Held];
+    /// All verbs. Each stands at the place that is its kind in a packed number.
+    pub const ALL: [Verb; 4] = [Verb::Do, Verb::Take, Verb::Give, Verb::Start];
 
     /// The word that a text has for it.
     ///
     /// ```
-    /// assert_eq!(gimmerskip::Verb::ALL.map(|verb| verb.word()), ["do", "take", "give", "start", "held"]);
+    /// assert_eq!(gimmerskip::Verb::ALL.map(|verb| verb.word()), ["do", "take", "give", "start"]);
     /// ```
     pub const fn word(self) -> &'static str {
         match self {
@@ -48,17 +42,6 @@ impl Verb {
             Verb::Take => "take",
             Verb::Give => "give",
             Verb::Start => "start",
-            Verb::Held => "held",
-        }
-    }
-
-    /// The kind in a packed number.
-    const fn kind(self) -> u32 {
-        match self {
-            Verb::Do => 0,
-            Verb::Take | Verb::Held => 1,
-            Verb::Give => 2,
-            Verb::Start => 3,
         }
     }
 
@@ -66,7 +49,7 @@ impl Verb {
     const fn operands(self) -> RangeInclusive<u8> {
         match self {
             Verb::Do => 0..=255,
-            Verb::Take | Verb::Give | Verb::Held => 0..=31,
+            Verb::Take | Verb::Give => 0..=31,
             Verb::Start => 2..=64,
         }
     }
@@ -89,9 +72,6 @@ impl fmt::Display for Verb {
 /// assert_eq!(step.to_string(), "1\ttake\t5");
 /// assert_eq!(step.packed(), 1_285);
 /// assert_eq!(Step::from_packed(1_285), Some(step));
-/// let held = Step { verb: Verb::Held, ..step };
-/// assert_eq!((held.to_string().as_str(), held.packed()), ("1\theld\t5", 1_285 + 128));
-/// assert_eq!(Step::from_packed(1_285 + 128), Some(held));
 /// ```
 #[derive(Clone, Copy, Debug, PartialEq, Eq, Hash)]
 pub struct Step {
@@ -104,8 +84,7 @@ pub struct Step {
 }
 
 impl Step {
-    /// The step of a packed number, or `None` where the number stands for no line. Numbers of held lines are known
-    /// here, though in plans of the morning they stand for none.
+    /// The step of a packed number, or `None` where the number stands for no line.
     ///
     /// ```
     /// use gimmerskip::Step;
@@ -115,25 +94,17 @@ impl Step {
     /// ```
     pub fn from_packed(packed: u32) -> Option<Step> {
         let (job, kind, operand) = (packed / JOB, packed % JOB / KIND, (packed % KIND) as u8);
-        let (verb, operand) = match (Verb::ALL[kind as usize], operand.checked_sub(HELD)) {
-            (Verb::Take, Some(device)) => (Verb::Held, device),
-            (verb, _) => (verb, operand),
-        };
+        let verb = Verb::ALL[kind as usize];
         let is_line = JOBS.contains(&job) && verb.operands().contains(&operand);
         is_line.then_some(Step { job: job as u8, verb, operand })
     }
 
     /// The packed number. Of a step whose job or operand lies out of range, it is a number that stands for no line.
     pub fn packed(self) -> u32 {
-        let operand = match self.verb {
-            // A device that there is none of stays below the next kind.
-            Verb::Held => HELD + self.operand.min(HELD - 1),
-            _ => self.operand,
-        };
-        u32::from(self.job) * JOB + self.verb.kind() * KIND + u32::from(operand)
+        u32::from(self.job) * JOB + self.verb as u32 * KIND + u32::from(self.operand)
     }
 
-    /// The device that is taken, given or held; a do and a start have none.
+    /// The device that is taken or given; a do and a start have none.
     ///
     /// ```
     /// use gimmerskip::{Step, Verb};
@@ -142,7 +113,7 @@ impl Step {
     /// assert_eq!(Step { job: 1, verb: Verb::Start, operand: 5 }.device(), None);
     /// ```
     pub fn device(self) -> Option<u8> {
-        matches!(self.verb, Verb::Take | Verb::Give | Verb::Held).then_some(self.operand)
+        matches!(self.verb, Verb::Take | Verb::Give).then_some(self.operand)
     }
 }
 
@@ -211,7 +182,7 @@ pub struct Lines<'a> {
 /// Hands out the lines of a text one after another, each by itself: whether they make a plan together is not looked at.
 /// The first that is refused is the last that is handed out.
 ///
-/// Refusals are those of [`entries::line`]: 1, 3 and 2. A held line is refused, as it is in a plan of the morning.
+/// Refusals are those of [`entries::line`]: 1, 3 and 2.
 ///
 /// ```
 /// use gimmerskip::{lines, Refusal};

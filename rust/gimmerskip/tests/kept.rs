@@ -253,11 +253,10 @@ fn tabled_keeps_all_of_it() {
                 assert_eq!(tabled, before);
             }
             assert_eq!(tabled, Tabled::new(tabled.plan().clone()));
-            let rows = tabled.rows().expect("it is a plan of the morning");
-            assert_eq!(rows, tabled.plan().holds().rows());
+            assert_eq!(tabled.rows(), tabled.plan().holds().rows());
             assert_eq!(tabled.quick(), tabled.verdict().map(|order| order.held));
-            assert_eq!(tabled.quick(), tabled.plan().quick(rows));
-            let held = tabled.held().map_or(0, u32::count_ones) as usize;
+            assert_eq!(tabled.quick(), tabled.plan().quick(tabled.rows()));
+            let held = tabled.held().count_ones() as usize;
             assert!(tabled.quick().map_or(true, |count| count == held));
         }
     }

@@ -9,7 +9,7 @@ use gimmerskip::{entries, outcome, Plan, Refusal};
 use second::listed::{packed, A, F, G, H};
 
 /// Every refusal with its number, its place and its words.
-const WORDS: [(Refusal, u32, u32, &str); 17] = [
+const WORDS: [(Refusal, u32, u32, &str); 15] = [
     (Refusal::TextTooLong, 1, 0, "the text has more than 12288 bytes"),
     (Refusal::Malformed(3), 2, 3, "line 3 is no line that a plan can have"),
     (
@@ -42,13 +42,13 @@ const WORDS: [(Refusal, u32, u32, &str); 17] = [
         Refusal::TwoLasting(31),
         9,
         31,
-        "device 31 has two lasting takes, a held line without a give counted as one: two jobs would hold it to the end",
+        "device 31 has two lasting takes: two jobs would hold it to the end",
     ),
     (
         Refusal::LeadsBack(0),
         10,
         0,
-        "device 0 leads back to itself, or is the lowest that is held from the beginning where that leaves no order",
+        "device 0 leads back to itself: what follows its lasting take comes back to it",
     ),
     (Refusal::ListTooShort(6), 11, 6, "a lent list is too short: it needs a length of 6"),
     (Refusal::NotATake(9), 12, 9, "line 9 is no take of the plan, so it has no claim to move"),
@@ -65,13 +65,6 @@ const WORDS: [(Refusal, u32, u32, &str); 17] = [
         3,
         "entry 3 of the order is no legal next step, or the order stops before it",
     ),
-    (Refusal::HeldTwice(2), 16, 2, "line 2 holds a device that an earlier line holds already"),
-    (
-        Refusal::HeldLate(8),
-        17,
-        8,
-        "line 8 is a held line behind another verb, or in a job that a line starts",
-    ),
 ];
 
 #[test]
@@ -83,7 +76,7 @@ fn each_has_its_number_its_place_and_its_words() {
         let answer = u64::from(number) << 32 | u64::from(place);
         assert_eq!(outcome(answer), Err(refusal));
     }
-    for number in 1..=17 {
+    for number in 1..=15 {
         let is_free = number == 8;
         assert_eq!(WORDS.iter().any(|row| row.1 == number), !is_free, "{number}");
     }
@@ -112,7 +105,7 @@ fn an_answer_below_the_refusals_is_a_count() {
 
 #[test]
 fn an_answer_of_no_known_number_is_kept_as_it_came() {
-    for (number, place) in [(18, 7), (8, 2), (u32::MAX, u32::MAX), (1, 1), (3, 1_024), (0, 4)] {
+    for (number, place) in [(16, 7), (8, 2), (u32::MAX, u32::MAX), (1, 1), (3, 1_024), (0, 4)] {
         let refusal = Refusal::new(number, place);
         assert_eq!(refusal, Refusal::Unlisted { number, place });
         assert_eq!((refusal.number(), refusal.place()), (number, place));

@@ -5,7 +5,7 @@
 mod common;
 
 use common::{plan, text};
-use gimmerskip::{lines, Plan, Reader, Refusal, Step, Verb, MAX_LINES};
+use gimmerskip::{lines, Plan, Refusal, Step, Verb, MAX_LINES};
 use second::listed::{A, G, H};
 use std::collections::{BTreeSet, HashSet};
 
@@ -16,11 +16,8 @@ const NUMBERS: std::ops::Range<u32> = 0..66 * 1_024;
 fn a_number_is_a_step_exactly_if_an_entry_takes_it_for_a_line() {
     for number in NUMBERS.chain([u32::MAX, 1 << 20, 1 << 16 | 1_285, 256 << 10 | 1_285]) {
         let step = Step::from_packed(number);
-        let malformed =
-            |reader| Plan::from_packed_by(reader, [number]) == Err(Refusal::Malformed(1));
-        assert_eq!(step.is_none(), malformed(Reader::Midday), "{number}");
-        let of_morning = step.filter(|step| step.verb != Verb::Held);
-        assert_eq!(of_morning.is_none(), malformed(Reader::Morning), "{number}");
+        let malformed = Plan::from_packed([number]) == Err(Refusal::Malformed(1));
+        assert_eq!(step.is_none(), malformed, "{number}");
         assert!(step.map_or(true, |step| step.packed() == number), "{number}");
     }
 }
@@ -33,10 +30,6 @@ fn a_step_out_of_range_is_packed_as_no_line() {
         let step = Step { job, verb, operand };
         assert_eq!(Step::from_packed(step.packed()), None, "{step}");
     }
-    for operand in 32..=255 {
-        let held = Step { job: 1, verb: Verb::Held, operand };
-        assert_eq!(Step::from_packed(held.packed()), None, "{held}");
-    }
     for operand in [0, 1, 65, 255] {
         let start = Step { job: 1, verb: Verb::Start, operand };
         assert_eq!(Step::from_packed(start.packed()), None, "{start}");
@@ -44,9 +37,9 @@ fn a_step_out_of_range_is_packed_as_no_line() {
 }
 
 #[test]
-fn takes_gives_and_held_lines_have_a_device() {
+fn takes_and_gives_have_a_device() {
     let devices = Verb::ALL.map(|verb| Step { job: 1, verb, operand: 31 }.device());
-    assert_eq!(devices, [None, Some(31), Some(31), None, Some(31)]);
+    assert_eq!(devices, [None, Some(31), Some(31), None]);
 }
 
 #[test]
@@ -54,24 +47,18 @@ fn each_step_is_written_as_the_line_that_is_read_as_it() {
     for step in NUMBERS.filter_map(Step::from_packed) {
         let line = format!("{step}\n");
         let read: Vec<_> = lines(line.as_bytes()).collect();
-        match step.verb {
-            Verb::Held => assert_eq!(read, [Err(Refusal::Malformed(1))], "{line:?}"),
-            _ => assert_eq!(read, [Ok(step)], "{line:?}"),
-        }
-        let mut plan = [0];
-        let by_midday = Reader::Midday.read(line.as_bytes(), &mut plan);
-        assert!(by_midday != Ok(1) || plan == [step.packed()], "{line:?}");
+        assert_eq!(read, [Ok(step)], "{line:?}");
     }
 }
 
 #[test]
 fn verbs_have_their_words_and_their_order() {
     let words: Vec<String> = Verb::ALL.iter().map(Verb::to_string).collect();
-    assert_eq!(words, ["do", "take", "give", "start", "held"]);
+    assert_eq!(words, ["do", "take", "give", "start"]);
     assert_eq!(format!("{:>6}{:<6}|", Verb::Take, Verb::Give), "  takegive  |");
     assert!(Verb::ALL.windows(2).all(|two| two[0] < two[1]));
-    assert_eq!(Verb::ALL.iter().collect::<HashSet<_>>().len(), 5);
-    assert_eq!(Verb::ALL.iter().collect::<BTreeSet<_>>().len(), 5);
+    assert_eq!(Verb::ALL.iter().collect::<HashSet<_>>().len(), 4);
+    assert_eq!(Verb::ALL.iter().collect::<BTreeSet<_>>().len(), 4);
 }
 
 #[test]

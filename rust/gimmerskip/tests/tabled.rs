@@ -49,6 +49,6 @@ fn moves_can_mend_a_plan_without_an_order() {
     assert_eq!(tabled.quick(), Err(Refusal::LeadsBack(0)));
     assert_eq!(tabled.move_claim(10, 3), Ok(4));
     assert_eq!(tabled.verdict().map(|order| order.held), Ok(3));
-    assert_eq!((tabled.quick(), tabled.held()), (Ok(3), Some(7)));
+    assert_eq!((tabled.quick(), tabled.held()), (Ok(3), 7));
     assert_eq!(tabled.plan().holds().circle(), None);
 }

@@ -5,10 +5,12 @@ use mathlib.Core.Path.{◌≡◌, ◌∙◌, ap}
 use native.Mathlib.Omega.{arith}
 use lib.ListN.{length}
 use borrow.Author.Rules.{rules}
-use Rattle.model.specs.Board.{board_at}
-use Rattle.model.specs.Line.{job, is_line, at}
+use Rattle.model.specs.Board.{board}
+use Rattle.model.specs.Line.{job, is_line, at, max_lines}
+use Rattle.model.specs.WellFormed.{WellFormed}
 use Rattle.theory.specs.Outer.{again_at, plain_at}
 use Rattle.theory.proofs.Outer.{plain_job}
+use Rattle.theory.proofs.WellFormed.{no_fault_exactly}
 use Rattle.plan.proofs.Again.{length_again, plain_is}
 use Rattle.claims.specs.Claim.{operands}
 use Rattle.claims.proofs.Claimed.{job_place}
@@ -25,13 +27,16 @@ decreases-loop plan again sets₀ claimed₀ i₀ sets claimed i = i
 loop-holds : tie.Need-loop-init invariant-loop decreases-loop
 loop-holds c = let a = c.before.before.args in none_done a.plan.now a.sets.now
 
+well-formed : (s : tie.Start invariant-loop decreases-loop) → WellFormed board s.args.plan.now
+well-formed s = (no_fault_exactly board s.args.plan.now).0 s.requires.0
+
 element-copy-out-plain : tie.Need-element-copy-out-plain invariant-loop decreases-loop
 element-copy-out-plain c =
     let s = c.before.before.before.before.before in
     omega (
       arith,
       c.before.before.loop.invariant.in_plan,
-      s.requires.0.few,
+      (well-formed s).few,
       ap length s.requires.1 ∙ length_again s.args.plan.now,
     )
 
@@ -46,20 +51,20 @@ module _ (c : tie.After-job invariant-loop decreases-loop) where
   in_plan : k < length s.args.plan.now
   in_plan = omega (arith, c.before.before.before.before.before.loop.invariant.in_plan)
 
-  line_at : is_line (board_at true) (at s.args.plan.now k) ≡ true
-  line_at = s.pre.0.lines k in_plan
+  line_at : is_line board (at s.args.plan.now k) ≡ true
+  line_at = (well-formed s).lines k in_plan
 
   counts : c.before.plain.result ≡ plain_at s.args.plan.now k
   counts =
       c.before.plain.ensures
-      ∙ plain_is s.args.plan.now s.args.again.now k s.pre.1 (omega (arith, in_plan, s.pre.0.few))
+      ∙ plain_is s.args.plan.now s.args.again.now k s.pre.1 (omega (arith, in_plan, (well-formed s).few))
 
   job_is_lem : c.job.result ≡ job (at s.args.plan.now k)
   job_is_lem =
       c.job.ensures ∙ ap job counts ∙ plain_job (again_at s.args.plan.now k) (at s.args.plan.now k)
 
   job_at : c.job.result < operands
-  job_at = rw job_is_lem (job_place (board_at true) _ line_at)
+  job_at = rw job_is_lem (job_place board _ line_at)
 
 loop-again : tie.Need-loop-preserved invariant-loop decreases-loop
 loop-again c =

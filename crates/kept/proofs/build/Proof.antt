@@ -56,7 +56,7 @@ length-fits c =
     let p = (entry (walk f)).args.plan.now in
     omega (
       arith,
-      ((no_fault_exactly board p).0 (told_sets board p (sym f.to-end.given.1 ∙ (walk f).tabled.ensures.answers)).0
+      ((no_fault_exactly board p).0 (told_sets p (sym f.to-end.given.1 ∙ (walk f).tabled.ensures.answers)).0
           ).few,
     )
 

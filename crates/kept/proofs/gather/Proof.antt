@@ -1,7 +1,6 @@
 -- `kept::gather` meets its contract: what is gathered so far is that of the lines from line i on.
 use Prim.Native.Nat.{suc, ◌-◌, ◌≤◌, ◌<◌}
-use mathlib.Core.Bool.{true, not}
-use mathlib.Core.Option.{none}
+use mathlib.Core.Bool.{not}
 use mathlib.Core.Path.{◌≡◌, sym, ◌∙◌}
 use native.Mathlib.Omega.{arith}
 use lib.Dec.{eqb}
@@ -9,12 +8,8 @@ use lib.ListN.{length, get_or}
 use borrow.Author.Rules.{rules}
 use borrow.Author.Tests.{eqb-true, eqb-false, not-true}
 use Rattle.model.specs.Line.{max_lines, max_job}
-use Rattle.model.specs.Board.{board, board_at}
 use Rattle.model.specs.Sets.{empty}
-use Rattle.model.specs.WellFormed.{fault}
 use Rattle.theory.proofs.Tests.{and_split}
-use Rattle.theory.proofs.WellFormed.{fine_at_midday}
-use Rattle.plan.specs.Again.{again_flags}
 use Rattle.rows.proofs.Counted.{has_flag, counts_as}
 use Rattle.kept.proofs.Gathering.{Gathered, none_gathered, one_gathered, all_gathered}
 use Rattle.kept.proofs.Gathering.{in_range, has_first, goes_back, past_job}
@@ -42,15 +37,10 @@ back c = omega (arith, c.loop-test.true)
 in_plan : (c : tie.In-loop invariant-loop decreases-loop) → c.before.loop.i - 1 < length (entry c).args.plan.now
 in_plan c = omega (arith, c.before.loop.invariant.found.counted.in_plan, c.loop-test.true)
 
--- the plan has no fault at midday either, and the flags are its own
-fine : (s : tie.Start invariant-loop decreases-loop)
-    → (fault (board_at true) s.args.plan.now ≡ none) × (s.args.again.now ≡ again_flags s.args.plan.now)
-fine s = (fine_at_midday board s.args.plan.now s.requires.0.sound, s.requires.0.agains)
-
 flag : (c : tie.In-loop invariant-loop decreases-loop) → c.before.loop.i - 1 < max_lines
 flag c =
     let s = entry c in
-    has_flag s.args.plan.now s.args.again.now (c.before.loop.i - 1) (fine s)
+    has_flag s.args.plan.now s.args.again.now (c.before.loop.i - 1) (s.pre.0.sound, s.pre.0.agains)
     (in_plan c)
 
 -- ---- past a job without lasting takes
@@ -95,7 +85,7 @@ loop-again c =
     let s = entry in-loop in
     let j = at-job.job.result in
     let t = and_split (not (eqb j s.args.moved)) (eqb (get_or s.args.holdings.now j 0) empty)
-    (sym at_test.none_lasts.ensures ∙ c.before.if1.true) in
+    (sym at_test.none-lasts.ensures ∙ c.before.if1.true) in
     let other = eqb-false j s.args.moved (not-true (eqb j s.args.moved) t.0) in
     let nothing = eqb-true (get_or s.args.holdings.now j 0) empty t.1 in
     rw at-job.job.ensures
@@ -123,7 +113,7 @@ loop-again-2 c =
     let s = entry in-loop in
     let p = s.args.plan.now in
     let counts = at_plain.plain.ensures
-    ∙ counts_as p s.args.again.now (l.i - 1) (fine s) (in_plan in-loop) in
+    ∙ counts_as p s.args.again.now (l.i - 1) (s.pre.0.sound, s.pre.0.agains) (in_plan in-loop) in
     one_gathered s.pre.0 (rw (back in-loop) at l.invariant) (rw counts at at-pass.pass-line.ensures)
     at_next.choose.result (rw at-job.job.ensures at at_next.choose.ensures) _ at_join.join-row.ensures
 

@@ -1,11 +1,16 @@
 -- `order::main` stays within its arrays, and what it hands to be written is what is printed for the bytes that it read.
-use mathlib.Core.Bool.{false}
-use mathlib.Core.Path.{sym, subst}
+use Prim.Native.Nat.{ℕ}
+use mathlib.Core.Path.{◌≡◌, sym, subst}
+use native.Mathlib.Omega.{arith}
+use lib.ListN.{length, replicate, length-replicate}
 use lib.Seq.{length-take-le}
 use borrow.Author.Rules.{rules}
+use Rattle.model.specs.Board.{board}
+use Rattle.model.specs.Printed.{screen_room}
 use Rattle.shell.specs.Input.{Within}
 use Rattle.shell.specs.declared.Input.{Input}
-use Rattle.screen.proofs.Whole.{printed_within, printed_whole}
+use Rattle.promises.proofs.Screen.{never_more}
+use Rattle.promises.proofs.Printing.{front_printed}
 use Rattle.order.proofs.main.Statement.{statement}
 use Rattle.order.proofs.main.Tie as tie
 
@@ -16,11 +21,23 @@ array-share-prefix-input c =
     subst (λ (i : Input). Within i r.read-input.new.0) c.before.n.given.1 r.read-input.ensures
 
 -- those printed fit into the output
+room : length (replicate {A = ℕ} screen_room 0) ≡ screen_room
+room = length-replicate {A = ℕ} screen_room 0
+
 array-share-prefix-out : tie.Need-array-share-prefix-out
-array-share-prefix-out c = let p = c.before.print in printed_within false p.ensures.screens p.auto.1.1.1.0
+array-share-prefix-out c =
+    let p = c.before.print in
+    omega (
+      arith,
+      never_more board _ _ p.result p.new.1.1.1.0 p.ensures.screens (omega arith),
+      p.auto,
+      room,
+    )
 
 write-printed-requires : tie.Need-write-printed-requires
-write-printed-requires c κs = printed_whole false c.before.before.print.ensures.screens
+write-printed-requires c κs =
+    let p = c.before.before.print in
+    front_printed board _ _ p.result p.new.1.1.1.0 p.ensures.screens (omega (arith, room))
 
 pub main_spec : {M : Type 1} → statement M
 main_spec =

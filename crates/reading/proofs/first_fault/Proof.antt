@@ -2,7 +2,7 @@
 use mathlib.Core.List.{[]}
 use mathlib.Core.Path.{sym, ◌∙◌}
 use borrow.Author.Rules.{rules}
-use Rattle.model.specs.Board.{board_at}
+use Rattle.model.specs.Board.{board}
 use Rattle.model.specs.WellFormed.{first_fault}
 use Rattle.plan.proofs.Answers.{told, untold}
 use Rattle.reading.proofs.first_fault.Statement.{statement}
@@ -12,19 +12,15 @@ use Rattle.reading.proofs.first_fault.Tie as tie
 returns : tie.Need-returns
 returns c =
     let f = c.before.before.before in
-    let a = f.before.before.args in
-    rw
-    (told (first_fault (board_at a.midday) [] a.lines.now) _
-    (sym c.before.q.given.1 ∙ f.lines-fault.ensures))
+    let lines = f.before.before.args.lines.now in
+    rw (told (first_fault board [] lines) _ (sym c.before.q.given.1 ∙ f.lines-fault.ensures))
 
 -- the refusal
 returns-2 : tie.Need-returns-2
 returns-2 c =
     let f = c.before.before in
-    let a = f.before.before.args in
-    rw
-    (untold (first_fault (board_at a.midday) [] a.lines.now)
-    (sym c.enum_told.given.1 ∙ f.lines-fault.ensures))
+    let lines = f.before.before.args.lines.now in
+    rw (untold (first_fault board [] lines) (sym c.enum_told.given.1 ∙ f.lines-fault.ensures))
 
 pub first_fault_spec : {M : Type 1} → statement M
 first_fault_spec =

@@ -1,6 +1,6 @@
 -- `rows::join_line` meets its contract: the job of a line has its place.
 use Rattle.std.proofs.Common.{◌≡◌, ℕ, ◌<◌, Bool, true, false, ◌&&◌, ltb, List, get_or, set, refl, ap, rules, lt-ltb}
-use Rattle.model.specs.Board.{devices, board_at}
+use Rattle.model.specs.Board.{devices, board}
 use Rattle.model.specs.Line.{job, operand, opens, is_take, is_give, is_line}
 use Rattle.theory.proofs.Tests.{or_left}
 use Rattle.theory.proofs.Line.{device_line, own_device, take_no_held, take_opens}
@@ -12,19 +12,19 @@ use Rattle.rows.proofs.join_line.Statement.{statement}
 use Rattle.rows.proofs.join_line.Tie as tie
 
 has-place : (c : tie.After-job) → c.job.result < operands
-has-place c = rw c.job.ensures (job_place (board_at true) c.before.args.l c.before.requires.0)
+has-place c = rw c.job.ensures (job_place board c.before.args.l c.before.requires.0)
 
 -- the board has the device of a take
-on_board_lem : (l : ℕ) (lasts : Bool) → is_line (board_at true) l ≡ true → (lasts ≡ true → is_take l ≡ true)
+on_board_lem : (l : ℕ) (lasts : Bool) → is_line board l ≡ true → (lasts ≡ true → is_take l ≡ true)
     → (lasts && ltb (operand l) devices) ≡ lasts
 on_board_lem l true line take =
     let t = take refl in
     lt-ltb (operand l) devices
     (rw (own_device l (take_no_held l t)) at
-    (device_line (board_at true) l line (or_left (opens l) (is_give l) (take_opens l t))))
+    (device_line board l line (or_left (opens l) (is_give l) (take_opens l t))))
 on_board_lem l false line take = refl
 
-joined_on : {l j s : ℕ} {lasts : Bool} {rs claimed rs' : List ℕ} → is_line (board_at true) l ≡ true
+joined_on : {l j s : ℕ} {lasts : Bool} {rs claimed rs' : List ℕ} → is_line board l ≡ true
     → (lasts ≡ true → is_take l ≡ true) → j ≡ job l → s ≡ claim_of l (get_or claimed j 0) claimed
     → rs' ≡ row_joined l (lasts && ltb (operand l) devices) (get_or claimed j 0) rs
     → JoinedOn l lasts rs claimed s rs' (set claimed j s)

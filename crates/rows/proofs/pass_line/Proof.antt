@@ -1,9 +1,8 @@
 -- `rows::pass_line` meets its contract: each field is what one call made.
 use Rattle.std.proofs.Common.{◌≡◌, ℕ, ◌%◌, ◌^◌, Bool, cond, ◌&&◌, eqb, rules}
 use Rattle.model.specs.Board.{devices}
-use Rattle.model.specs.Line.{job, opens, is_take}
+use Rattle.model.specs.Line.{job, operand, is_take}
 use Rattle.model.specs.Sets.{empty, union}
-use Rattle.line.specs.Device.{device_bits}
 use Rattle.sets.specs.Only.{only_of}
 use Rattle.sets.specs.Both.{both}
 use Rattle.rows.specs.declared.Passed.{Passed}
@@ -12,32 +11,30 @@ use Rattle.rows.specs.Holds.{PassedOn}
 use Rattle.rows.proofs.pass_line.Statement.{statement}
 use Rattle.rows.proofs.pass_line.Tie as tie
 
-passed_on : (old : Passed) (l plain : ℕ) {j after d one wanted held again twice : ℕ} {takes opening : Bool}
-    → j ≡ job l → after ≡ cond (eqb j old.job) old.wanted 0 → takes ≡ is_take plain → opening ≡ opens plain
-    → d ≡ device_bits l → one ≡ cond (opening && eqb after 0) (only_of devices d) empty
-    → wanted ≡ wanted_before l after % 2 ^ 32 → held ≡ union one old.held → again ≡ both old.held one
-    → twice ≡ union again old.twice
+passed_on : (old : Passed) (l plain : ℕ) {j after o one wanted held again twice : ℕ} {takes : Bool} → j ≡ job l
+    → after ≡ cond (eqb j old.job) old.wanted 0 → takes ≡ is_take plain → o ≡ operand l
+    → one ≡ cond (takes && eqb after 0) (only_of devices o) empty → wanted ≡ wanted_before l after % 2 ^ 32
+    → held ≡ union one old.held → again ≡ both old.held one → twice ≡ union again old.twice
     → PassedOn (record { job = j; wanted = wanted; lasts = takes && eqb after 0; held = held; twice = twice }) old l
     plain
 unfolding wanted_after
-passed_on old l plain ej ea et eo ed e ew eh eb e2 =
+passed_on old l plain ej ea et eo e ew eh eb e2 =
     record { job_is = ej; wanted_is = cc; lasts_is = cc; held_is = cc; twice_is = cc }
 
 returns : tie.Need-returns
 returns c =
     let at-union = c.before.before in
     let at_one = at-union.before.before in
-    let at_take = at_one.before.before.before in
-    let at-choose = at_take.before in
+    let at-choose = at_one.before.before.before in
     let a = at-choose.before.before.before.args in
     passed_on a.passed a.l a.plain at-choose.before.before.job.ensures at-choose.choose.ensures
-    at_take.is_take.ensures at_one.before.before.opens.ensures at_one.before.device.ensures
-    at_one.only_if.ensures at-union.before.wanted-before.ensures at-union.union.ensures
-    c.before.both.ensures c.union2.ensures
+    at_one.before.before.is_take.ensures at_one.before.operand.ensures at_one.only_if.ensures
+    at-union.before.wanted-before.ensures at-union.union.ensures c.before.both.ensures
+    c.union2.ensures
 
 pub pass_line_spec : {M : Type 1} → statement M
 pass_line_spec =
     tie.close
     (tie.spec (λ c κs. search rules) (λ c κs. search rules) (λ c κs. search rules) (λ c κs. search rules)
     (λ c κs. search rules) (λ c κs. search rules) (λ c κs. search rules) (λ c κs. search rules)
-    (λ c κs. search rules) (λ c κs. search rules) returns)
+    (λ c κs. search rules) returns)

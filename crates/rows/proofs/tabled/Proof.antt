@@ -2,7 +2,6 @@
 use mathlib.Core.Option.{none}
 use Rattle.std.proofs.Common.{◌≡◌, sym, ◌∙◌, rules}
 use Rattle.model.specs.Board.{board}
-use Rattle.theory.proofs.WellFormed.{fine_at_midday}
 use Rattle.model.specs.WellFormed.{fault}
 use Rattle.plan.proofs.Answers.{told, untold}
 use Rattle.rows.proofs.Outcome.{not_tabled, is_tabled}
@@ -27,10 +26,8 @@ returns c =
 -- the flags are the plan's
 walk-back-requires : tie.Need-walk-back-requires
 walk-back-requires c κs =
-    let at_told = c.before.before.before.before in (
-      fine_at_midday board (entry at_told).args.plan.now (no-fault at_told),
-      rw (no-fault at_told) at at_told.before.before.scan.ensures.agains,
-    )
+    let at_told = c.before.before.before.before in
+    (no-fault at_told, rw (no-fault at_told) at at_told.before.before.scan.ensures.agains)
 
 -- rows and table
 returns-2 : tie.Need-returns-2

@@ -75,7 +75,7 @@ returns : tie.Need-returns invariant-loop decreases-loop
 returns c =
     let l = c.before.loop in
     let front : l.i ≡ 0 = omega arith in
-    all_walked (rw front at l.invariant)
+    all_walked c.before.before.before.before.before.before.requires.0 (rw front at l.invariant)
 
 pub walk_back_spec : {M : Type 1} → statement M
 walk_back_spec =

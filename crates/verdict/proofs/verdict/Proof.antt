@@ -1,10 +1,25 @@
--- `verdict::verdict` meets its contract, which is that of `verdict::verdict_at` in the morning.
+-- `verdict::verdict` meets its contract: what the search for the holds refuses is refused; else its findings are
+-- decided on.
 use borrow.Author.Rules.{rules}
+use Rattle.verdict.proofs.Findings.{holds_refused, holds_made}
+use Rattle.verdict.proofs.Outcome.{faulty}
 use Rattle.verdict.proofs.verdict.Statement.{statement}
 use Rattle.verdict.proofs.verdict.Tie as tie
 
+decide-requires : tie.Need-decide-requires
+decide-requires c κs =
+    holds_made c.before.before.before.before.before.before.before.before.holds.ensures
+    c.before.before.before.before.before.before.held.given.1
+
 returns : tie.Need-returns
-returns c = c.before.before.verdict-at.ensures
+returns c =
+    let holds = c.before.before.before in
+    let a = holds.before.before.before.before.before.before.before.args in
+    faulty a.plan.now a.order.now c.before.r.given.0.0
+    (holds_refused holds.holds.ensures c.before.r.given.1)
 
 pub verdict_spec : {M : Type 1} → statement M
-verdict_spec = tie.close (tie.spec (λ c κs. search rules) (λ c. search rules) returns)
+verdict_spec =
+    tie.close
+    (tie.spec (λ c κs. search rules) (λ c. search rules) (λ c. search rules) decide-requires returns (λ c. search rules)
+    (λ c. search rules))

@@ -4,9 +4,9 @@ use super::scan::{scan, CLAIMS};
 use super::{job, kind, operand, refusal, LINES, START};
 
 /// The table of a plan's claims: the number of lines.
-pub fn table<const RESUMED: bool>(plan: &[u32], sets: &mut [u32]) -> u64 {
+pub fn table(plan: &[u32], sets: &mut [u32]) -> u64 {
     let mut flags = [0; LINES];
-    if let Err(refusal) = scan::<RESUMED>(plan, &mut flags) {
+    if let Err(refusal) = scan(plan, &mut flags) {
         return refusal;
     }
     let Some(sets) = sets.get_mut(..plan.len()) else {

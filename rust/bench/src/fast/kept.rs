@@ -5,7 +5,7 @@ use super::claims::own;
 use super::moving::edit;
 use super::scan::{held as held_to_end, scan, Flags, CLAIMS};
 use super::verdict::circles;
-use super::{device, job, kind, operand, refusal, GIVE, LINES, MORNING, START, TAKE};
+use super::{device, job, kind, operand, refusal, GIVE, LINES, START, TAKE};
 
 /// The front of the lists for table, rows and held set, as far as it is needed; or the refusal for the first of them
 /// that is too short.
@@ -42,7 +42,7 @@ impl Lasting {
 /// The table of a plan's claims, its rows, and the devices held to the end: the number of lines.
 pub fn build(plan: &[u32], sets: &mut [u32], rows: &mut [u32], held: &mut [u32]) -> u64 {
     let mut flags = [0; LINES];
-    if let Err(refusal) = scan::<MORNING>(plan, &mut flags) {
+    if let Err(refusal) = scan(plan, &mut flags) {
         return refusal;
     }
     let (sets, rows, held) = match fronts(plan.len(), sets, rows, held) {
@@ -76,7 +76,7 @@ pub fn move_kept(
     device: u32,
 ) -> u64 {
     let mut flags = [0; LINES];
-    let jobs = match scan::<MORNING>(plan, &mut flags) {
+    let jobs = match scan(plan, &mut flags) {
         Ok(jobs) => jobs,
         Err(refusal) => return refusal,
     };
@@ -84,7 +84,7 @@ pub fn move_kept(
         Ok(fronts) => fronts,
         Err(refusal) => return refusal,
     };
-    match edit::<MORNING>(plan, &mut flags, sets, &jobs, line, device) {
+    match edit(plan, &mut flags, sets, &jobs, line, device) {
         Ok(changed) => {
             keep(plan, &flags, sets, rows, held);
             changed

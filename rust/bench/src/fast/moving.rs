@@ -1,25 +1,20 @@
 //! Moving a claim.
 
 use super::claims::own;
-use super::scan::{scan, Flags, Jobs, CLAIMS, HOLDS};
-use super::{is_held, job, kind, number, operand, refusal, GIVE, LINES, START, TAKE};
+use super::scan::{scan, Flags, Jobs, CLAIMS};
+use super::{job, kind, operand, refusal, GIVE, LINES, START, TAKE};
 
 /// The claim of a line, counted from 1, moved to a device: the number of sets that changed.
-pub fn move_claim<const RESUMED: bool>(
-    plan: &mut [u32],
-    sets: &mut [u32],
-    line: u32,
-    device: u32,
-) -> u64 {
+pub fn move_claim(plan: &mut [u32], sets: &mut [u32], line: u32, device: u32) -> u64 {
     let mut flags = [0; LINES];
-    let jobs = match scan::<RESUMED>(plan, &mut flags) {
+    let jobs = match scan(plan, &mut flags) {
         Ok(jobs) => jobs,
         Err(refusal) => return refusal,
     };
     if sets.len() < plan.len() {
         return refusal(11, plan.len());
     }
-    match edit::<RESUMED>(plan, &mut flags, sets, &jobs, line, device) {
+    match edit(plan, &mut flags, sets, &jobs, line, device) {
         Ok(answer) | Err(answer) => answer,
     }
 }
@@ -27,7 +22,7 @@ pub fn move_claim<const RESUMED: bool>(
 /// The move of a plan without a fault, whose table is long enough, with the tests that are left: the number of sets
 /// that changed, or the refusal. The flags of takes become those of the edited plan.
 #[inline]
-pub fn edit<const RESUMED: bool>(
+pub fn edit(
     plan: &mut [u32],
     flags: &mut Flags,
     sets: &mut [u32],
@@ -36,7 +31,7 @@ pub fn edit<const RESUMED: bool>(
     device: u32,
 ) -> Result<u64, u64> {
     let at = (line as usize).wrapping_sub(1);
-    if at >= plan.len() || kind(plan[at]) != TAKE || is_held::<RESUMED>(plan[at]) {
+    if at >= plan.len() || kind(plan[at]) != TAKE {
         return Err(refusal(12, line as usize));
     }
     if device > 31 {
@@ -49,7 +44,7 @@ pub fn edit<const RESUMED: bool>(
     if operand(plan[at]) == device as usize {
         return Ok(0);
     }
-    mark::<RESUMED>(plan, flags, at, until, device);
+    mark(plan, flags, at, until, device);
     plan[at] = with_device(plan[at], device);
     if until < plan.len() && job(plan[until]) == job(plan[at]) {
         plan[until] = with_device(plan[until], device);
@@ -119,26 +114,20 @@ fn test_sets(
 
 /// Whether the job of a line holds a device before it: going back in the job, the nearest line that has a flag and
 /// names the device decides.
-fn holds<const RESUMED: bool>(plan: &[u32], flags: &Flags, at: usize, device: usize) -> bool {
+fn holds(plan: &[u32], flags: &Flags, at: usize, device: usize) -> bool {
     let before = plan[..at].iter().zip(flags).rev();
     let mut of_job = before.take_while(|(&line, _)| job(line) == job(plan[at]));
-    let nearest = of_job.find(|(&line, &flag)| flag != 0 && number(line) == device);
-    nearest.is_some_and(|(_, &flag)| flag == CLAIMS || (RESUMED && flag == HOLDS))
+    let nearest = of_job.find(|(&line, &flag)| flag != 0 && operand(line) == device);
+    nearest.is_some_and(|(_, &flag)| flag == CLAIMS)
 }
 
 /// Sets the flags of the moved take and of the takes under it anew; those of gives are not asked for any more. Of the
 /// old device, if it is not held from before, those are outermost now that have no other around them; of the new one
 /// none is.
-fn mark<const RESUMED: bool>(
-    plan: &[u32],
-    flags: &mut Flags,
-    at: usize,
-    until: usize,
-    device: u32,
-) {
+fn mark(plan: &[u32], flags: &mut Flags, at: usize, until: usize, device: u32) {
     let (old, new) = (operand(plan[at]), device as usize);
     let old_held = flags[at] == 0;
-    let new_held = holds::<RESUMED>(plan, flags, at, new);
+    let new_held = holds(plan, flags, at, new);
     flags[at] = u8::from(!new_held) * CLAIMS;
     let mut open = u32::from(old_held);
     for (&line, flag) in plan.iter().zip(flags).take(until).skip(at + 1) {

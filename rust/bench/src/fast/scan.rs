@@ -1,14 +1,11 @@
-//! The tests of a plan, line by line as they come and then at its end (refusals 2 to 7, 16 and 17).
+//! The tests of a plan, line by line as they come and then at its end (refusals 2 to 7).
 
-use super::{device, is_held, job, kind, number, only_job, operand, refusal};
-use super::{GIVE, HELD, LINES, START, TAKE};
+use super::{device, job, kind, only_job, operand, refusal, GIVE, LINES, START, TAKE};
 
-/// Of each job its first line and the line that starts it, counted from 1; 0 where there is none. And the devices that
-/// held lines name.
+/// Of each job its first line and the line that starts it, counted from 1; 0 where there is none.
 pub struct Jobs {
     pub first: [usize; 65],
     pub starter: [usize; 65],
-    pub named: u32,
 }
 
 /// What each line does to a device, a flag a line: 0 where nothing changes for other jobs.
@@ -18,29 +15,21 @@ pub type Flags = [u8; LINES];
 pub const CLAIMS: u8 = 1;
 /// The flag of an outermost give: it frees its device.
 pub const FREES: u8 = 2;
-/// The flag of a held line.
-pub const HOLDS: u8 = 4;
-/// The flag of a give that ends what a held line holds; it frees its device.
-pub const CLOSES: u8 = 8 | FREES;
 
 /// Where the tests stand. What they note in arrays is kept apart, so that this stays in registers.
 #[derive(Default)]
 pub struct Present {
     /// The job of the latest line, 0 before the first.
     job: usize,
-    /// The devices that it holds, and how many of its takes and held lines wait for their gives; and how many of its
-    /// held lines do, which are the lowest.
+    /// The devices that it holds, and how many of its takes wait for their gives.
     held: u32,
     depth: usize,
-    bottom: usize,
     /// The jobs that have lines, and those that were started.
     with_lines: u64,
     started: u64,
     /// The devices that earlier jobs hold at their ends, and those that more than one of them does.
     kept: u32,
     twice: u32,
-    /// The devices that held lines name.
-    named: u32,
 }
 
 /// What is noted of the lines so far.
@@ -56,10 +45,8 @@ const AGAIN: u8 = 128;
 const NONE: u8 = 127;
 
 /// Is the number a line's?
-#[inline(always)]
-fn is_line<const RESUMED: bool>(line: u32) -> bool {
+fn is_line(line: u32) -> bool {
     let (least, most) = match kind(line) {
-        TAKE if RESUMED && operand(line) >= HELD => (HELD, HELD + 31),
         TAKE | GIVE => (0, 31),
         START => (2, 64),
         _ => (0, 255),
@@ -69,7 +56,7 @@ fn is_line<const RESUMED: bool>(line: u32) -> bool {
 
 impl Noted {
     pub fn new() -> Noted {
-        let jobs = Jobs { first: [0; 65], starter: [0; 65], named: 0 };
+        let jobs = Jobs { first: [0; 65], starter: [0; 65] };
         Noted { stack: [NONE; LINES + 1], jobs }
     }
 }
@@ -78,13 +65,8 @@ impl Present {
     /// Tests one more line, counted from 1: its flag. It stands in three loops, and called from them it would take a
     /// third longer.
     #[inline(always)]
-    pub fn line<const RESUMED: bool>(
-        &mut self,
-        noted: &mut Noted,
-        line: u32,
-        place: usize,
-    ) -> Result<u8, u64> {
-        if !is_line::<RESUMED>(line) {
+    pub fn line(&mut self, noted: &mut Noted, line: u32, place: usize) -> Result<u8, u64> {
+        if !is_line(line) {
             return Err(refusal(2, place));
         }
         if job(line) != self.job {
@@ -95,12 +77,11 @@ impl Present {
             noted.jobs.first[job(line)] = place;
         }
         match kind(line) {
-            TAKE if is_held::<RESUMED>(line) => return self.hold(noted, line, place),
             TAKE => return Ok(self.take(noted, line)),
             GIVE if noted.stack[self.depth] & !AGAIN != operand(line) as u8 => {
                 return Err(refusal(7, place));
             }
-            GIVE => return Ok(self.give::<RESUMED>(noted, line)),
+            GIVE => return Ok(self.give(noted, line)),
             START if operand(line) <= self.job => return Err(refusal(5, place)),
             START if self.started & only_job(operand(line)) != 0 => return Err(refusal(5, place)),
             START => {
@@ -122,33 +103,13 @@ impl Present {
         u8::from(!again) * CLAIMS
     }
 
-    /// A held line, which goes onto the stack too: its flag. All lines of its job before it are held lines exactly if
-    /// none of them has gone from the stack's bottom, and as many stand there as there are lines.
-    fn hold(&mut self, noted: &mut Noted, line: u32, place: usize) -> Result<u8, u64> {
-        if self.named & device(line) != 0 {
-            return Err(refusal(16, place));
-        }
-        let late = noted.jobs.first[self.job] + self.bottom != place;
-        if late || self.started & only_job(self.job) != 0 {
-            return Err(refusal(17, place));
-        }
-        self.named |= device(line);
-        self.bottom += 1;
-        self.held |= device(line);
-        self.depth += 1;
-        noted.stack[self.depth] = number(line) as u8;
-        Ok(HOLDS)
-    }
-
     /// A give of what is on top of the stack: its flag. Only an outermost one frees the device.
     #[inline(always)]
-    fn give<const RESUMED: bool>(&mut self, noted: &mut Noted, line: u32) -> u8 {
+    fn give(&mut self, noted: &mut Noted, line: u32) -> u8 {
         let outermost = noted.stack[self.depth] < AGAIN;
         self.held ^= u32::from(outermost) << operand(line);
-        let closes = RESUMED && self.depth == self.bottom;
-        self.bottom -= usize::from(closes);
         self.depth -= 1;
-        u8::from(outermost) * FREES | u8::from(closes) * CLOSES
+        u8::from(outermost) * FREES
     }
 
     /// The first line of a job, which holds nothing yet.
@@ -157,7 +118,6 @@ impl Present {
         self.job = job;
         self.held = 0;
         self.depth = 0;
-        self.bottom = 0;
         self.with_lines |= only_job(job);
     }
 
@@ -167,9 +127,8 @@ impl Present {
         self.kept |= self.held;
     }
 
-    /// The tests after the last line: every started job has lines, and in the morning every job but the first is
-    /// started.
-    pub fn end<const RESUMED: bool>(&self, noted: &Noted) -> Result<(), u64> {
+    /// The tests after the last line: every started job has lines, and every job but the first is started.
+    pub fn end(&self, noted: &Noted) -> Result<(), u64> {
         let without_lines = self.started & !self.with_lines;
         if without_lines != 0 {
             let jobs = (1..=64).filter(|&job| without_lines & only_job(job) != 0);
@@ -177,7 +136,7 @@ impl Present {
             return Err(refusal(5, lowest.unwrap_or(0)));
         }
         let never_started = self.with_lines & !self.started & !only_job(1);
-        if !RESUMED && never_started != 0 {
+        if never_started != 0 {
             let lowest = never_started.trailing_zeros() as usize + 1;
             return Err(refusal(6, noted.jobs.first[lowest]));
         }
@@ -187,48 +146,31 @@ impl Present {
 
 /// Tests a packed plan. Each line's flag is handed on, with its place from 0: who does not keep it does not pay for it.
 #[inline]
-pub fn walk<const RESUMED: bool>(
-    plan: &[u32],
-    mut keep: impl FnMut(usize, u8),
-) -> Result<(Present, Jobs), u64> {
+fn walk(plan: &[u32], mut keep: impl FnMut(usize, u8)) -> Result<(Present, Jobs), u64> {
     let (mut present, mut noted) = (Present::default(), Noted::new());
     for (at, &line) in plan.iter().take(LINES).enumerate() {
-        keep(at, present.line::<RESUMED>(&mut noted, line, at + 1)?);
+        keep(at, present.line(&mut noted, line, at + 1)?);
     }
     if plan.len() > LINES {
         return Err(refusal(3, LINES + 1));
     }
-    present.end::<RESUMED>(&noted)?;
-    noted.jobs.named = present.named;
+    present.end(&noted)?;
     Ok((present, noted.jobs))
 }
 
 /// Tests a packed plan.
-pub fn test<const RESUMED: bool>(plan: &[u32]) -> Result<(), u64> {
-    walk::<RESUMED>(plan, |_, _| {}).map(|_| ())
+pub fn test(plan: &[u32]) -> Result<(), u64> {
+    walk(plan, |_, _| {}).map(|_| ())
 }
 
 /// Tests a packed plan, and notes the flags of its lines.
-pub fn scan<const RESUMED: bool>(plan: &[u32], flags: &mut Flags) -> Result<Jobs, u64> {
-    walk::<RESUMED>(plan, |at, flag| flags[at] = flag).map(|(_, jobs)| jobs)
+pub fn scan(plan: &[u32], flags: &mut Flags) -> Result<Jobs, u64> {
+    walk(plan, |at, flag| flags[at] = flag).map(|(_, jobs)| jobs)
 }
 
-/// Shows the first step of each running job that has one, with its place from 0: behind the held lines.
-pub fn running(plan: &[u32], jobs: &Jobs, mut show: impl FnMut(usize, usize)) {
-    for of in (1..65).take_while(|&of| jobs.first[of] != 0).filter(|&of| jobs.starter[of] == 0) {
-        let mut at = jobs.first[of] - 1;
-        while plan.get(at).is_some_and(|&line| job(line) == of && is_held::<true>(line)) {
-            at += 1;
-        }
-        if plan.get(at).is_some_and(|&line| job(line) == of) {
-            show(of, at);
-        }
-    }
-}
-
-/// Tests a packed plan of the morning: the devices held to the end, and those of them with two lasting takes.
+/// Tests a packed plan: the devices held to the end, and those of them with two lasting takes.
 pub fn held(plan: &[u32]) -> Result<(u32, u32), u64> {
-    let (mut present, _) = walk::<false>(plan, |_, _| {})?;
+    let (mut present, _) = walk(plan, |_, _| {})?;
     present.keep();
     Ok((present.kept, present.twice))
 }

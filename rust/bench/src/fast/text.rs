@@ -1,20 +1,19 @@
 //! Reading and writing plans as text.
 
 use super::scan::{test, Noted, Present};
-use super::{is_held, job, kind, number, operand, refusal};
-use super::{DO, GIVE, HELD, LINES, START, TAKE};
+use super::{job, kind, operand, refusal, DO, GIVE, LINES, START, TAKE};
 
 /// The most bytes of a text.
 const BYTES: usize = 12_288;
 
 /// A text into packed numbers: the number of lines. Each line is tested as it comes, and goes into a local list until
 /// all have passed.
-pub fn read<const RESUMED: bool>(text: &[u8], plan: &mut [u32]) -> u64 {
+pub fn read(text: &[u8], plan: &mut [u32]) -> u64 {
     if text.len() > BYTES {
         return refusal(1, 0);
     }
     let mut lines = [0; LINES];
-    let count = match gather::<RESUMED>(text, &mut lines) {
+    let count = match gather(text, &mut lines) {
         Ok(count) => count,
         Err(refusal) => return refusal,
     };
@@ -26,7 +25,7 @@ pub fn read<const RESUMED: bool>(text: &[u8], plan: &mut [u32]) -> u64 {
 }
 
 /// The lines of a text, with the tests: how many they are.
-fn gather<const RESUMED: bool>(text: &[u8], lines: &mut [u32; LINES]) -> Result<usize, u64> {
+fn gather(text: &[u8], lines: &mut [u32; LINES]) -> Result<usize, u64> {
     let (mut present, mut noted) = (Present::default(), Noted::new());
     let mut rest = text;
     let mut count = 0;
@@ -34,40 +33,34 @@ fn gather<const RESUMED: bool>(text: &[u8], lines: &mut [u32; LINES]) -> Result<
         if count == LINES {
             return Err(refusal(3, LINES + 1));
         }
-        let Some((line, past)) = line_at::<RESUMED>(rest) else {
+        let Some((line, past)) = line_at(rest) else {
             return Err(refusal(2, count + 1));
         };
-        present.line::<RESUMED>(&mut noted, line, count + 1)?;
+        present.line(&mut noted, line, count + 1)?;
         lines[count] = line;
         count += 1;
         rest = past;
     }
-    present.end::<RESUMED>(&noted)?;
+    present.end(&noted)?;
     Ok(count)
 }
 
 /// The packed number of the line in front, with what stands past it. Job and operand are up to 255 here; their ranges
-/// are tested with the packed number, but for takes and held lines of resumed plans, which are told apart by that.
-fn line_at<const RESUMED: bool>(text: &[u8]) -> Option<(u32, &[u8])> {
+/// are tested with the packed number.
+fn line_at(text: &[u8]) -> Option<(u32, &[u8])> {
     let (job, text) = number_at(text, b'\t')?;
-    let (verb, text) = verb_at::<RESUMED>(text)?;
+    let (kind, text) = verb_at(text)?;
     let (operand, text) = number_at(text, b'\n')?;
-    if RESUMED && kind(verb) == TAKE && operand > 31 {
-        return None;
-    }
-    Some((job * 1_024 + verb + operand, text))
+    Some((job * 1_024 + kind * 256 + operand, text))
 }
 
-/// What a packed number has for the verb in front, which a tab ends.
-fn verb_at<const RESUMED: bool>(text: &[u8]) -> Option<(u32, &[u8])> {
+/// The kind of the verb in front, which a tab ends.
+fn verb_at(text: &[u8]) -> Option<(u32, &[u8])> {
     match text {
-        [b'd', b'o', b'\t', past @ ..] => Some((DO * 256, past)),
-        [b't', b'a', b'k', b'e', b'\t', past @ ..] => Some((TAKE * 256, past)),
-        [b'g', b'i', b'v', b'e', b'\t', past @ ..] => Some((GIVE * 256, past)),
-        [b's', b't', b'a', b'r', b't', b'\t', past @ ..] => Some((START * 256, past)),
-        [b'h', b'e', b'l', b'd', b'\t', past @ ..] if RESUMED => {
-            Some((TAKE * 256 + HELD as u32, past))
-        }
+        [b'd', b'o', b'\t', past @ ..] => Some((DO, past)),
+        [b't', b'a', b'k', b'e', b'\t', past @ ..] => Some((TAKE, past)),
+        [b'g', b'i', b'v', b'e', b'\t', past @ ..] => Some((GIVE, past)),
+        [b's', b't', b'a', b'r', b't', b'\t', past @ ..] => Some((START, past)),
         _ => None,
     }
 }
@@ -89,14 +82,14 @@ fn number_at(text: &[u8], end: u8) -> Option<(u32, &[u8])> {
 }
 
 /// A packed plan into text: the number of bytes.
-pub fn write<const RESUMED: bool>(plan: &[u32], text: &mut [u8]) -> u64 {
-    if let Err(refusal) = test::<RESUMED>(plan) {
+pub fn write(plan: &[u32], text: &mut [u8]) -> u64 {
+    if let Err(refusal) = test(plan) {
         return refusal;
     }
     let mut made = [0; BYTES];
     let mut at = 0;
     for &line in plan {
-        at = put_line::<RESUMED>(&mut made, at, line);
+        at = put_line(&mut made, at, line);
     }
     let Some(text) = text.get_mut(..at) else {
         return refusal(11, at);
@@ -106,13 +99,8 @@ pub fn write<const RESUMED: bool>(plan: &[u32], text: &mut [u8]) -> u64 {
 }
 
 /// Puts a line behind what is made: the place past it.
-fn put_line<const RESUMED: bool>(made: &mut [u8; BYTES], at: usize, line: u32) -> usize {
+fn put_line(made: &mut [u8; BYTES], at: usize, line: u32) -> usize {
     let at = put_number(made, at, job(line) as u8);
-    if is_held::<RESUMED>(line) {
-        let at = put(made, at, b"\theld\t");
-        let at = put_number(made, at, number(line) as u8);
-        return put(made, at, b"\n");
-    }
     let at = match kind(line) {
         TAKE => put(made, at, b"\ttake\t"),
         GIVE => put(made, at, b"\tgive\t"),

@@ -1,10 +1,8 @@
-//! The verdict: rows, circles, and the order handed out. For resumed plans what is under way is closed first, as
-//! `closing.rs` finds it.
+//! The verdict: rows, circles, and the order handed out.
 
 use super::claims::own;
-use super::closing::Stretches;
-use super::scan::{running, walk, Flags, Jobs, CLAIMS, HOLDS};
-use super::{device, job, kind, number, only_job, operand, refusal, GIVE, LINES, START, TAKE};
+use super::scan::{scan, Flags, Jobs, CLAIMS};
+use super::{device, job, kind, only_job, operand, refusal, GIVE, LINES, START, TAKE};
 
 /// What a walk back over a plan finds.
 struct Found {
@@ -19,23 +17,16 @@ struct Found {
 }
 
 /// The verdict on a plan, with its order: the number of devices still held.
-pub fn verdict<const RESUMED: bool>(plan: &[u32], order: &mut [u16]) -> u64 {
-    let (mut flags, mut stretches) = ([0; LINES], Stretches::default());
-    let walked = walk::<RESUMED>(plan, |at, flag| {
-        flags[at] = flag;
-        if RESUMED && flag != 0 {
-            stretches.line(at, plan[at], flag);
-        }
-    });
-    let jobs = match walked {
-        Ok((_, jobs)) => jobs,
+pub fn verdict(plan: &[u32], order: &mut [u16]) -> u64 {
+    let mut flags = [0; LINES];
+    let jobs = match scan(plan, &mut flags) {
+        Ok(jobs) => jobs,
         Err(refusal) => return refusal,
     };
-    let steps = plan.len() - jobs.named.count_ones() as usize;
-    let Some(order) = order.get_mut(..steps) else {
-        return refusal(11, steps);
+    let Some(order) = order.get_mut(..plan.len()) else {
+        return refusal(11, plan.len());
     };
-    let found = walk_back::<RESUMED>(plan, &flags);
+    let found = walk_back(plan, &flags);
     if found.twice != 0 {
         return refusal(9, found.twice.trailing_zeros() as usize);
     }
@@ -43,16 +34,13 @@ pub fn verdict<const RESUMED: bool>(plan: &[u32], order: &mut [u16]) -> u64 {
     if back != 0 {
         return refusal(10, back.trailing_zeros() as usize);
     }
-    if RESUMED && !stretches.close(jobs.named) {
-        return refusal(10, jobs.named.trailing_zeros() as usize);
-    }
-    hand_out::<RESUMED>(plan, &flags, &jobs, &found, &stretches, order);
+    hand_out(plan, &flags, &jobs, &found, order);
     found.held.count_ones().into()
 }
 
 /// Goes back over a plan without a fault. An outermost take lasts if no give wants it; each give has its take in its
 /// own job, so none is wanted where a job begins.
-fn walk_back<const RESUMED: bool>(plan: &[u32], flags: &Flags) -> Found {
+fn walk_back(plan: &[u32], flags: &Flags) -> Found {
     let mut found =
         Found { lasting: [false; LINES], held: 0, twice: 0, rows: [0; 32], takes: [0; 32] };
     let mut first = [0; 65];
@@ -65,10 +53,8 @@ fn walk_back<const RESUMED: bool>(plan: &[u32], flags: &Flags) -> Found {
                     wanted -= 1;
                 } else if flag == CLAIMS {
                     found.last(line, at, next);
-                } else if RESUMED && flag == HOLDS {
-                    found.keep(line);
                 }
-                found.takes[number(line)] += u32::from(flag & CLAIMS);
+                found.takes[operand(line)] += u32::from(flag & CLAIMS);
                 first[job(line)] = next | own(line, flag);
             }
             GIVE => wanted += 1,
@@ -83,14 +69,9 @@ impl Found {
     /// A lasting take, with what its job claims after it.
     fn last(&mut self, line: u32, at: usize, next: u32) {
         self.lasting[at] = true;
-        self.keep(line);
-        self.rows[operand(line)] |= next;
-    }
-
-    /// A line that keeps its device to the end: such a take, or a held line without a give.
-    fn keep(&mut self, line: u32) {
         self.twice |= self.held & device(line);
         self.held |= device(line);
+        self.rows[operand(line)] |= next;
     }
 }
 
@@ -124,34 +105,19 @@ struct Places {
     of_device: [usize; 32],
 }
 
-/// The order of a plan that has one. A segment that is under way is gone through like what a job does that can go on.
-fn hand_out<const RESUMED: bool>(
-    plan: &[u32],
-    flags: &Flags,
-    jobs: &Jobs,
-    found: &Found,
-    stretches: &Stretches,
-    order: &mut [u16],
-) {
+/// The order of a plan that has one.
+fn hand_out(plan: &[u32], flags: &Flags, jobs: &Jobs, found: &Found, order: &mut [u16]) {
     let mut takes = found.takes;
     let scarce = (0..32).fold(0, |scarce, device| scarce | u32::from(takes[device] <= 1) << device);
     let mut waiting = Waiting { ready: 0, standing: 0, scarce };
     let mut places = Places { of_job: [0; 65], of_device: [0; 32] };
     let (mut at, mut goes_on) = (0, false);
-    // The segments to come, and how far the one goes that is being done.
-    let (mut segments, mut until) = (stretches.segments(), usize::MAX);
-    if RESUMED {
-        running(plan, jobs, |_, at| waiting.arrive(&mut places, plan, found, at));
-    } else if !plan.is_empty() {
+    if !plan.is_empty() {
         waiting.arrive(&mut places, plan, found, 0);
     }
     for entry in order {
         if !goes_on {
-            until = if RESUMED { segments.next().unwrap_or(usize::MAX) } else { usize::MAX };
-            at = match until {
-                usize::MAX => waiting.leave(&places),
-                give => waiting.go(&places, job(plan[give])),
-            };
+            at = waiting.leave(&places);
         }
         *entry = at as u16 + 1;
         let line = plan[at];
@@ -165,12 +131,10 @@ fn hand_out<const RESUMED: bool>(
             START => waiting.arrive(&mut places, plan, found, jobs.first[operand(line)] - 1),
             _ => {}
         }
-        let ends = RESUMED && at == until;
         at += 1;
         let in_job = at < plan.len() && job(plan[at]) == job(line);
-        // The jobs that it has started are higher, so a job that can go on is the lowest. After a segment it is asked
-        // again who is.
-        goes_on = in_job && !found.lasting[at] && !ends;
+        // The jobs that it has started are higher, so a job that can go on is the lowest.
+        goes_on = in_job && !found.lasting[at];
         if in_job && !goes_on {
             waiting.arrive(&mut places, plan, found, at);
         }
@@ -188,12 +152,6 @@ impl Waiting {
             self.ready |= only_job(job(line));
             places.of_job[job(line)] = at;
         }
-    }
-
-    /// The line at which a job stands that does its segment: no such line lasts.
-    fn go(&mut self, places: &Places, job: usize) -> usize {
-        self.ready ^= only_job(job);
-        places.of_job[job]
     }
 
     /// The line that goes next, by (a), else by (b).

@@ -2,20 +2,18 @@
 
 use super::entry::wrong_form;
 use super::{inner, plain_line, pointed_line, Concerned, Diagnosis, Field, Found};
-use crate::input::Text;
 use crate::list::{List, Written};
 use crate::names::Names;
 use crate::shown;
 use crate::words::{counted, few, one_of};
-use gimmerskip::{Holds, Plan, Reader, Refusal, Step, Verb};
+use gimmerskip::{Holds, Plan, Refusal, Step, Verb};
 
 /// What is wrong with a list that the library refuses so, for the plan in this text.
-pub fn of_list(text: &Text, list: &List, refusal: Refusal, names: &Names) -> Diagnosis {
-    let found = text.plan().ok().and_then(|plan| {
+pub fn of_list(text: &[u8], list: &List, refusal: Refusal, names: &Names) -> Diagnosis {
+    let found = super::plan(text).and_then(|plan| {
         let (holds, position) = (plan.holds(), refusal.place() as usize);
         let turns = turns(&plan, list.entries.get(..position.checked_sub(1)?)?)?;
-        let (plan, holds) = (&plan, &holds);
-        Astray { text: &text.bytes, plan, holds, list, turns, position, names }.found()
+        Astray { text, plan: &plan, holds: &holds, list, turns, position, names }.found()
     });
     match found {
         Some(found) => Diagnosis::of(refusal, found),
@@ -23,11 +21,9 @@ pub fn of_list(text: &Text, list: &List, refusal: Refusal, names: &Names) -> Dia
     }
 }
 
-/// For each line the position of the entry by which it is done, or 0 for a held line, which is so from the beginning.
-/// The library has found each of the entries a legal step.
+/// For each line the position of the entry by which it is done. The library has found each of them a legal step.
 fn turns(plan: &Plan, done: &[u16]) -> Option<Vec<Option<usize>>> {
-    let turn = |step: Step| (step.verb == Verb::Held).then_some(0);
-    let mut turns: Vec<Option<usize>> = plan.steps().map(turn).collect();
+    let mut turns = vec![None; plan.len()];
     for (turn, line) in (1..).zip(done) {
         *turns.get_mut(usize::from(*line).checked_sub(1)?)? = Some(turn);
     }
@@ -58,11 +54,9 @@ impl Astray<'_> {
             },
         };
         if self.plan.verdict().is_err() {
-            let resume = if self.plan.reader() == Reader::Midday { " --resume" } else { "" };
-            found.said.push(format!(
-                "The plan has no legal order, so that every list is refused somewhere; `gimmerskip explain{resume} \
-                 PLAN` says why."
-            ));
+            let words = "The plan has no legal order, so that every list is refused somewhere; `gimmerskip explain \
+                         PLAN` says why.";
+            found.said.push(words.to_string());
         }
         Some(found)
     }
@@ -93,8 +87,8 @@ impl Astray<'_> {
         self.lines(earlier).first().copied()
     }
 
-    /// The outermost take or held line by which the device of a take is held: it is done, and its give is not. What its
-    /// own job holds a take need not wait for.
+    /// The outermost take by which the device of a take is held: it is done, and its give is not. What its own job
+    /// holds a take need not wait for.
     fn holder(&self, line: u16, step: Step) -> Option<u16> {
         if step.verb != Verb::Take || self.holds.takes_again(line) {
             return None;
@@ -175,10 +169,7 @@ impl Astray<'_> {
     fn no_step(&self, line: u16, step: Step) -> Option<Found> {
         let job = step.job;
         if let Some(turn) = self.turn(line) {
-            let words = match turn {
-                0 => format!("line {line}, which says what is held: it is no step"),
-                _ => format!("line {line} again: entry {turn} has done it"),
-            };
+            let words = format!("line {line} again: entry {turn} has done it");
             return Some(self.about(&words, vec![plain_line(self.text, line.into())?]));
         }
         if let Some(start) = self.start(job) {
@@ -199,11 +190,9 @@ impl Astray<'_> {
     fn of_held(&self, line: u16, step: Step) -> Option<Found> {
         let holder = self.holder(line, step)?;
         let (job, device) = (self.plan.step(holder)?.job, self.names.words(step.operand));
-        let since = match self.turn(holder) {
-            Some(0) => format!("from the beginning (line {holder})"),
-            _ => format!("from line {holder} on"),
-        };
-        let words = format!("line {line}: it takes {device}, but job {job} holds that {since}");
+        let words = format!(
+            "line {line}: it takes {device}, but job {job} holds that from line {holder} on"
+        );
         let mut found = self.about(&words, self.two(line, holder, Field::Operand)?);
         found.said.push(match self.holds.mate(holder) {
             Some(give) => format!("Job {job} gives it back at line {give}, which is not done."),

@@ -69,7 +69,7 @@ fn wrong_number(bytes: &[u8]) -> &'static str {
         [b'+' | b'-', rest @ ..] if is_digits(rest) => ", with a sign",
         [_, ..] if bytes.iter().all(is_gap) => ", spaces or tabs alone",
         _ if gaps::loose_fields(bytes, 0..bytes.len()).is_some() => {
-            ", which looks like a line of a plan: PLAN comes first, then the list"
+            ", which looks like a line of a plan: PLAN comes first, then ORDER"
         }
         _ if words.is_empty() || !words.iter().all(|word| is_digits(word)) => {
             ", which is no number"
@@ -154,7 +154,7 @@ mod tests {
         assert_eq!(words(b"line 4"), "is 'line 4', which is no number");
         assert_eq!(words(b","), "is ',', which is no number");
         assert_eq!(words(b"--"), "is '--', which is no number");
-        let plan = "which looks like a line of a plan: PLAN comes first, then the list";
+        let plan = "which looks like a line of a plan: PLAN comes first, then ORDER";
         for line in [&b"1\ttake\t1"[..], b"1 take 1", b"1\ttake\t1\r"] {
             assert!(words(line).ends_with(plan), "{line:?}");
         }

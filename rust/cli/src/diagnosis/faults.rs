@@ -1,7 +1,6 @@
-//! Refusals 4 to 7, 16 and 17: lines that are right by themselves, but not after the others.
+//! Refusals 4 to 7: lines that are right by themselves, but not after the others.
 
 use super::{plain_line, pointed_line, steps, Field, Found};
-use crate::input::Text;
 use crate::names::Names;
 use crate::words::{listed, together};
 use gimmerskip::{Refusal, Step, Verb};
@@ -14,29 +13,24 @@ struct Place<'a> {
     names: &'a Names,
 }
 
-/// What is wrong with the line at the place of a refusal that is about a line.
-pub fn of_line(text: &Text, refusal: Refusal, names: &Names) -> Option<Found> {
-    let (steps, number) = (steps(text), refusal.place() as usize);
-    let place = Place { text: &text.bytes, steps, number, names };
+/// What is wrong with the line at the place of a refusal from 4 to 7.
+pub fn of_line(text: &[u8], refusal: Refusal, names: &Names) -> Option<Found> {
+    let place = Place { text, steps: steps(text), number: refusal.place() as usize, names };
     match refusal {
         Refusal::JobOutOfSequence(_) => place.out_of_sequence(),
         Refusal::BadStart(_) => place.bad_start(),
         Refusal::NeverStarted(_) => place.never_started(),
         Refusal::GiveWithoutTake(_) => place.give_without_take(),
-        Refusal::HeldTwice(_) => place.held_twice(),
-        Refusal::HeldLate(_) => place.held_late(),
         _ => None,
     }
 }
 
-/// A take or a held line whose give has not come.
+/// A take whose give has not come.
 struct Taken {
     device: u8,
     line: usize,
     /// Whether the job held the device already.
     again: bool,
-    /// Whether it is a held line.
-    held: bool,
 }
 
 /// What a job has in hand before a line of it, the latest take last.
@@ -45,10 +39,10 @@ fn in_hand(steps: &[Step], number: usize) -> Vec<Taken> {
     let Some(here) = number.checked_sub(1).and_then(|at| steps.get(at)) else { return held };
     for (line, step) in (1..number).zip(steps).filter(|(_, step)| step.job == here.job) {
         match step.verb {
-            Verb::Take | Verb::Held => {
+            Verb::Take => {
                 let device = step.operand;
                 let again = held.iter().any(|taken| taken.device == device);
-                held.push(Taken { device, line, again, held: step.verb == Verb::Held });
+                held.push(Taken { device, line, again });
             }
             Verb::Give => drop(held.pop()),
             _ => {}
@@ -170,8 +164,7 @@ impl Place<'_> {
         };
         let into = if job == 2 { "job 1" } else { "one of them" };
         let mend = format!("put a start of job {job} into {into}");
-        let resumed = "In a resumed plan (`gimmerskip resume`) it would be running.".to_string();
-        Some(Found { said: vec![could, resumed], mend, ..found })
+        Some(Found { said: vec![could], mend, ..found })
     }
 
     /// 7.
@@ -201,12 +194,10 @@ impl Place<'_> {
     fn not_the_latest(&self, step: Step, last: &Taken, held: &[Taken]) -> Option<Found> {
         let (number, job, device) = (self.number, step.job, self.names.words(step.operand));
         let (line, again) = (last.line, if last.again { " again" } else { "" });
-        let by = if last.held { "as held line" } else { "in line" };
-        let tells = if last.held { " says" } else { "" };
         let last = self.names.words(last.device);
         if held.iter().any(|taken| taken.device == step.operand) {
             let head = format!(
-                "line {number} gives {device}, but job {job} took {last}{again} after it, {by} {line}{tells}"
+                "line {number} gives {device}, but job {job} took {last}{again} after it, in line {line}"
             );
             let mend = format!("give {last} back first: what was taken last is given first");
             return Some(Found { mend, ..self.found(head, Some(line), Field::Operand)? });
@@ -217,11 +208,10 @@ impl Place<'_> {
         Some(Found { said, mend, ..self.found(head, Some(line), Field::Operand)? })
     }
 
-    /// What a job holds, in words: each device once, by its held line or from its outermost take on.
+    /// What a job holds, in words: each device once, from its outermost take on.
     fn holding(&self, job: u8, held: &[Taken]) -> String {
-        let words = |taken: &Taken| match (self.names.words(taken.device), taken.line) {
-            (device, line) if taken.held => format!("{device} by line {line}"),
-            (device, line) => format!("{device} from line {line} on"),
+        let words = |taken: &Taken| {
+            format!("{} from line {} on", self.names.words(taken.device), taken.line)
         };
         let words: Vec<String> = held.iter().filter(|taken| !taken.again).map(words).collect();
         format!("There job {job} holds {}.", listed(&words))
@@ -236,53 +226,5 @@ impl Place<'_> {
     /// That the job gave the device back earlier.
     fn gave(&self, step: Step, line: usize) -> String {
         format!("Job {} gave {} back in line {line}.", step.job, self.names.words(step.operand))
-    }
-
-    /// 16.
-    fn held_twice(&self) -> Option<Found> {
-        let (number, step) = (self.number, self.step()?);
-        let is_same = |other: &Step| (other.verb, other.operand) == (Verb::Held, step.operand);
-        let at = self.steps[..number - 1].iter().position(is_same)?;
-        let (line, device) = (at + 1, self.names.words(step.operand));
-        let (job, other) = (step.job, self.steps[at].job);
-        let (tells, said) = match other == job {
-            true => (
-                format!("as line {line} does"),
-                "A held device is named once, however often its job took it.",
-            ),
-            false => (
-                format!("which job {other} holds by line {line}"),
-                "A device is held by one job at most.",
-            ),
-        };
-        let head = format!("line {number} says that job {job} holds {device}, {tells}");
-        let (said, mend) = (said.to_string(), "take one of the two held lines out".to_string());
-        Some(Found { said: vec![said], mend, ..self.found(head, Some(line), Field::Operand)? })
-    }
-
-    /// 17.
-    fn held_late(&self) -> Option<Found> {
-        let (number, step) = (self.number, self.step()?);
-        let job = step.job;
-        let starts = |other: &Step| other.verb == Verb::Start && other.operand == job;
-        if let Some(at) = self.steps[..number - 1].iter().position(starts) {
-            let line = at + 1;
-            let head =
-                format!("line {number} says what job {job} holds, but line {line} starts that job");
-            let said = "A job that is still to be started holds nothing.".to_string();
-            let mend = "take the held line out, or the start if the job is running".to_string();
-            let found = self.found(head, Some(line), Field::Job)?;
-            return Some(Found { said: vec![said], mend, ..found });
-        }
-        let is_other = |other: &Step| other.job == job && other.verb != Verb::Held;
-        let at = self.steps[..number - 1].iter().position(is_other)?;
-        let (line, verb) = (at + 1, self.steps[at].verb);
-        let head = format!(
-            "line {number} says what job {job} holds, but line {line} before it is a {verb} of that job"
-        );
-        let said = "What a job holds from the beginning stands in front of all its other lines.";
-        let mend = format!("put line {number} before line {line}");
-        let found = self.found(head, Some(line), Field::Job)?;
-        Some(Found { said: vec![said.to_string()], mend, ..found })
     }
 }

@@ -27,19 +27,9 @@ fn no_take(plan: &Plan, asked: u32) -> String {
     let Some((line, step)) = line.and_then(|line| Some((line, plan.step(line)?))) else {
         return format!("there is no line {asked}: the plan has {}", counted(plan.len(), "line"));
     };
-    let what = match step.verb {
-        Verb::Held => "held line".to_string(),
-        verb => verb.to_string(),
-    };
     let its_take = plan.holds().take_of(line).filter(|_| step.verb == Verb::Give);
-    let its_take = its_take.map(|take| match plan.step(take).map(|step| step.verb) {
-        Some(Verb::Held) => format!(": it gives back what line {take} holds"),
-        _ => format!(": its take is in line {take}"),
-    });
-    format!(
-        "line {asked} is a {what}, and only a take can be moved{}",
-        its_take.unwrap_or_default()
-    )
+    let its_take = its_take.map(|take| format!(": its take is in line {take}")).unwrap_or_default();
+    format!("line {asked} is a {}, and only a take can be moved{its_take}", step.verb)
 }
 
 #[cfg(test)]
@@ -55,14 +45,6 @@ mod tests {
         assert_eq!(head(Refusal::NotATake(9)), "there is no line 9: the plan has 3 lines");
         let none = "there is no device 40: devices are 0 to 31";
         assert_eq!(head(Refusal::NoSuchDevice(40)), none);
-        let text = "1\theld\t0\n1\tgive\t0\n";
-        let resumed = Plan::from_text_by(gimmerskip::Reader::Midday, text).expect("no fault");
-        let head_of = |refusal| of_move(&resumed, refusal).head;
-        let held = "line 1 is a held line, and only a take can be moved";
-        assert_eq!(head_of(Refusal::NotATake(1)), held);
-        let give =
-            "line 2 is a give, and only a take can be moved: it gives back what line 1 holds";
-        assert_eq!(head_of(Refusal::NotATake(2)), give);
         // The command makes its table anew and cannot meet this one: the library's words will do.
         let stale = Refusal::StaleTable(1);
         assert_eq!(head(stale), stale.to_string());

@@ -1,61 +1,48 @@
-//! Refusals 9 and 10: plans that are right as written, but have no order. Where 10 is not because of a circle, what is
-//! held from the beginning hinders: its words stand in `hindered.rs`.
+//! Refusals 9 and 10: plans that are right as written, but have no order.
 
 use super::tried::Trial;
-use super::{hindered, inner, pointed_line, Field, Found};
-use crate::input::Text;
+use super::{inner, plan, pointed_line, Field, Found};
 use crate::names::{Names, DEVICES};
 use crate::words::listed;
-use gimmerskip::{Arc, Holds, Plan, Verb};
+use gimmerskip::{Arc, Holds, Plan};
 
-/// 9: all lines that keep the device to the end, lasting takes and held lines.
-pub fn two_lasting(text: &Text, device: u32, names: &Names) -> Option<Found> {
-    let plan = text.plan().ok()?;
+/// 9: all lasting takes of the device.
+pub fn two_lasting(text: &[u8], device: u32, names: &Names) -> Option<Found> {
+    let plan = plan(text)?;
     let device = u8::try_from(device).ok()?;
     let holds = plan.holds();
-    let keepers = holds.keepers(device);
-    if keepers.len() < 2 {
+    let takes = holds.lasting_takes(device);
+    if takes.len() < 2 {
         return None;
     }
     let words = names.words(device);
-    let lines = match keepers.len() {
-        0..=6 => format!("lines {}", listed(&keepers)),
-        count => format!("{count} lines, the first two being {} and {}", keepers[0], keepers[1]),
+    let lines = match takes.len() {
+        0..=6 => format!("lines {}", listed(&takes)),
+        count => format!("{count} lines, the first two being {} and {}", takes[0], takes[1]),
     };
-    let is_held = |line: u16| plan.step(line).is_some_and(|step| step.verb == Verb::Held);
-    let taken = if keepers.iter().any(|&line| is_held(line)) { "" } else { "taken and " };
-    let shown = keepers.iter().map(|&line| pointed_line(&text.bytes, line.into(), Field::Operand));
-    let jobs = if keepers.len() == 2 { "one of the two jobs" } else { "all but one of these jobs" };
+    let said = takes.iter().flat_map(|&line| {
+        let keeps = plan.step(line).map(|take| {
+            format!("Job {} takes {words} in line {line} and never gives it back.", take.job)
+        });
+        keeps.into_iter().chain(inner::told(&holds, line, &words, |_| true))
+    });
+    let shown = takes.iter().map(|&line| pointed_line(text, line.into(), Field::Operand));
+    let jobs = if takes.len() == 2 { "one of the two jobs" } else { "all but one of these jobs" };
     Some(Found {
-        head: format!("{words} is {taken}kept to the end in {lines}: only one can keep it"),
+        head: format!("{words} is taken and kept to the end in {lines}: only one can keep it"),
         lines: shown.collect::<Option<_>>()?,
-        said: keepers.iter().flat_map(|&line| keeps(&plan, &holds, line, &words)).collect(),
+        said: said.collect(),
         mend: format!("let {jobs} give the device back"),
-        example: Trial { plan: &plan, holds: &holds, names }.of_takes(keepers.iter().copied()),
+        example: Trial { plan: &plan, holds: &holds, names }.of_takes(takes.iter().copied()),
     })
 }
 
-/// How a line keeps its device to the end, and the inner give that could be taken for its own.
-fn keeps(plan: &Plan, holds: &Holds, line: u16, device: &str) -> Vec<String> {
-    let words = plan.step(line).map(|step| match (step.verb, step.job) {
-        (Verb::Held, job) => {
-            format!("Job {job} holds {device} from the beginning (line {line}) and never gives it back.")
-        }
-        (_, job) => format!("Job {job} takes {device} in line {line} and never gives it back."),
-    });
-    words.into_iter().chain(inner::told(holds, line, device, |_| true)).collect()
-}
-
-/// 10: a shortest circle through the device and, where other devices have a shorter one, that one too. Where the device
-/// leads nowhere, it is what is held from the beginning.
-pub fn leads_back(text: &Text, device: u32, names: &Names) -> Option<Found> {
-    let plan = text.plan().ok()?;
+/// 10: a shortest circle through the device and, where other devices have a shorter one, that one too.
+pub fn leads_back(text: &[u8], device: u32, names: &Names) -> Option<Found> {
+    let plan = plan(text)?;
     let device = u8::try_from(device).ok()?;
     let holds = plan.holds();
-    let trial = Trial { plan: &plan, holds: &holds, names };
-    let Some(circle) = holds.circle_through(device) else {
-        return hindered::found(&text.bytes, &trial, device);
-    };
+    let circle = holds.circle_through(device)?;
     let shorter = shortest(&holds).filter(|other| other.len() < circle.len());
     let told = Told { plan: &plan, holds: &holds, names };
     let head = told.head(&circle);
@@ -67,11 +54,10 @@ pub fn leads_back(text: &Text, device: u32, names: &Names) -> Option<Found> {
         ]);
         said.extend(told.said(other));
     }
-    let besides = hindered::found(&text.bytes, &trial, device);
-    said.extend(besides.map(|found| format!("Besides, {}.", found.head)));
-    let keeps = pointed_line(&text.bytes, circle.first()?.line.into(), Field::Operand)?;
+    let keeps = pointed_line(text, circle.first()?.line.into(), Field::Operand)?;
     // Whoever breaks the shortest circle has the least to look at.
     let mend = mend(&plan, shorter.as_ref().unwrap_or(&circle), names);
+    let trial = Trial { plan: &plan, holds: &holds, names };
     let example = shorter.iter().chain([&circle]).find_map(|circle| trial.of_circle(circle));
     Some(Found { head, lines: vec![keeps], said, mend, example })
 }

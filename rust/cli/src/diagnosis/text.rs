@@ -5,7 +5,7 @@ use crate::input::Text;
 use crate::look::{look, Finding, OUT};
 use crate::shown::{self, Tabs};
 use crate::words::{counted, grouped, listed};
-use gimmerskip::{Reader, MAX_BYTES, MAX_LINES};
+use gimmerskip::{MAX_BYTES, MAX_LINES};
 
 /// The most bytes that a line needs, with its newline.
 const LONGEST_LINE: usize = 12;
@@ -30,7 +30,7 @@ pub fn too_long(text: &Text) -> Option<Found> {
     found.said.push(format!("Byte {first}, the first too many, stands in line {line}."));
     found.mend = SPLIT.to_string();
     // A text of the wrong form may be too long only because of it.
-    if let Some((shown, first)) = wrong_form(text) {
+    if let Some((shown, first)) = wrong_form(&text.bytes) {
         found.lines.push(shown);
         found.said.push(format!("Line 1 {}.", first.words));
         found.mend = format!("{}; if it is still too long, {SPLIT}", first.mend);
@@ -47,21 +47,21 @@ pub fn too_long(text: &Text) -> Option<Found> {
 }
 
 /// What is wrong with the first line, if anything.
-fn wrong_form(text: &Text) -> Option<(Concerned, Finding)> {
-    let (line, _) = line_of(&text.bytes, 1)?;
-    let first = look(text.reader, line, true, true).into_iter().next()?;
+fn wrong_form(text: &[u8]) -> Option<(Concerned, Finding)> {
+    let (line, _) = line_of(text, 1)?;
+    let first = look(line, true, true).into_iter().next()?;
     let shown = shown::line(line, first.at.clone(), Tabs::Marked);
     Some((Concerned { number: 1, shown }, first))
 }
 
 /// 2: what the look finds, with the first of it pointed at.
-pub fn malformed(text: &Text, number: usize) -> Option<Found> {
-    let (line, ended) = line_of(&text.bytes, number)?;
-    let findings = look(text.reader, line, ended, number == 1);
+pub fn malformed(text: &[u8], number: usize) -> Option<Found> {
+    let (line, ended) = line_of(text, number)?;
+    let findings = look(line, ended, number == 1);
     let Some(first) = findings.first() else {
         return Some(Found {
             head: format!("line {number} is malformed"),
-            lines: vec![whole_line(&text.bytes, number)?],
+            lines: vec![whole_line(text, number)?],
             said: vec![SHAPE.to_string()],
             mend: "look at the line with an editor that shows tabs".to_string(),
             example: None,
@@ -76,7 +76,7 @@ pub fn malformed(text: &Text, number: usize) -> Option<Found> {
             said.push(sentence);
         }
     }
-    let lines = of_each_line(text.reader, &text.bytes);
+    let lines = of_each_line(text);
     said.extend(same_fault(&lines, &first.words));
     said.extend(other_faults(&lines, &first.words));
     Some(Found {
@@ -89,11 +89,11 @@ pub fn malformed(text: &Text, number: usize) -> Option<Found> {
 }
 
 /// What is wrong with each line of a text.
-fn of_each_line(reader: Reader, text: &[u8]) -> Vec<Vec<Finding>> {
+fn of_each_line(text: &[u8]) -> Vec<Vec<Finding>> {
     let lines = text.split_inclusive(|&byte| byte == b'\n').enumerate();
     let found = lines.map(|(at, line)| {
         let bare = line.strip_suffix(b"\n");
-        look(reader, bare.unwrap_or(line), bare.is_some(), at == 0)
+        look(bare.unwrap_or(line), bare.is_some(), at == 0)
     });
     found.collect()
 }

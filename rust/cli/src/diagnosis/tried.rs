@@ -2,7 +2,7 @@
 
 use crate::names::Names;
 use crate::words::{listed, together};
-use gimmerskip::{Arc, Holds, Plan, Segment, Step, Verb, Wait};
+use gimmerskip::{Arc, Holds, Plan, Step, Verb};
 
 /// A plan without an order, and who holds what in it.
 pub struct Trial<'a> {
@@ -24,24 +24,9 @@ impl Trial<'_> {
         moved.or_else(|| self.of_takes(takes))
     }
 
-    /// A way to mend by letting the job of one of these lines, which keep devices to the end, give the device back.
+    /// A way to mend by letting the job of one of these lasting takes give the device back.
     pub fn of_takes(&self, mut takes: impl Iterator<Item = u16>) -> Option<String> {
         takes.find_map(|line| self.given_back(line))
-    }
-
-    /// A way to close the stretches that are under way: the give that ends a segment, put before what has to wait.
-    pub fn of_segments(&self, stuck: &[(Segment, Wait)]) -> Option<String> {
-        stuck.iter().find_map(|(segment, wait)| {
-            let mut places = (segment.first..=wait.take).rev();
-            places.find_map(|before| self.given_before(segment.last, before))
-        })
-    }
-
-    /// A give put before an earlier line of its job.
-    fn given_before(&self, give: u16, before: u16) -> Option<String> {
-        let mut lines = self.plan.packed().to_vec();
-        lines[usize::from(before) - 1..usize::from(give)].rotate_right(1);
-        self.has_order(lines).then(|| told(&format!("line {give} put before line {before}")))
     }
 
     /// What an arc needs, put before what it keeps.
@@ -52,7 +37,7 @@ impl Trial<'_> {
         let before = usize::from(arc.line) - 1;
         lines.splice(before..before, block);
         let block = together("line", first.into(), last.into());
-        self.has_order(lines).then(|| told(&format!("{block} put before line {}", arc.line)))
+        has_order(lines).then(|| told(&format!("{block} put before line {}", arc.line)))
     }
 
     /// What an arc keeps, put after what it needs.
@@ -60,7 +45,7 @@ impl Trial<'_> {
         let (_, last) = self.leading_to(arc)?;
         let mut lines = self.plan.packed().to_vec();
         lines[usize::from(arc.line) - 1..usize::from(last)].rotate_left(1);
-        self.has_order(lines).then(|| told(&format!("line {} put after line {last}", arc.line)))
+        has_order(lines).then(|| told(&format!("line {} put after line {last}", arc.line)))
     }
 
     /// The lines of the arc's job that have what it needs: the take, up to its give if it has one, or, where another
@@ -86,18 +71,16 @@ impl Trial<'_> {
         steps.find(|(_, step)| is_start(step)).map(|(line, _)| line)
     }
 
-    /// Gives, after its job's last line, of what a line keeps to the end and of all that the job took after it, be it
+    /// Gives, after its job's last line, of what a lasting take keeps and of all that the job took after it, be it
     /// again, and did not give: what was taken last is given first.
     fn given_back(&self, line: u16) -> Option<String> {
         let job = self.plan.step(line)?.job;
         let in_job = (1..).zip(self.plan.steps()).filter(|(_, step)| step.job == job);
         let of_job: Vec<(u16, Step)> = in_job.collect();
         let last = usize::from(of_job.last()?.0);
-        let is_take = |step: &Step| matches!(step.verb, Verb::Take | Verb::Held);
-        let taken = of_job
-            .iter()
-            .rev()
-            .filter(|(at, step)| *at >= line && is_take(step) && self.holds.mate(*at).is_none());
+        let taken = of_job.iter().rev().filter(|(at, step)| {
+            *at >= line && step.verb == Verb::Take && self.holds.mate(*at).is_none()
+        });
         let gives: Vec<Step> = taken.map(|(_, take)| Step { verb: Verb::Give, ..*take }).collect();
         let devices: Vec<String> =
             gives.iter().map(|give| self.names.words(give.operand)).collect();
@@ -105,12 +88,13 @@ impl Trial<'_> {
         lines.splice(last..last, gives.iter().map(|give| give.packed()));
         let what = if gives.len() == 1 { "a give" } else { "gives" };
         let edit = format!("{what} of {} by job {job} after line {last}", listed(&devices));
-        self.has_order(lines).then(|| told(&edit))
+        has_order(lines).then(|| told(&edit))
     }
-    /// Whether these packed lines are such a plan, with an order.
-    fn has_order(&self, lines: Vec<u32>) -> bool {
-        Plan::from_packed_by(self.plan.reader(), lines).and_then(|plan| plan.verdict()).is_ok()
-    }
+}
+
+/// Whether these packed lines are a plan with an order.
+fn has_order(lines: Vec<u32>) -> bool {
+    Plan::from_packed(lines).and_then(|plan| plan.verdict()).is_ok()
 }
 
 /// The sentence for a way that will do.

@@ -174,28 +174,15 @@ pub fn without_rights(arguments: &[&str], folder: &Folder) -> Command {
 
 /// The plans of the project, by their paths.
 pub fn plans() -> Vec<String> {
-    let plans = examples("plan");
-    assert!(plans.len() >= 4);
-    plans
-}
-
-/// The examples of the project whose names end so, by their paths.
-pub fn examples(ending: &str) -> Vec<String> {
     let folder = Path::new(env!("CARGO_MANIFEST_DIR")).join("../../plans");
     let entries =
         fs::read_dir(folder).expect("there are plans").map(|entry| entry.expect("an entry").path());
-    let found = entries.filter(|path| path.extension().is_some_and(|end| end == ending));
-    let mut found: Vec<String> =
-        found.map(|path| path.to_str().expect("text").to_string()).collect();
-    found.sort();
-    found
-}
-
-/// What the text beside an example says is printed.
-pub fn said(example: &str) -> String {
-    let text = fs::read_to_string(format!("{example}.txt")).expect("it is explained");
-    let lines = text.lines().filter_map(|line| line.strip_prefix("    "));
-    lines.map(|line| format!("{line}\n")).collect()
+    let plans = entries.filter(|path| path.extension().is_some_and(|end| end == "plan"));
+    let mut plans: Vec<String> =
+        plans.map(|path| path.to_str().expect("text").to_string()).collect();
+    plans.sort();
+    assert!(plans.len() >= 4);
+    plans
 }
 
 /// What the wrapper prints for a text.

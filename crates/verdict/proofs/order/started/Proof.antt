@@ -1,12 +1,11 @@
 -- `verdict::order::started` meets its contract: a start's job has a first line, which the list tells.
-use mathlib.Core.Bool.{true}
 use mathlib.Core.List.{List}
 use mathlib.Core.Path.{◌≡◌, ◌∙◌, sym, ap}
 use Prim.Native.Nat.{ℕ, suc}
 use native.Mathlib.Omega.{arith}
 use lib.ListN.{get_or}
 use borrow.Author.Rules.{rules}
-use Rattle.model.specs.Board.{board_at}
+use Rattle.model.specs.Board.{board}
 use Rattle.model.specs.Line.{at, operand}
 use Rattle.model.specs.WellFormed.{WellFormed}
 use Rattle.theory.proofs.WellFormed.{no_fault_exactly}
@@ -19,8 +18,8 @@ use Rattle.verdict.proofs.order.started.Tie as tie
 abbrev start : tie.After-operand → tie.Start
 start c = c.before.before.before.before.before
 
-formed : (c : tie.After-operand) → WellFormed (board_at true) (start c).args.plan.now
-formed c = (no_fault_exactly (board_at true) (start c).args.plan.now).0 (start c).requires.0.sound
+formed : (c : tie.After-operand) → WellFormed board (start c).args.plan.now
+formed c = (no_fault_exactly board (start c).args.plan.now).0 (start c).requires.0.sound
 
 found : (c : tie.After-operand) → Starts (start c).args.plan.now (start c).args.i
 found c = the_start (formed c) (start c).args.i (sym c.before.before.is-start.ensures ∙ c.before.if1.true)

@@ -1,5 +1,4 @@
 -- `verdict::order::tally` meets its contract: at line i the first i lines are counted.
-use mathlib.Core.Bool.{true}
 use mathlib.Core.List.{List}
 use mathlib.Core.Path.{◌≡◌, refl, ◌∙◌, ap}
 use Prim.Native.Nat.{ℕ, ◌-◌, ◌≤◌}
@@ -7,7 +6,7 @@ use native.Mathlib.Numerals.{add-one}
 use native.Mathlib.Omega.{arith}
 use lib.ListN.{length}
 use borrow.Author.Rules.{rules}
-use Rattle.model.specs.Board.{board_at}
+use Rattle.model.specs.Board.{board}
 use Rattle.theory.specs.Outer.{plain_at}
 use Rattle.theory.proofs.WellFormed.{no_fault_exactly}
 use Rattle.rows.proofs.Counted.{has_flag, counts_as}
@@ -52,7 +51,7 @@ count-requires c κs =
     let test = c.before.before.before.before in
     let loop = test.before in
     let start = loop.before.before in
-    let w = (no_fault_exactly (board_at true) start.args.plan.now).0 start.requires.0 in
+    let w = (no_fault_exactly board start.args.plan.now).0 start.requires.0 in
     rw (loop.loop.invariant.1, counts c)
     (tallied_small start.args.plan.now w loop.loop.i (omega (arith, w.few, test.loop-test.true)))
 
