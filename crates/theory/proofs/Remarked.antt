@@ -10,7 +10,7 @@ use mathlib.Core.Bool.{Bool, true, false, cond, not, ◌&&◌, ◌||◌}
 use mathlib.Core.List.{List, [], ◌∷◌, ◌++◌, tail}
 use mathlib.Core.Logic.{◌⊎◌, inl, inr, ◌≢◌}
 use mathlib.Core.Option.{Option, none, some, get_or}
-use mathlib.Core.Path.{◌≡◌, refl, sym, ◌∙◌, ap}
+use mathlib.Core.Path.{subst, ◌≡◌, refl, sym, ◌∙◌, ap}
 use native.Mathlib.Omega.{arith}
 use lib.Dec.{eqb, leb}
 use lib.ListN.{length, drop, get_elem?, drop_of_length-le}
@@ -677,7 +677,7 @@ unfolding has
 has_over x y ys h = go (test (eqb x y))
   where
     go : (eqb x y ≡ true) ⊎ (eqb x y ≡ false) → has x (y ∷ ys) ≡ has x ys
-    go (inl e) = let z = eqb-true x y e in rw z (has_head y ys ∙ sym (h (sym z)))
+    go (inl e) = let z = eqb-true x y e in subst (λ (v : ℕ). has v (y ∷ ys) ≡ has v ys) (sym z) (has_head y ys ∙ sym (h (sym z)))
     go (inr e) = rw e
 
 module _ (p : List ℕ) (rules : Rules p) (j x n : ℕ) (of_job : job (at p n) ≡ j)

@@ -10,18 +10,18 @@ use Rattle.fields.proofs.LastDigits.{digits_tenth}
 use Rattle.fields.proofs.digits.Statement.{statement}
 use Rattle.fields.proofs.digits.Tie as tie
 
-abbrev invariant-loop : tie.invariant-loop
+abbrev invariant-loop : tie.invariant-loop-rest
 invariant-loop n count₀ rest₀ count rest =
     (count + length (decimal rest) ≡ length (decimal n) + 1) × (count + rest ≤ n + 1)
 
-abbrev decreases-loop : tie.decreases-loop
+abbrev decreases-loop : tie.decreases-loop-rest
 decreases-loop n count₀ rest₀ count rest = rest
 
-loop-again : tie.Need-loop-preserved invariant-loop decreases-loop
-loop-again c = omega (arith, digits_tenth c.before.loop.rest c.loop-test.true)
+loop-again : tie.Need-loop-rest-preserved invariant-loop decreases-loop
+loop-again c = omega (arith, digits_tenth c.before.loop-rest.rest c.loop-rest-test.true)
 
 returns : tie.Need-returns invariant-loop decreases-loop
-returns c = omega (arith, digits_one c.before.loop.rest (omega (arith, c.loop-test.false)))
+returns c = omega (arith, digits_one c.before.loop-rest.rest (omega (arith, c.loop-rest-test.false)))
 
 pub digits_spec : {M : Type 1} → statement M
 digits_spec =

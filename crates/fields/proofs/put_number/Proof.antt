@@ -10,35 +10,35 @@ use Rattle.fields.proofs.LastDigits.{LastDigits, last_none, last_more, last_all}
 use Rattle.fields.proofs.put_number.Statement.{statement}
 use Rattle.fields.proofs.put_number.Tie as tie
 
-abbrev invariant-loop : tie.invariant-loop
+abbrev invariant-loop : tie.invariant-loop-i
 invariant-loop out₀ at n past rest₀ i₀ out rest i = (past ≡ at + length (decimal n)) × LastDigits n at out₀ rest i out
 
-abbrev decreases-loop : tie.decreases-loop
+abbrev decreases-loop : tie.decreases-loop-i
 decreases-loop out₀ at n past rest₀ i₀ out rest i = i - at
 
 -- the place past the digits
-past : (c : tie.After-place-after invariant-loop decreases-loop)
-    → c.place_after.result
+past : (c : tie.After-place_after-past invariant-loop decreases-loop)
+    → c.place_after-past.result
     ≡ place_after (length c.before.before.before.args.out.now) c.before.before.before.args.at
     (length (decimal c.before.before.before.args.n))
-past c = c.place_after.ensures ∙ rw c.before.digits.ensures
+past c = c.place_after-past.ensures ∙ rw c.before.digits.ensures
 
-returns : tie.Need-returns invariant-loop decreases-loop
-returns c = unput (past c.before) c.if1.true
+returns : tie.Need-returns-then-out-past invariant-loop decreases-loop
+returns c = unput (past c.before) c.if-out-past.true
 
-loop-holds : tie.Need-loop-init invariant-loop decreases-loop
+loop-holds : tie.Need-loop-i-init invariant-loop decreases-loop
 loop-holds c =
     let called = c.before in
     let a = called.before.before.before.args in
-    let f = fits (length a.out.now) a.at (length (decimal a.n)) called.place_after.result (past called)
-    c.if1.false in
+    let f = fits (length a.out.now) a.at (length (decimal a.n)) called.place_after-past.result (past called)
+    c.if-out-past.false in
     (f.1, rw f.1 (last_none a.n a.at a.out.now f.0))
 
-loop-again : tie.Need-loop-preserved invariant-loop decreases-loop
-loop-again c = let at-loop = c.before.loop in (at-loop.invariant.0, last_more at-loop.invariant.1 c.loop-test.true)
+loop-again : tie.Need-loop-i-preserved invariant-loop decreases-loop
+loop-again c = let at-loop = c.before.loop-i in (at-loop.invariant.0, last_more at-loop.invariant.1 c.loop-i-test.true)
 
-returns-2 : tie.Need-returns-2 invariant-loop decreases-loop
-returns-2 c = let at-loop = c.before.loop in rw at-loop.invariant.0 (last_all at-loop.invariant.1 c.loop-test.false)
+returns-2 : tie.Need-returns invariant-loop decreases-loop
+returns-2 c = let at-loop = c.before.loop-i in rw at-loop.invariant.0 (last_all at-loop.invariant.1 c.loop-i-test.false)
 
 pub put_number_spec : {M : Type 1} → statement M
 put_number_spec =

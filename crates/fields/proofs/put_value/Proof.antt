@@ -8,7 +8,7 @@ returns : tie.Need-returns
 returns c =
     let number = c.before.before in
     let byte = number.before.before.before.before in
-    put_both byte.put_byte.ensures number.put-number.ensures byte.before.before.before.requires
+    put_both byte.put_byte-a.ensures number.put_number.ensures byte.before.before.before.requires
 
 pub put_value_spec : {M : Type 1} → statement M
 put_value_spec =

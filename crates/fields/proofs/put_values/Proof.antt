@@ -13,58 +13,58 @@ use Rattle.fields.proofs.Pieces.{pieces, pieces_all, next_room, put_more}
 use Rattle.fields.proofs.put_values.Statement.{statement}
 use Rattle.fields.proofs.put_values.Tie as tie
 
-abbrev invariant-loop : tie.invariant-loop
+abbrev invariant-loop : tie.invariant-loop-i
 invariant-loop out₀ at values past place₀ i₀ out place i =
     (at + length (flat_map value_text values) + 1 ≤ length out₀) × PutsAs (pieces value_text values i) at out₀ place out
 
-abbrev decreases-loop : tie.decreases-loop
+abbrev decreases-loop : tie.decreases-loop-i
 decreases-loop out₀ at values past place₀ i₀ out place i = length values - i
 
-returns : tie.Need-returns invariant-loop decreases-loop
-returns c = unput c.before.values-after.ensures c.if1.true
+returns : tie.Need-returns-then-out-past invariant-loop decreases-loop
+returns c = unput c.before.values_after-past.ensures c.if-out-past.true
 
-loop-holds : tie.Need-loop-init invariant-loop decreases-loop
+loop-holds : tie.Need-loop-i-init invariant-loop decreases-loop
 unfolding flat_map values_text
 loop-holds c =
     let a = c.before.before.before.before.args in
-    let past = c.before.values-after in
-    let f = fits (length a.out.now) a.at (length (values_text a.values.now)) past.result past.ensures
-    c.if1.false in (
+    let past = c.before.values_after-past in
+    let f = fits (length a.out-1.now) a.at (length (values_text a.values.now)) past.result past.ensures
+    c.if-out-past.false in (
       omega (arith, f.0, length-append (flat_map value_text a.values.now) (newline ∷ [])),
-      put_none a.at a.out.now (omega (arith, f.0)),
+      put_none a.at a.out-1.now (omega (arith, f.0)),
     )
 
-put-value-requires : tie.Need-put-value-requires invariant-loop decreases-loop
+put-value-requires : tie.Need-put_value-place-requires invariant-loop decreases-loop
 put-value-requires c κs =
     let at-loop = c.before.before.before in
     let a = at-loop.before.before.before.before.before.args in
-    next_room value_text a.values.now at-loop.loop.i c.before.before.loop-test.true
-    at-loop.loop.invariant.1 (omega (arith, at-loop.loop.invariant.0))
+    next_room value_text a.values.now at-loop.loop-i.i c.before.before.loop-i-test.true
+    at-loop.loop-i.invariant.1 (omega (arith, at-loop.loop-i.invariant.0))
 
-loop-again : tie.Need-loop-preserved invariant-loop decreases-loop
+loop-again : tie.Need-loop-i-preserved invariant-loop decreases-loop
 loop-again c =
     let called = c.before.before in
     let at-loop = called.before.before.before.before in
     let a = at-loop.before.before.before.before.before.args in (
-      at-loop.loop.invariant.0,
-      put_more value_text a.values.now at-loop.loop.i called.before.before.before.loop-test.true
-          at-loop.loop.invariant.1 (omega (arith, at-loop.loop.invariant.0)) called.put-value.ensures,
+      at-loop.loop-i.invariant.0,
+      put_more value_text a.values.now at-loop.loop-i.i called.before.before.before.loop-i-test.true
+          at-loop.loop-i.invariant.1 (omega (arith, at-loop.loop-i.invariant.0)) called.put_value-place.ensures,
     )
 
-same_length : tie.Need-same-length invariant-loop decreases-loop
+same_length : tie.Need-shape_of-out invariant-loop decreases-loop
 same_length c =
-    let byte = c.before.before in kept byte.put_byte.ensures ∙ kept byte.before.before.before.loop.invariant.1
+    let byte = c.before.before in kept byte.put_byte.ensures ∙ kept byte.before.before.before.loop-i.invariant.1
 
-returns-2 : tie.Need-returns-2 invariant-loop decreases-loop
+returns-2 : tie.Need-returns invariant-loop decreases-loop
 unfolding values_text
 returns-2 c =
     let byte = c.before.before in
     let at-loop = byte.before.before.before in
     let a = at-loop.before.before.before.before.before.args in
     let vs = a.values.now in
-    let all = pieces_all value_text vs at-loop.loop.i byte.before.before.loop-test.false in
-    put_both (rw all at at-loop.loop.invariant.1) byte.put_byte.ensures
-    (omega (arith, at-loop.loop.invariant.0, length-append (flat_map value_text vs) (newline ∷ [])))
+    let all = pieces_all value_text vs at-loop.loop-i.i byte.before.before.loop-i-test.false in
+    put_both (rw all at at-loop.loop-i.invariant.1) byte.put_byte.ensures
+    (omega (arith, at-loop.loop-i.invariant.0, length-append (flat_map value_text vs) (newline ∷ [])))
 
 pub put_values_spec : {M : Type 1} → statement M
 put_values_spec =

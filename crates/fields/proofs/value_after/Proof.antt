@@ -10,8 +10,8 @@ use Rattle.fields.proofs.value_after.Tie as tie
 returns : tie.Need-returns
 returns c =
     let a = c.before.before.before.args in
-    places_joined a.room a.at (tab ∷ []) (decimal a.n) c.before.before.place_after.ensures
-    c.place-after2.ensures refl c.before.digits.ensures
+    places_joined a.room a.at (tab ∷ []) (decimal a.n) c.before.before.place_after-a.ensures
+    c.place_after.ensures refl c.before.digits.ensures
 
 pub value_after_spec : {M : Type 1} → statement M
 value_after_spec =

@@ -11,23 +11,23 @@ use Rattle.fields.proofs.Pieces.{pieces, pieces_all, place_more}
 use Rattle.fields.proofs.values_after.Statement.{statement}
 use Rattle.fields.proofs.values_after.Tie as tie
 
-abbrev invariant-loop : tie.invariant-loop
+abbrev invariant-loop : tie.invariant-loop-i
 invariant-loop room from values at₀ i₀ at i =
     (k : ℕ) → place_after room at k ≡ place_after room from (length (pieces value_text values i) + k)
 
-abbrev decreases-loop : tie.decreases-loop
+abbrev decreases-loop : tie.decreases-loop-i
 decreases-loop room from values at₀ i₀ at i = length values - i
 
-loop-holds : tie.Need-loop-init invariant-loop decreases-loop
+loop-holds : tie.Need-loop-i-init invariant-loop decreases-loop
 unfolding flat_map
 loop-holds c = λ k. ap (place_after c.before.args.room c.before.args.from) (omega arith)
 
-loop-again : tie.Need-loop-preserved invariant-loop decreases-loop
+loop-again : tie.Need-loop-i-preserved invariant-loop decreases-loop
 loop-again c =
     let at-loop = c.before.before.before in
     let a = at-loop.before.before.args in
-    place_more value_text a.values.now at-loop.loop.i c.before.before.loop-test.true a.room a.from
-    at-loop.loop.at c.value_after.result at-loop.loop.invariant c.value_after.ensures
+    place_more value_text a.values.now at-loop.loop-i.i c.before.before.loop-i-test.true a.room a.from
+    at-loop.loop-i.at c.value_after-at.result at-loop.loop-i.invariant c.value_after-at.ensures
 
 returns : tie.Need-returns invariant-loop decreases-loop
 unfolding values_text
@@ -35,9 +35,9 @@ returns c =
     let at-loop = c.before.before in
     let a = at-loop.before.before.args in
     c.place_after.ensures
-    ∙ (at-loop.loop.invariant 1
+    ∙ (at-loop.loop-i.invariant 1
     ∙ ap (place_after a.room a.from)
-    (rw (pieces_all value_text a.values.now at-loop.loop.i c.before.loop-test.false, length-append)))
+    (rw (pieces_all value_text a.values.now at-loop.loop-i.i c.before.loop-i-test.false, length-append)))
 
 pub values_after_spec : {M : Type 1} → statement M
 values_after_spec =

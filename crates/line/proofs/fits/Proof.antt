@@ -17,7 +17,7 @@ returns : tie.Need-returns
 returns c =
     let a = c.before.args in
     ap (λ (b : Bool). b && (ltb a.v 4 || (eqb a.v 4 && a.midday)))
-    (tests_fit a.j (kind_of a.v) a.o c.range.result (omega arith) c.range.ensures)
+    (tests_fit a.j (kind_of a.v) a.o c.range-r.result (omega arith) c.range-r.ensures)
     ∙ sym (by_kind a.midday a.j a.v a.o)
 
 pub fits_spec : {M : Type 1} → statement M

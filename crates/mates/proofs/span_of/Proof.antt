@@ -8,55 +8,55 @@ use borrow.Author.Rules.{rules}
 use Rattle.mates.proofs.span_of.Statement.{statement}
 use Rattle.mates.proofs.span_of.Tie as tie
 
-abbrev invariant-loop : tie.invariant-loop
+abbrev invariant-loop : tie.invariant-loop-k
 invariant-loop plan i j depth₀ k₀ depth k = Sought plan i j depth k
 
-abbrev decreases-loop : tie.decreases-loop
+abbrev decreases-loop : tie.decreases-loop-k
 decreases-loop plan i j depth₀ k₀ depth k = length plan - k
 
 -- no such line
-returns : tie.Need-returns invariant-loop decreases-loop
-returns c = let a = c.before.before.args in past a.plan.now a.i c.if1.true
+returns : tie.Need-returns-then-plan-i invariant-loop decreases-loop
+returns c = let a = c.before.before.args in past a.plan.now a.i c.if-plan-i.true
 
-loop-holds : tie.Need-loop-init invariant-loop decreases-loop
+loop-holds : tie.Need-loop-k-init invariant-loop decreases-loop
 loop-holds c =
     let a = c.before.before.before.before.args in
-    start a.plan.now a.i c.job.result (search rules) c.job.ensures
+    start a.plan.now a.i c.job-j.result (search rules) c.job-j.ensures
 
 -- a line of another job
-returns-2 : tie.Need-returns-2 invariant-loop decreases-loop
+returns-2 : tie.Need-returns-then-job-j invariant-loop decreases-loop
 returns-2 c =
     let l = c.before.before.before.before in
     let a = l.before.before.before.before.before.args in
-    foreign a.plan.now a.i l.before.job.result l.loop.depth l.loop.k l.loop.invariant (search rules)
-    c.before.job2.result c.before.job2.ensures c.if2.true
+    foreign a.plan.now a.i l.before.job-j.result l.loop-k.depth l.loop-k.k l.loop-k.invariant (search rules)
+    c.before.job.result c.before.job.ensures c.if-job-j.true
 
 -- the mate
-returns-3 : tie.Need-returns-3 invariant-loop decreases-loop
+returns-3 : tie.Need-returns-in-Ends invariant-loop decreases-loop
 returns-3 c =
     let at_line_lem = c.before.before.before.before in
     let l = at_line_lem.before.before.before in
     let a = l.before.before.before.before.before.args in
-    mate_here a.plan.now a.i l.before.job.result l.loop.depth l.loop.k l.loop.invariant (search rules)
-    at_line_lem.job2.result at_line_lem.job2.ensures c.before.before.before.if2.false
-    (sym c.enum_told.given.1 ∙ c.before.before.passed.ensures)
+    mate_here a.plan.now a.i l.before.job-j.result l.loop-k.depth l.loop-k.k l.loop-k.invariant (search rules)
+    at_line_lem.job.result at_line_lem.job.ensures c.before.before.before.if-job-j.false
+    (sym c.enum_told-1.given.1 ∙ c.before.before.passed.ensures)
 
-loop-again : tie.Need-loop-preserved invariant-loop decreases-loop
+loop-again : tie.Need-loop-k-preserved invariant-loop decreases-loop
 loop-again c =
     let at_line_lem = c.before.before.before.before.before in
     let l = at_line_lem.before.before.before in
     let a = l.before.before.before.before.before.args in
-    let d = c.before.d.given in
-    on a.plan.now a.i l.before.job.result l.loop.depth l.loop.k l.loop.invariant (search rules)
-    at_line_lem.job2.result at_line_lem.job2.ensures c.before.before.before.before.if2.false d.0.0
+    let d = c.before.d-1.given in
+    on a.plan.now a.i l.before.job-j.result l.loop-k.depth l.loop-k.k l.loop-k.invariant (search rules)
+    at_line_lem.job.result at_line_lem.job.ensures c.before.before.before.before.if-job-j.false d.0.0
     (sym d.1 ∙ c.before.before.before.passed.ensures)
 
 -- the end
-returns-4 : tie.Need-returns-4 invariant-loop decreases-loop
+returns-4 : tie.Need-returns invariant-loop decreases-loop
 returns-4 c =
     let l = c.before in
     let a = l.before.before.before.before.before.args in
-    end a.plan.now a.i l.before.job.result l.loop.depth l.loop.k l.loop.invariant c.loop-test.false
+    end a.plan.now a.i l.before.job-j.result l.loop-k.depth l.loop-k.k l.loop-k.invariant c.loop-k-test.false
 
 pub span_of_spec : {M : Type 1} → statement M
 span_of_spec =

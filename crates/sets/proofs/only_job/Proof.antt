@@ -7,14 +7,14 @@ use Rattle.theory.proofs.Sets.{shifted}
 use Rattle.sets.proofs.only_job.Statement.{statement}
 use Rattle.sets.proofs.only_job.Tie as tie
 
-returns : tie.Need-returns
+returns : tie.Need-returns-then-j-lt-LAST_JOB
 unfolding only_of
-returns c = rw (lt-ltb c.before.args.j max_job c.if1.true) (shifted max_job c.before.args.j
-    c.if1.true)
+returns c = rw (lt-ltb c.before.args.j max_job c.if-j-lt-LAST_JOB.true) (shifted max_job c.before.args.j
+    c.if-j-lt-LAST_JOB.true)
 
-returns-2 : tie.Need-returns-2
+returns-2 : tie.Need-returns
 unfolding only_of
-returns-2 c = rw (le-ltb c.before.args.j max_job c.if1.false)
+returns-2 c = rw (le-ltb c.before.args.j max_job c.if-j-lt-LAST_JOB.false)
 
 pub only_job_spec : {M : Type 1} → statement M
 only_job_spec = tie.close (tie.spec (λ c. search rules) returns returns-2)

@@ -7,7 +7,7 @@ use Rattle.sets.proofs.with_job.Tie as tie
 
 returns : tie.Need-returns
 unfolding union
-returns c = ap (union c.before.args.s) c.only-job.ensures
+returns c = ap (union c.before.args.s) c.only_job.ensures
 
 pub with_job_spec : {M : Type 1} → statement M
 with_job_spec = tie.close (tie.spec (λ c κs. search rules) returns)

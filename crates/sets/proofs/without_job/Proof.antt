@@ -7,7 +7,7 @@ use Rattle.sets.proofs.without_job.Tie as tie
 
 returns : tie.Need-returns
 unfolding without
-returns c = ap (without c.before.args.s) c.only-job.ensures
+returns c = ap (without c.before.args.s) c.only_job.ensures
 
 pub without_job_spec : {M : Type 1} → statement M
 without_job_spec = tie.close (tie.spec (λ c κs. search rules) returns)
