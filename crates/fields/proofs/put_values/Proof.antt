@@ -28,10 +28,10 @@ unfolding flat_map values_text
 loop-holds c =
     let a = c.before.before.before.before.args in
     let past = c.before.values_after-past in
-    let f = fits (length a.out-1.now) a.at (length (values_text a.values.now)) past.result past.ensures
+    let f = fits (length a.out.now) a.at (length (values_text a.values.now)) past.result past.ensures
     c.if-out-past.false in (
       omega (arith, f.0, length-append (flat_map value_text a.values.now) (newline ∷ [])),
-      put_none a.at a.out-1.now (omega (arith, f.0)),
+      put_none a.at a.out.now (omega (arith, f.0)),
     )
 
 put-value-requires : tie.Need-put_value-place-requires invariant-loop decreases-loop
