@@ -13,28 +13,28 @@ use Rattle.claims.proofs.table.Statement.{statement}
 use Rattle.claims.proofs.table.Tie as tie
 
 -- where no test of the plan refused, it has no fault and is well-formed
-abbrev entry : tie.In_default → tie.Start
-entry c = c.before.before.before.before.before.before.before.before
+abbrev entry : tie.In_default → tie.In_default
+entry c = c
 
 no-fault : (c : tie.In_default) → fault board (entry c).args.plan.now ≡ none
 no-fault c =
     untold (fault board (entry c).args.plan.now)
-    (sym c.enum_told.given.1 ∙ c.scan.ensures.answers)
+    (sym c.in_default.is ∙ c.scan.ensures.answers)
 
 well-formed : (c : tie.In_default) → WellFormed board (entry c).args.plan.now
 well-formed c = (no_fault_exactly board (entry c).args.plan.now).0 (no-fault c)
 
 -- and the flags are its
-flags : (c : tie.In_default) → c.scan.new.1.1.1.1.0 ≡ again_flags (entry c).args.plan.now
+flags : (c : tie.In_default) → c.scan.new.again ≡ again_flags (entry c).args.plan.now
 flags c = rw (no-fault c) at c.scan.ensures.agains
 
 -- 2 to 7
 returns : tie.Need-returns-in-Refused
 returns c =
         let a = c.args in
-    let r = c.in-Refused.r.given.0.0 in
+    let r = c.in-Refused.r in
     faulty a.plan.now a.sets.now r
-    (told (fault board a.plan.now) r (sym c.r.given.1 ∙ c.scan.ensures.answers))
+    (told (fault board a.plan.now) r (sym c.in-Refused.is ∙ c.scan.ensures.answers))
 
 -- 11
 returns-2 : tie.Need-returns-then-sets-n
