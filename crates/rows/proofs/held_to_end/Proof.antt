@@ -13,8 +13,8 @@ use Rattle.rows.proofs.held_to_end.Tie as tie
 abbrev entry : tie.In_default → tie.In_default
 entry c = c
 
-no-fault : (c : tie.In_default) → fault board (entry c).args.plan.now ≡ none
-no-fault c = untold _ (sym c.in_default.is ∙ c.scan_holding.ensures.scanned.answers)
+no_fault_lem : (c : tie.In_default) → fault board (entry c).args.plan.now ≡ none
+no_fault_lem c = untold _ (sym c.in_default.is ∙ c.scan_holding.ensures.scanned.answers)
 
 -- 2 to 7
 returns : tie.Need-returns-in-Refused
@@ -25,19 +25,19 @@ returns c =
     (told (fault board p) r (sym c.in-Refused.is ∙ c.scan_holding.ensures.scanned.answers))
 
 -- what the jobs hold is the plan's
-held-is : (c : tie.In_default)
+held_is : (c : tie.In_default)
     → c.scan_holding.new.holdings ≡ holdings (entry c).args.plan.now
-held-is c = rw (no-fault c) at c.scan_holding.ensures.held
+held_is c = rw (no_fault_lem c) at c.scan_holding.ensures.held
 
 over-jobs-requires : tie.Need-over_jobs-requires
 over-jobs-requires c κs =
-    ap length (held-is c.before) ∙ holdings_long (entry c.before).args.plan.now
+    ap length (held_is c.before) ∙ holdings_long (entry c.before).args.plan.now
 
 -- the two sets
 returns-2 : tie.Need-returns
 returns-2 c =
         c.over_jobs.ensures
-    ∙ held_made (entry c.before.before).args.plan.now _ (no-fault c.before.before) (held-is c.before.before)
+    ∙ held_made (entry c.before.before).args.plan.now _ (no_fault_lem c.before.before) (held_is c.before.before)
 
 pub held_to_end_spec : {M : Type 1} → statement M
 held_to_end_spec =

@@ -11,8 +11,8 @@ use Rattle.rows.proofs.holds.Tie as tie
 abbrev entry : tie.In_default → tie.In_default
 entry c = c
 
-no-fault : (c : tie.In_default) → fault board (entry c).args.plan.now ≡ none
-no-fault c = untold _ (sym c.in_default.is ∙ c.scan.ensures.answers)
+no_fault_lem : (c : tie.In_default) → fault board (entry c).args.plan.now ≡ none
+no_fault_lem c = untold _ (sym c.in_default.is ∙ c.scan.ensures.answers)
 
 -- 2 to 7
 returns : tie.Need-returns-in-Refused
@@ -26,7 +26,7 @@ returns c =
 -- the flags are the plan's
 walk-back-requires : tie.Need-walk_back-made-requires
 walk-back-requires c κs =
-        (no-fault c.before.before.before, rw (no-fault c.before.before.before) at c.scan.ensures.agains)
+        (no_fault_lem c.before.before.before, rw (no_fault_lem c.before.before.before) at c.scan.ensures.agains)
 
 -- the holds
 returns-2 : tie.Need-returns
@@ -34,7 +34,7 @@ returns-2 c =
             let scanned = c.scan.ensures in
     let a = (entry c.before.before.before.before.before).args in
     made a.plan.now a.first.now _ a.again.now _ a.rows.now a.lasting.now scanned.firsts
-    scanned.agains _ _ _ _ c.walk_back-made.result (no-fault c.before.before.before.before.before) c.walk_back-made.ensures
+    scanned.agains _ _ _ _ c.walk_back-made.result (no_fault_lem c.before.before.before.before.before) c.walk_back-made.ensures
 
 pub holds_spec : {M : Type 1} → statement M
 holds_spec =

@@ -11,8 +11,8 @@ use Rattle.rows.specs.Holds.{JoinedOn}
 use Rattle.rows.proofs.join_line.Statement.{statement}
 use Rattle.rows.proofs.join_line.Tie as tie
 
-has-place : (c : tie.After-job-j) → c.job-j.result < operands
-has-place c = rw c.job-j.ensures (job_place board c.args.l c.requires.0)
+has_place : (c : tie.After-job-j) → c.job-j.result < operands
+has_place c = rw c.job-j.ensures (job_place board c.args.l c.requires.0)
 
 -- the board has the device of a take
 on_board_lem : (l : ℕ) (lasts : Bool) → is_line board l ≡ true → (lasts ≡ true → is_take l ≡ true)
@@ -41,5 +41,5 @@ returns c =
 pub join_line_spec : {M : Type 1} → statement M
 join_line_spec =
     tie.close
-    (tie.spec (λ c κs. search rules) (λ c. search rules) (λ c. search rules) (λ c. has-place c.before) (λ c κs. search rules)
-    (λ c κs. search rules) (λ c. search rules) (λ c. has-place c.before.before.before.before.before.before) returns)
+    (tie.spec (λ c κs. search rules) (λ c. search rules) (λ c. search rules) (λ c. has_place c.before) (λ c κs. search rules)
+    (λ c κs. search rules) (λ c. search rules) (λ c. has_place c.before.before.before.before.before.before) returns)

@@ -8,8 +8,8 @@ use Rattle.rows.specs.Lasting.{row_joined}
 use Rattle.rows.proofs.join_row.Statement.{statement}
 use Rattle.rows.proofs.join_row.Tie as tie
 
-has-row : (c : tie.Then-lasts-o) → c.operand-o.result < devices
-has-row c =
+has_row : (c : tie.Then-lasts-o) → c.operand-o.result < devices
+has_row c =
     let o = c.operand-o.result in
     ltb-true o devices (and_split c.args.lasts (ltb o devices) c.if-lasts-o.true).1
 
@@ -42,5 +42,5 @@ returns-2 c =
 pub join_row_spec : {M : Type 1} → statement M
 join_row_spec =
     tie.close
-    (tie.spec (λ c κs. search rules) (λ c. search rules) (λ c. search rules) (λ c. has-row c.before) (λ c κs. search rules)
-    (λ c. search rules) (λ c. has-row c.before.before.before) returns returns-2)
+    (tie.spec (λ c κs. search rules) (λ c. search rules) (λ c. search rules) (λ c. has_row c.before) (λ c κs. search rules)
+    (λ c. search rules) (λ c. has_row c.before.before.before) returns returns-2)

@@ -11,8 +11,8 @@ use Rattle.rows.proofs.tabled.Tie as tie
 abbrev entry : tie.In_default → tie.In_default
 entry c = c
 
-no-fault : (c : tie.In_default) → fault board (entry c).args.plan.now ≡ none
-no-fault c = untold _ (sym c.in_default.is ∙ c.scan.ensures.answers)
+no_fault_lem : (c : tie.In_default) → fault board (entry c).args.plan.now ≡ none
+no_fault_lem c = untold _ (sym c.in_default.is ∙ c.scan.ensures.answers)
 
 -- 2 to 7
 returns : tie.Need-returns-in-Refused
@@ -25,13 +25,13 @@ returns c =
 -- the flags are the plan's
 walk-back-requires : tie.Need-walk_back-made-requires
 walk-back-requires c κs =
-        (no-fault c.before.before.before.before, rw (no-fault c.before.before.before.before) at c.scan.ensures.agains)
+        (no_fault_lem c.before.before.before.before, rw (no_fault_lem c.before.before.before.before) at c.scan.ensures.agains)
 
 -- rows and table
 returns-2 : tie.Need-returns
 returns-2 c =
             let a = (entry c.before.before.before.before.before.before.before).args in
-    is_tabled a.plan.now a.rows.now a.table.now _ _ _ c.walk_back-made.result (no-fault c.before.before.before.before.before.before.before)
+    is_tabled a.plan.now a.rows.now a.table.now _ _ _ c.walk_back-made.result (no_fault_lem c.before.before.before.before.before.before.before)
     c.walk_back-made.ensures
 
 pub tabled_spec : {M : Type 1} → statement M

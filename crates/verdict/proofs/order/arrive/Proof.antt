@@ -23,23 +23,23 @@ job-from-1 c κs =
 abbrev start : tie.After-place-s → tie.Start
 start c = c.before.before.before.before.before.before
 
-its-place : (c : tie.After-place-s) → c.place-s.result ≡ place_at (start c).args.plan.now (start c).args.i
+its_place : (c : tie.After-place-s) → c.place-s.result ≡ place_at (start c).args.plan.now (start c).args.i
 unfolding place_at
-its-place c =
+its_place c =
     c.place-s.ensures
     ∙ ap (λ (b : Bool). waiting_place b (at (start c).args.plan.now (start c).args.i))
     (marked (start c).requires.0 c.if-i-plan.true)
 
 in-places : tie.Need-bounds-places-s
 in-places c =
-    rw (its-place c.before)
+    rw (its_place c.before)
     (place_below (formed (start c.before).requires.0) (start c.before).args.i c.if-i-plan.true)
 
 returns : tie.Need-returns-then-i-plan
 unfolding arrived placed
 returns c =
         let a = (start c.before.before).args in
-    rw (lt-ltb a.i (length a.plan.now) c.if-i-plan.true, ← its-place c.before.before)
+    rw (lt-ltb a.i (length a.plan.now) c.if-i-plan.true, ← its_place c.before.before)
     (c.take_place.ensures, refl)
 
 -- past the plan's end

@@ -32,34 +32,34 @@ goes-next-requires : tie.Need-goes_next-c-requires invariant-loop decreases-loop
 goes-next-requires c κs = a_place c.loop-k.invariant c.loop-k-test.true
 
 -- where the line is chosen: it is one of the plan's, which has at most 1,024, and so many have been done at most
-abbrev in-loop : tie.After-goes_next-c invariant-loop decreases-loop → tie.In-loop-k invariant-loop decreases-loop
-in-loop c = c.before.before
+abbrev in_loop : tie.After-goes_next-c invariant-loop decreases-loop → tie.In-loop-k invariant-loop decreases-loop
+in_loop c = c.before.before
 
 small : (c : tie.After-goes_next-c invariant-loop decreases-loop)
-    → (c.goes_next-c.result.line < max_lines) × ((in-loop c).loop-k.k < max_lines)
+    → (c.goes_next-c.result.line < max_lines) × ((in_loop c).loop-k.k < max_lines)
 small c =
-    let h = (in-loop c).loop-k.invariant in
-    let t = (in-loop c).loop-k-test.true in
+    let h = (in_loop c).loop-k.invariant in
+    let t = (in_loop c).loop-k-test.true in
     (omega (arith, h.ok.formed.few, a_line_lem h t c.goes_next-c.ensures), omega (arith, h.ok.formed.few, t))
 
 slice-write-order : tie.Need-bounds-order-k invariant-loop decreases-loop
 slice-write-order c =
-    let here = in-loop c.before in
+    let here = in_loop c.before in
     let h = here.loop-k.invariant in omega (arith, same_room h, h.room, here.loop-k-test.true)
 
 pass-requires : tie.Need-pass-w-requires invariant-loop decreases-loop
 pass-requires c κs =
-        asks (in-loop c.before.before.before).loop-k.invariant (in-loop c.before.before.before).loop-k-test.true c.goes_next-c.ensures
+        asks (in_loop c.before.before.before).loop-k.invariant (in_loop c.before.before.before).loop-k-test.true c.goes_next-c.ensures
 
 goes-on-requires : tie.Need-goes_on-on-requires invariant-loop decreases-loop
 goes-on-requires c κs =
-        let h = (in-loop c.before.before.before.before).loop-k.invariant in
-    (h.marked, a_line_lem h (in-loop c.before.before.before.before).loop-k-test.true c.goes_next-c.ensures)
+        let h = (in_loop c.before.before.before.before).loop-k.invariant in
+    (h.marked, a_line_lem h (in_loop c.before.before.before.before).loop-k-test.true c.goes_next-c.ensures)
 
 loop-again : tie.Need-loop-k-preserved invariant-loop decreases-loop
 loop-again c =
         let p = c.pass-w.ensures in
-    hands_on (in-loop c.before.before.before.before.before).loop-k.invariant (in-loop c.before.before.before.before.before).loop-k-test.true c.goes_next-c.ensures p.0
+    hands_on (in_loop c.before.before.before.before.before).loop-k.invariant (in_loop c.before.before.before.before.before).loop-k-test.true c.goes_next-c.ensures p.0
     p.1.0 p.1.1 c.goes_on-on.ensures
 
 same_length : tie.Need-shape_of-order invariant-loop decreases-loop
@@ -86,7 +86,7 @@ hand_out_spec =
     goes-on-requires
     (λ c. let s = small c.before.before.before.before.before in omega arith)
     (λ c. let s = small c.before.before.before.before.before in omega arith)
-    (λ c. omega (arith, (in-loop c.before.before.before.before.before).loop-k-test.true))
+    (λ c. omega (arith, (in_loop c.before.before.before.before.before).loop-k-test.true))
     loop-again
     same_length
     returns)
