@@ -1,5 +1,7 @@
 // The give that matches a take (01, "Rules of a well-formed plan"), found by depth in the take's job; and where the
 // job's lines end, if there is none.
+#![tactic(auto)]
+
 ghost use Rattle.std.specs.Prelude.{◌≡◌, ◌-◌, ◌^◌, ◌<◌};
 ghost use Rattle.mates.specs.Found.{passed_by};
 ghost use Rattle.mates.specs.Span.{span_of};

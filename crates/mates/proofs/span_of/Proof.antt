@@ -1,6 +1,5 @@
 -- `mates::span_of` meets its contract: the whole search is the search from the present position and depth, by the laws
 -- of `Mates`.
-use mathlib.Core.Path.{sym, ◌∙◌}
 use Prim.Native.Nat.{◌-◌}
 use lib.ListN.{length}
 use Rattle.mates.proofs.Mates.{past, Sought, start, end, foreign, mate_here, on}
@@ -26,21 +25,21 @@ loop-holds c =
 -- a line of another job
 returns-2 : tie.Need-returns-then-job-j invariant-loop decreases-loop
 returns-2 c =
-        let a = c.args in
+    let a = c.args in
     foreign a.plan.now a.i c.job-j.result c.loop-k.depth c.loop-k.k c.loop-k.invariant (search rules)
     c.job.result c.job.ensures c.if-job-j.true
 
 -- the mate
 returns-3 : tie.Need-returns-in-Ends invariant-loop decreases-loop
 returns-3 c =
-            let a = c.args in
+    let a = c.args in
     mate_here a.plan.now a.i c.job-j.result c.loop-k.depth c.loop-k.k c.loop-k.invariant (search rules)
     c.job.result c.job.ensures c.if-job-j.false
     c.in-Ends.ensures
 
 loop-again : tie.Need-loop-k-preserved invariant-loop decreases-loop
 loop-again c =
-            let a = c.args in
+    let a = c.args in
     on a.plan.now a.i c.job-j.result c.loop-k.depth c.loop-k.k c.loop-k.invariant (search rules)
     c.job.result c.job.ensures c.if-job-j.false c.in-Goes.d
     c.in-Goes.ensures
@@ -48,7 +47,7 @@ loop-again c =
 -- the end
 returns-4 : tie.Need-returns invariant-loop decreases-loop
 returns-4 c =
-        let a = c.args in
+    let a = c.args in
     end a.plan.now a.i c.job-j.result c.loop-k.depth c.loop-k.k c.loop-k.invariant c.loop-k-test.false
 
 pub span_of_spec : {M : Type 1} → statement M

@@ -1,5 +1,5 @@
 -- `plan::ends` meets its contract: job by job, by the laws of `LastTests`.
-use Rattle.std.proofs.Common.{◌≡◌, ℕ, suc, ◌-◌, ◌≤◌, arith, rules}
+use Rattle.std.proofs.Common.{◌≡◌, suc, ◌-◌, ◌≤◌, arith, rules}
 use Rattle.model.specs.Line.{max_job}
 use Rattle.plan.proofs.LastTests.{Low, Never, low_start, never_start, low_on, never_on}
 use Rattle.plan.proofs.LastTests.{told_5, told_6, told_none}
