@@ -3,7 +3,7 @@
 
 // A refusal, one case for each number of 01, and of 02 as far as it is built, in their order; 8 is given no more (02,
 // request 2). A case holds the place, unless that is fixed: 0 for 1, and 1,025 for 3.
-#[derive(Drop)]
+#[derive(Clone, Copy)]
 pub enum Refusal {
     // 1: the text has over 12,288 bytes
     TextTooLong,

@@ -27,15 +27,15 @@ decreases-loop plan again sets₀ claimed₀ i₀ sets claimed i = i
 loop-holds : tie.Need-loop-i-init invariant-loop decreases-loop
 loop-holds c = let a = c.args in none_done a.plan.now a.sets.now
 
-well-formed : (s : tie.Start invariant-loop decreases-loop) → WellFormed board s.args.plan.now
-well-formed s = (no_fault_exactly board s.args.plan.now).0 s.requires.0
+well_formed : (s : tie.Start invariant-loop decreases-loop) → WellFormed board s.args.plan.now
+well_formed s = (no_fault_exactly board s.args.plan.now).0 s.requires.0
 
 element-copy-out-plain : tie.Need-bounds-again-i invariant-loop decreases-loop
 element-copy-out-plain c =
         omega (
       arith,
       c.loop-i.invariant.in_plan,
-      (well-formed c.before.before.before.before.before.before).few,
+      (well_formed c.before.before.before.before.before.before).few,
       ap length c.requires.1 ∙ length_again c.args.plan.now,
     )
 
@@ -51,12 +51,12 @@ module _ (c : tie.After-job-j invariant-loop decreases-loop) where
   in_plan = omega (arith, c.loop-i.invariant.in_plan)
 
   line_at : is_line board (at s.args.plan.now k) ≡ true
-  line_at = (well-formed s).lines k in_plan
+  line_at = (well_formed s).lines k in_plan
 
   counts : c.plain-l.result ≡ plain_at s.args.plan.now k
   counts =
       c.plain-l.ensures
-      ∙ plain_is s.args.plan.now s.args.again.now k s.requires.1 (omega (arith, in_plan, (well-formed s).few))
+      ∙ plain_is s.args.plan.now s.args.again.now k s.requires.1 (omega (arith, in_plan, (well_formed s).few))
 
   job_is_lem : c.job-j.result ≡ job (at s.args.plan.now k)
   job_is_lem =

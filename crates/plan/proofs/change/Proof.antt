@@ -7,7 +7,7 @@ use Rattle.plan.proofs.change.Tie as tie
 returns : tie.Need-returns
 unfolding change_of
 returns c =
-                rw (
+    rw (
       c.union.ensures,
       c.both.ensures,
       c.without.ensures,

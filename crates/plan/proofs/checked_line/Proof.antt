@@ -39,16 +39,16 @@ few c =
     let a = c.args in
     let p = in_place (board_at a.midday) a.n a.i a.prev (placed c) in (p.0, p.1)
 
-its-job : (c : tie.In_default) → job c.args.n ≤ max_job
-its-job c = let a = c.args in (line_parts (board_at a.midday) a.n (few c).1).1
+its_job : (c : tie.In_default) → job c.args.n ≤ max_job
+its_job c = let a = c.args in (line_parts (board_at a.midday) a.n (few c).1).1
 
 misheld-requires : tie.Need-misheld-requires
-misheld-requires c κs = ((few c).0, its-job c, c.requires.1.starter_long)
+misheld-requires c κs = ((few c).0, its_job c, c.requires.1.starter_long)
 
 -- 16 or 17
 returns-2 : tie.Need-returns-in-Refused-misheld
 returns-2 c =
-        let a = c.args in
+    let a = c.args in
     let r = c.in-Refused-misheld.r in (
       stops_held (board_at a.midday) a.n a.i a.prev a.named a.early a.first.now a.starter.now
           (held_in a.depth a.stack.now) r (placed c.before.before)
@@ -70,7 +70,7 @@ unheld c =
     (sym c.in_default-misheld.is ∙ c.misheld.ensures)
 
 element-copy-out-choose : tie.Need-bounds-first-t
-element-copy-out-choose c = omega (arith, c.job-j.ensures, its-job (tested c.before))
+element-copy-out-choose c = omega (arith, c.job-j.ensures, its_job (tested c.before))
 
 add-choose : tie.Need-overflow_add-i
 add-choose c = record { fits = omega (arith, (few (tested c.before.before)).0) }
@@ -87,8 +87,8 @@ no_deeper depth i false h = omega arith
 
 rule-requires : tie.Need-rule-requires
 rule-requires c κs =
-        let t = tested c.before.before.before.before.before.before in
-        let a = t.args in (
+    let t = tested c.before.before.before.before.before.before in
+    let a = t.args in (
       (few t).0,
       rw c.choose-d.ensures
           (no_deeper a.depth a.i (eqb c.job-j.result a.prev) t.requires.0),
@@ -100,8 +100,8 @@ rule-requires c κs =
 returns-3 : tie.Need-returns
 returns-3 c =
     let f = c.rule in
-            let t = tested c.before.before.before.before.before.before.before in
-        let a = t.args in
+    let t = tested c.before.before.before.before.before.before.before in
+    let a = t.args in
     let first = set a.first.now c.job-j.result c.choose.result in (
       goes_on_lem (board_at a.midday) a.n a.i a.prev a.named a.early a.first.now a.starter.now
           (next_by f.result f.new.stack first f.new.starter) a.depth

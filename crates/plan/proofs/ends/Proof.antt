@@ -25,7 +25,7 @@ loop-holds c =
 
 loop-again : tie.Need-loop-j-preserved invariant-loop decreases-loop
 loop-again c =
-        let a = c.args in
+    let a = c.args in
     let inv = c.loop-j.invariant in (
       search rules,
       search rules,
@@ -36,34 +36,34 @@ loop-again c =
     )
 
 -- past the last job
-low-at : (c : tie.After-loop-j invariant-loop decreases-loop)
-    →     Low c.args.first.now c.args.starter.now (suc max_job) c.loop-j.empty
-low-at c = let e : c.loop-j.j ≡ suc max_job = omega arith in rw e at c.loop-j.invariant.2
+low_at : (c : tie.After-loop-j invariant-loop decreases-loop)
+    → Low c.args.first.now c.args.starter.now (suc max_job) c.loop-j.empty
+low_at c = let e : c.loop-j.j ≡ suc max_job = omega arith in rw e at c.loop-j.invariant.2
 
-never-at : (c : tie.After-loop-j invariant-loop decreases-loop)
-    →     Never c.args.first.now c.args.starter.now (suc max_job) c.loop-j.never
-never-at c = let e : c.loop-j.j ≡ suc max_job = omega arith in rw e at c.loop-j.invariant.3
+never_at : (c : tie.After-loop-j invariant-loop decreases-loop)
+    → Never c.args.first.now c.args.starter.now (suc max_job) c.loop-j.never
+never_at c = let e : c.loop-j.j ≡ suc max_job = omega arith in rw e at c.loop-j.invariant.3
 
 -- 5
 returns : tie.Need-returns-then-empty-ne0 invariant-loop decreases-loop
 returns c =
-        told_5 c.args.midday c.args.first.now c.args.starter.now c.loop-j.empty
-    (low-at c.before)
+    told_5 c.args.midday c.args.first.now c.args.starter.now c.loop-j.empty
+    (low_at c.before)
     c.if-empty-ne0.true
 
 -- 6
 returns-2 : tie.Need-returns-then-never-midday invariant-loop decreases-loop
 returns-2 c =
-        told_6 c.args.midday c.args.first.now c.args.starter.now c.loop-j.empty
+    told_6 c.args.midday c.args.first.now c.args.starter.now c.loop-j.empty
     c.loop-j.never
-    (low-at c.before.before) c.if-empty-ne0.false (never-at c.before.before) c.if-never-midday.true
+    (low_at c.before.before) c.if-empty-ne0.false (never_at c.before.before) c.if-never-midday.true
 
 -- neither
 returns-3 : tie.Need-returns invariant-loop decreases-loop
 returns-3 c =
-        told_none c.args.midday c.args.first.now c.args.starter.now c.loop-j.empty
+    told_none c.args.midday c.args.first.now c.args.starter.now c.loop-j.empty
     c.loop-j.never
-    (low-at c.before.before) c.if-empty-ne0.false (never-at c.before.before) c.if-never-midday.false
+    (low_at c.before.before) c.if-empty-ne0.false (never_at c.before.before) c.if-never-midday.false
 
 pub ends_spec : {M : Type 1} → statement M
 ends_spec =

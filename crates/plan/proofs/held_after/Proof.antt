@@ -31,7 +31,7 @@ element-write-stack c = omega (arith, room c.before.before, c.requires.4.long)
 
 deeper-requires : tie.Need-deeper-requires
 deeper-requires c κs =
-        let a = c.args in
+    let a = c.args in
     rw (c.is_give.ensures, c.opens.ensures) (
       omega (arith, room c.before.before.before.before),
       given_deep a.n a.depth a.stack.now c.requires.4 c.requires.2 (room c.before.before.before.before) c.requires.5,
@@ -40,7 +40,7 @@ deeper-requires c κs =
 
 returns : tie.Need-returns
 returns c =
-        let a = c.args in
+    let a = c.args in
     rw (
       c.deeper.ensures,
       c.is_give.ensures,

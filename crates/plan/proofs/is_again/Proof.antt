@@ -5,7 +5,7 @@ use Rattle.plan.proofs.is_again.Tie as tie
 
 returns : tie.Need-returns
 returns c =
-            rw (
+    rw (
       c.union.ensures,
       c.only_if-given.ensures,
       c.is_give.ensures,

@@ -7,7 +7,7 @@ use Rattle.plan.proofs.misgives.Tie as tie
 returns : tie.Need-returns
 unfolding empty
 returns c =
-        rw (
+    rw (
       c.without.ensures,
       c.only.ensures,
       c.only_if-given.ensures,

@@ -33,7 +33,7 @@ module _ (n i prev named : ℕ) (early : Bool) (starter : List ℕ) where
 -- 16
 returns : tie.Need-returns-then-member
 returns c =
-            let a = c.args in
+    let a = c.args in
     ap checked (sym (twice a.n a.i a.prev a.named a.early a.starter.now
     (sym c.is_held.ensures ∙ c.if-is_held.true)
     (rw c.device.ensures at (sym c.member.ensures ∙ c.if-member.true))))
@@ -41,12 +41,12 @@ returns c =
 -- its job has its entry
 element-copy-out-if3 : tie.Need-bounds-starter-j
 element-copy-out-if3 c =
-        omega (arith, c.job-j.ensures, c.requires.1, c.requires.2)
+    omega (arith, c.job-j.ensures, c.requires.1, c.requires.2)
 
 -- 17
 returns-2 : tie.Need-returns-then-j-prev
 returns-2 c =
-                let a = c.args in
+    let a = c.args in
     ap checked (sym (late a.n a.i a.prev a.named a.early a.starter.now
     (sym c.is_held.ensures ∙ c.if-is_held.true)
     (rw c.device.ensures at (sym c.member.ensures ∙ c.if-member.false))
@@ -55,7 +55,7 @@ returns-2 c =
 -- neither
 returns-3 : tie.Need-returns-else-j-prev
 returns-3 c =
-                let a = c.args in
+    let a = c.args in
     ap checked (sym (in_time a.n a.i a.prev a.named a.early a.starter.now
     (sym c.is_held.ensures ∙ c.if-is_held.true)
     (rw c.device.ensures at (sym c.member.ensures ∙ c.if-member.false))

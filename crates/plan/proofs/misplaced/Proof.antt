@@ -43,7 +43,7 @@ placed midday n i prev j b few line e t =
     go false = refl
 
 -- the tests by what they found of the job, where the number is a line's
-at-job : (c : tie.After-job) (b : Bool)
+at_job : (c : tie.After-job) (b : Bool)
     → (eqb c.job.result c.args.prev
     || eqb c.job.result (suc c.args.prev))
     ≡ b
@@ -51,15 +51,15 @@ at-job : (c : tie.After-job) (b : Bool)
     c.args.n c.args.i
     c.args.prev
     ≡ refuse_if (not b) (JobOutOfSequence (c.args.i + 1))
-at-job c b e =
+at_job c b e =
     let a = c.args in
     placed a.midday a.n a.i a.prev c.job.result b c.if-i-ge-MOST_LINES.false
     (sym c.is_line.ensures ∙ c.if-is_line.true) c.job.ensures e
 
 -- a line's job is 1 at least
-job-least : (c : tie.After-job) → 1 ≤ c.job.result
-job-least c =
-        omega (
+job_least : (c : tie.After-job) → 1 ≤ c.job.result
+job_least c =
+    omega (
       arith,
       c.job.ensures,
       line_parts (board_at c.args.midday) c.args.n
@@ -70,21 +70,21 @@ job-least c =
 returns-2 : tie.Need-returns-then-wrapping_sub_u32-gt1
 unfolding refuse_if
 returns-2 c =
-        ap checked (sym (at-job c.before.before false (strays _ _ _ (job-least c.before.before) (omega arith) (omega arith)
+    ap checked (sym (at_job c.before.before false (strays _ _ _ (job_least c.before.before) (omega arith) (omega arith)
     c.wrapping_sub_u32.ensures c.if-wrapping_sub_u32-gt1.true)))
 
 -- in sequence
 returns-3 : tie.Need-returns-then-is_line
 unfolding refuse_if
 returns-3 c =
-        ap checked (sym (at-job c.before.before true (follows _ _ _ (job-least c.before.before) (omega arith) (omega arith)
+    ap checked (sym (at_job c.before.before true (follows _ _ _ (job_least c.before.before) (omega arith) (omega arith)
     c.wrapping_sub_u32.ensures c.if-wrapping_sub_u32-gt1.false)))
 
 -- no line
 returns-4 : tie.Need-returns
 unfolding place_fault first_refusal refuse_if line_number
 returns-4 c =
-        rw (
+    rw (
       lt-leb max_lines c.args.i c.if-i-ge-MOST_LINES.false,
       sym c.is_line.ensures ∙ c.if-is_line.false,
       add-one,

@@ -19,7 +19,7 @@ left n named u = rw u
 
 returns : tie.Need-returns-then-is_held
 returns c =
-            let a = c.args in
+    let a = c.args in
     c.union.ensures
     ∙ rw (c.only.ensures, c.device.ensures)
     (put_in a.n a.named (sym c.is_held.ensures ∙ c.if-is_held.true))

@@ -11,7 +11,7 @@ no_deeper depth i false h k = omega arith
 
 room : (c : tie.After-choose-t) → c.choose-t.result < max_lines
 room c =
-            rw c.choose-t.ensures
+    rw c.choose-t.ensures
     (no_deeper c.args.depth c.args.i (eqb c.job-j.result c.args.prev) c.requires.1 c.requires.0)
 
 element-copy-out-change : tie.Need-bounds-added-t
@@ -29,12 +29,12 @@ element-write-again c =
 
 element-write-holdings : tie.Need-bounds-holdings-j
 element-write-holdings c =
-        omega (arith, c.requires.4, c.requires.5, c.job-j.ensures)
+    omega (arith, c.requires.4, c.requires.5, c.job-j.ensures)
 
 returns : tie.Need-returns
 unfolding empty
 returns c =
-            rw (
+    rw (
       c.differ-after.ensures,
       c.is_again.ensures,
       c.change-c.ensures,

@@ -33,7 +33,7 @@ element-copy-out-misgives c = omega (arith, c.requires.0, c.requires.1, c.requir
 
 returns : tie.Need-returns-then-misgives
 returns c =
-        let a = c.args in (
+    let a = c.args in (
       λ first. wrongly_given a.n a.depth a.stack.now c.requires.3 c.requires.2 a.i
           (sym c.misgives.ensures ∙ c.if-misgives.true) first a.starter.now,
       (tt, c.requires.4),
@@ -47,7 +47,7 @@ entry c = c.before.before.before.before.before
 element-copy-out-if3 : tie.Need-bounds-starter-t
 unfolding is_start
 element-copy-out-if3 c =
-        let s = entry c.before.before.before.before in
+    let s = entry c.before.before.before.before in
     omega (
       arith,
       c.operand-o.ensures,
@@ -61,7 +61,7 @@ element-write-starter c = element-copy-out-if3 c.before.before
 -- a start that is in order
 returns-2 : tie.Need-returns-then-job-o
 returns-2 c =
-            let s = entry c.before.before.before.before.before.before in
+    let s = entry c.before.before.before.before.before.before in
     let a = s.args in
     rw c.operand-o.ensures (
       begun a.i a.n (held_in a.depth a.stack.now) a.starter.now
@@ -73,7 +73,7 @@ returns-2 c =
 -- one that is not
 returns-3 : tie.Need-returns-then-is_start
 returns-3 c =
-            let s = entry c.before.before.before.before.before.before in
+    let s = entry c.before.before.before.before.before.before in
     let a = s.args in (
       not_begun a.i a.n (held_in a.depth a.stack.now) a.starter.now
           (sym c.is_start.ensures ∙ c.if-is_start.true)
@@ -83,7 +83,7 @@ returns-3 c =
 
 held-after-requires : tie.Need-held_after-requires
 held-after-requires c κs =
-        let s = entry c.before.before in (
+    let s = entry c.before.before in (
       s.requires.0,
       s.requires.1,
       s.requires.2,

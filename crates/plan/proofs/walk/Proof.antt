@@ -64,7 +64,7 @@ note-if-requires c κs t =
 
 loop-again : tie.Need-loop-i-preserved invariant-loop decreases-loop
 loop-again c =
-        let k = c.note_if-held in
+    let k = c.note_if-held in
     let f = c.checked_line in
     let b = c.args in
     let p = b.plan.now in
@@ -85,7 +85,7 @@ loop-again c =
 -- too many lines
 returns-2 : tie.Need-returns-then-stop-plan invariant-loop decreases-loop
 returns-2 c =
-        let a = c.args in (
+    let a = c.args in (
       at_limit (board_at a.midday) (omega arith) a.plan.now c.loop-i.i c.loop-i.prev c.loop-i.named
           c.loop-i.early c.loop-i.depth c.loop-i.stack c.loop-i.first c.loop-i.starter c.loop-i.invariant.0
           (search rules) (search rules) _ _,
@@ -95,7 +95,7 @@ returns-2 c =
 -- the end
 returns-3 : tie.Need-returns invariant-loop decreases-loop
 returns-3 c =
-        let s = c.loop-i.invariant in
+    let s = c.loop-i.invariant in
     let a = c.args in
     let p = a.plan.now in
     let e : c.loop-i.i ≡ length p = omega (arith, s.0.at_most, c.loop-i-test.false, c.if-stop-plan.false) in (

@@ -20,21 +20,21 @@ decreases-loop room₀ n₀ room n = length room - n
 -- ---- one read, into the rest of the room
 
 module _ (c : tie.After-read-piece invariant-loop decreases-loop) where
-  abbrev at-loop : tie.At-loop invariant-loop decreases-loop
-  at-loop = c.before.before.before
+  abbrev at_loop : tie.At-loop invariant-loop decreases-loop
+  at_loop = c.before.before.before
 
   abbrev room : List ℕ
-  room = at-loop.loop.room
+  room = at_loop.loop.room
 
   abbrev n : ℕ
-  n = at-loop.loop.n
+  n = at_loop.loop.n
 
   abbrev rest : ℕ
   rest = length room - n
 
   -- the room is as long as it was
-  kept : length (put_mid n rest room c.read-piece.new.0) ≡ length at-loop.before.before.args.room.now
-  kept = same_len_mid n rest room c.read-piece.new.0 c.read-piece.auto.0 ∙ at-loop.loop.inv.1
+  kept : length (put_mid n rest room c.read-piece.new.0) ≡ length at_loop.before.before.args.room.now
+  kept = same_len_mid n rest room c.read-piece.new.0 c.read-piece.auto.0 ∙ at_loop.loop.inv.1
 
 -- a piece has a byte at least, and fits
 abbrev at_read : tie.After-known-told invariant-loop decreases-loop → tie.After-read-piece invariant-loop decreases-loop
@@ -53,19 +53,19 @@ piece c =
 
 add-n : tie.Need-overflow-add-n invariant-loop decreases-loop
 add-n c =
-    let l = at-loop (at_read c) in omega (arith, piece c, l.loop.inv.1, l.before.before.good)
+    let l = at_loop (at_read c) in omega (arith, piece c, l.loop.inv.1, l.before.before.good)
 
 loop-less : tie.Need-loop-smaller invariant-loop decreases-loop
-loop-less c = omega (arith, (piece c).0, (piece c).1, kept (at_read c), (at-loop (at_read c)).loop.inv.1)
+loop-less c = omega (arith, (piece c).0, (piece c).1, kept (at_read c), (at_loop (at_read c)).loop.inv.1)
 
 loop-again : tie.Need-loop-preserved invariant-loop decreases-loop
 loop-again c =
-    let r = at_read c in (omega (arith, (piece c).1, kept r, (at-loop r).loop.inv.1), kept r)
+    let r = at_read c in (omega (arith, (piece c).1, kept r, (at_loop r).loop.inv.1), kept r)
 
 -- the input ends
 returns : tie.Need-returns invariant-loop decreases-loop
 returns c =
-    let r = c.before.before.before.before in omega (arith, (at-loop r).loop.invariant, kept r)
+    let r = c.before.before.before.before in omega (arith, (at_loop r).loop.invariant, kept r)
 
 pub read_input_spec : {M : Type 1} → statement M
 read_input_spec =

@@ -38,10 +38,10 @@ returns-2 c =
     )
 
 -- by the table
-by-table : (c : tie.After-entry-s)
+by_table : (c : tie.After-entry-s)
     → let a = c.args in
     cond (ltb a.i c.entry-s.result) 0 c.entry-s.result ≡ line_before a.plan.now a.starter.now a.i
-by-table c =
+by_table c =
     let a = c.args in
     other_job a.plan.now a.starter.now a.i _ _ c.if-i-eq0.false
     c.job-j.ensures c.job.ensures c.entry-s.result c.if-job-j.false
@@ -49,11 +49,11 @@ by-table c =
 
 -- no start further up
 returns-3 : tie.Need-returns-then-i-s
-returns-3 c = (rw (lt-ltb _ _ c.if-i-s.true) at (by-table c.before), search rules)
+returns-3 c = (rw (lt-ltb _ _ c.if-i-s.true) at (by_table c.before), search rules)
 
 -- the start
 returns-4 : tie.Need-returns
-returns-4 c = (rw (le-ltb _ _ c.if-i-s.false) at (by-table c.before), search rules)
+returns-4 c = (rw (le-ltb _ _ c.if-i-s.false) at (by_table c.before), search rules)
 
 pub line_before_spec : {M : Type 1} → statement M
 line_before_spec =
