@@ -40,7 +40,7 @@ fn passed(n: u32, depth: usize) -> Search
 
 // How far what was taken is held: to the give at this position, or, where none matches, to the end of the job's lines,
 // which is the position after them.
-#[derive(Drop)]
+#[derive(Clone, Copy)]
 pub enum Span {
     Given(usize),
     Kept(usize),
