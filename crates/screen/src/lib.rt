@@ -1,10 +1,10 @@
 // What is printed for a text (01, "Plans with their verdicts", its last part), into a lent buffer: the bytes that the
-// program prints, and the exported entry for the screens.
+// program prints. The entry for the screens, exported to C, is the crate `screen_c` over this one.
 ghost use Rattle.std.specs.Prelude.{◌≤◌, ◌≡◌, length};
 ghost use Rattle.model.specs.Board.{board};
 ghost use Rattle.model.specs.Line.{max_lines};
 ghost use Rattle.model.specs.Printed.{printed_order};
-ghost use Rattle.promises.specs.Screen.{PrintsAs, ScreensAs};
+ghost use Rattle.promises.specs.Screen.{PrintsAs};
 ghost use Rattle.screen.specs.Shows.{ShowsAs};
 
 use board::MOST_LINES;
@@ -62,14 +62,4 @@ pub fn print(
         plan.new order.new out.new }
 {
     print_in(text, plan, order, out)
-}
-
-// The screens' entry: what the program prints for a text, into the lent buffer, and the number of bytes.
-#[unsafe(no_mangle)]
-pub extern "C" fn gimmerskip_order(text: &[u8], out: &mut [u8]) -> usize
-    ensures { ScreensAs board text.now out.old result out.new }
-{
-    let mut plan = [0u32; MOST_LINES];
-    let mut order = [0u16; MOST_LINES];
-    print(text, &mut plan, &mut order, out)
 }
