@@ -3,11 +3,11 @@
  * elsewhere, and moved claims, with rows kept for a quick verdict after each move.
  *
  * The archives are for x86-64 Linux, with the calls of the System V ABI. Link libscreen.a for gimmerskip_order,
- * libreader.a for gimmerskip_line and libport.a for the other nine; each stands by itself. The commands `rt staticlib
- * screen`, `rt staticlib reader` and `rt staticlib port` leave them in target/staticlib, and `install-archives PREFIX`
- * puts them with this header and a file for pkg-config under a prefix. Of other libraries they need `memcpy` and
- * `memset` alone, and the only names they define for others are those declared here. No entry keeps anything of what it
- * is lent, and none has a memory of its own, so that calls on several threads meet only in what they are lent.
+ * libreader.a for gimmerskip_line and libport.a for the other nine; each stands by itself. The command
+ * `./make-archives` leaves them in target/staticlib, and `install-archives PREFIX` puts them with this header and a file
+ * for pkg-config under a prefix. Of other libraries they need `memcpy` and `memset` alone, and the only names they
+ * define for others are those declared here. No entry keeps anything of what it is lent, and none has a memory of its
+ * own, so that calls on several threads meet only in what they are lent.
  *
  * A lent list is a pointer and then its length, counted in entries of the list's type.
  *   - A pointer is never null, not even where the length is 0: then it points at anything that is there.

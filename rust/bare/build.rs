@@ -1,4 +1,4 @@
-//! Links the archive that `rt staticlib bare` leaves in target/staticlib.
+//! Links the archive that `./make-archives bare` leaves in target/staticlib.
 use std::env;
 use std::path::PathBuf;
 use std::process::exit;
@@ -11,7 +11,7 @@ fn main() {
     if !archive.exists() {
         eprintln!("the archive libbare.a is missing in target/staticlib; comparisons and figures need it.");
         eprintln!("This makes it, from the repository's top folder:");
-        eprintln!("    rt staticlib bare");
+        eprintln!("    ./make-archives bare");
         exit(1);
     }
     println!("cargo:rustc-link-search=native={}", archives.display());

@@ -1,19 +1,19 @@
-//! Links the archives that `rt staticlib` leaves, for screen, reader and port, in target/staticlib.
+//! Links the archives that `./make-archives` leaves, screen, reader and port, in target/staticlib.
 use std::env;
 use std::path::{Path, PathBuf};
 use std::process::exit;
 
-/// The rooms whose archives are linked.
-const ROOMS: [&str; 3] = ["port", "reader", "screen"];
+/// The archives that are linked.
+const ARCHIVES: [&str; 3] = ["port", "reader", "screen"];
 
-/// The name of a room's archive.
-fn archive(room: &str) -> String {
-    format!("lib{room}.a")
+/// The file of an archive.
+fn archive(name: &str) -> String {
+    format!("lib{name}.a")
 }
 
 /// Ends the build with one message where archives are missing, however many they are.
 fn stop_if_missing(folder: &Path) {
-    let names = ROOMS.map(archive).into_iter();
+    let names = ARCHIVES.map(archive).into_iter();
     let missing: Vec<String> = names.filter(|name| !folder.join(name).exists()).collect();
     if !missing.is_empty() {
         eprintln!(
@@ -21,7 +21,7 @@ fn stop_if_missing(folder: &Path) {
             missing.join(", ")
         );
         eprintln!("This makes them all, from the repository's top folder:");
-        eprintln!("    for room in screen reader port; do rt staticlib \"$room\"; done");
+        eprintln!("    ./make-archives screen reader port");
         exit(1);
     }
 }
@@ -32,8 +32,8 @@ fn main() {
     let archives = here.join("../../target/staticlib");
     stop_if_missing(&archives);
     println!("cargo:rustc-link-search=native={}", archives.display());
-    for room in ROOMS {
-        println!("cargo:rerun-if-changed={}", archives.join(archive(room)).display());
-        println!("cargo:rustc-link-lib=static={room}");
+    for name in ARCHIVES {
+        println!("cargo:rerun-if-changed={}", archives.join(archive(name)).display());
+        println!("cargo:rustc-link-lib=static={name}");
     }
 }

@@ -33,9 +33,10 @@ pub struct Program {
     pub prints: fn(&[u8]) -> Vec<u8>,
 }
 
-/// The path in an environment variable, or where the build leaves a program.
+/// The path in an environment variable, or where `rt ci` leaves a program.
 fn path(variable: &str, program: &str) -> PathBuf {
-    let built = || [env!("CARGO_MANIFEST_DIR"), "../../target/bin", program].iter().collect();
+    let top = concat!(env!("CARGO_MANIFEST_DIR"), "/../../crates");
+    let built = || [top, program, "out", program].iter().collect();
     std::env::var_os(variable).map_or_else(built, PathBuf::from)
 }
 
