@@ -1,5 +1,7 @@
 // The circle search by itself, under a C name, so that it can be held to a second reading, timed, and its stack
 // measured on any rows. No caller of the library needs it.
+#![tactic(auto)]
+
 ghost use Rattle.std.specs.Prelude.{◌≡◌};
 ghost use Rattle.rows.specs.Where.{circles_of};
 

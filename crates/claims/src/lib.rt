@@ -1,5 +1,7 @@
 // The table of claims (01, "Claims and rows"): one set a line, worked out in one pass from the end. Lines are taken as
 // they count: one that takes again what its job holds claims nothing, as a do (02, request 2).
+#![tactic(auto)]
+
 ghost use Rattle.std.specs.Prelude.{◌≡◌, ◌≤◌, length};
 ghost use Rattle.std.proofs.Math.Option.{none};
 ghost use Rattle.model.specs.Lists.{over};

@@ -1,5 +1,7 @@
 // The entries for callers in C and Rust. Each hands on what it was lent and makes the answer one number of 64 bits:
 // what a success counts, or a refusal's number times 2^32 plus its place (01, "Refusal numbers"; 02, requests 1 and 4).
+#![tactic(auto)]
+
 ghost use Rattle.model.specs.Board.{board};
 ghost use Rattle.promises.specs.ForC.{ReadsForC, WritesForC, TablesForC, OrdersForC, MovesForC, JudgesForC};
 ghost use Rattle.promises.specs.ForC.{BuildsForC, MovesKeptForC, QuickForC};

@@ -1,5 +1,5 @@
 -- What a walk back over a plan finds, and the outcomes of the entries above it (01, "Claims and rows"; 02, request 2).
-use Rattle.std.specs.Prelude.{◌≡◌, ℕ, ◌%◌, ◌^◌, Bool, cond, ◌&&◌, List, set, ◌==◌, slice_index, slice_set}
+use Rattle.std.specs.Prelude.{◌≡◌, ℕ, ◌%◌, ◌^◌, Bool, cond, ◌&&◌, List, ◌==◌, slice_index, slice_set}
 use Rattle.std.proofs.Math.Option.{Option, none, some}
 use Rattle.model.specs.Board.{devices, board}
 use Rattle.model.specs.Line.{job, operand, is_take}

@@ -1,6 +1,6 @@
 -- The lasting takes of a plan (01, "Rules of a well-formed plan" and "Claims and rows"): a flag for each line, and the
 -- set of the devices that two lines keep to the end. Below them the steps of the walk back.
-use Rattle.std.specs.Prelude.{ℕ, suc, ◌-◌, Bool, cond, List, map, length, set, ◌==◌, nat_le, slice_index, slice_set}
+use Rattle.std.specs.Prelude.{ℕ, suc, ◌-◌, Bool, cond, List, map, length, ◌==◌, nat_le, slice_index, slice_set}
 use Rattle.model.specs.Lists.{up_from}
 use Rattle.model.specs.Line.{job, operand, opens, is_give, max_lines}
 use Rattle.model.specs.Mate.{lasting_at}

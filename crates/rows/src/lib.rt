@@ -1,6 +1,8 @@
 // The devices that stay held, what they wait for, and circles (01, "Claims and rows"): the lasting takes of a plan, its
 // rows, and the devices that lead back to themselves. A line that takes again what its job holds counts as a do: it
 // never lasts and makes no row (02, request 2).
+#![tactic(auto)]
+
 ghost use Rattle.std.specs.Prelude.{◌≡◌, suc, ◌%◌, ◌^◌, true, ◌&&◌, length, set, nat_lt, slice_set};
 ghost use Rattle.std.proofs.Math.Option.{none};
 ghost use Rattle.model.specs.Board.{devices, board};

@@ -1,5 +1,7 @@
 // What is printed for a text (01, "Plans with their verdicts", its last part), into a lent buffer: the bytes that the
 // program prints. The entry for the screens, exported to C, is the crate `screen_c` over this one.
+#![tactic(auto)]
+
 ghost use Rattle.std.specs.Prelude.{◌≤◌, ◌≡◌, length};
 ghost use Rattle.model.specs.Board.{board};
 ghost use Rattle.model.specs.Line.{max_lines};

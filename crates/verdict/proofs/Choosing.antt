@@ -1,7 +1,7 @@
 -- Where no job goes on, the foremost place has the line that (a), otherwise (b), chooses (01, "The order handed
 -- out"): the lowest job that can go on, or of the lasting takes that stand next the lowest device that nobody else
 -- still wants.
-use Prim.Native.Nat.{ℕ, ◌+◌, ◌-◌, ◌<◌, ◌≤◌}
+use Prim.Native.Nat.{ℕ, ◌+◌, ◌<◌, ◌≤◌}
 use mathlib.Core.Bool.{true, false, not, ◌&&◌}
 use mathlib.Core.List.{List}
 use mathlib.Core.Logic.{◌⊎◌, inl, inr}

@@ -1,5 +1,7 @@
 // The verdict on a packed plan (01, "The order handed out"): an order of its lines with the number of devices that stay
 // held, or why there is none.
+#![tactic(auto)]
+
 ghost use Rattle.model.specs.Board.{board};
 ghost use Rattle.promises.specs.Verdict.{OrdersAs};
 ghost use Rattle.verdict.specs.Findings.{Findings};

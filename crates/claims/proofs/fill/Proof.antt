@@ -6,7 +6,7 @@ use native.Mathlib.Omega.{arith}
 use lib.ListN.{length}
 use borrow.Author.Rules.{rules}
 use Rattle.model.specs.Board.{board}
-use Rattle.model.specs.Line.{job, is_line, at, max_lines}
+use Rattle.model.specs.Line.{job, is_line, at}
 use Rattle.model.specs.WellFormed.{WellFormed}
 use Rattle.theory.specs.Outer.{again_at, plain_at}
 use Rattle.theory.proofs.Outer.{plain_job}
@@ -32,7 +32,7 @@ well_formed s = (no_fault_exactly board s.args.plan.now).0 s.requires.0
 
 element-copy-out-plain : tie.Need-bounds-again-i invariant-loop decreases-loop
 element-copy-out-plain c =
-        omega (
+    omega (
       arith,
       c.loop-i.invariant.in_plan,
       (well_formed c.before.before.before.before.before.before).few,
@@ -67,7 +67,7 @@ module _ (c : tie.After-job-j invariant-loop decreases-loop) where
 
 loop-again : tie.Need-loop-i-preserved invariant-loop decreases-loop
 loop-again c =
-        let a = (s c.before.before).args in
+    let a = (s c.before.before).args in
     let l = c.loop-i in
     let back : l.i ≡ suc (l.i - 1) = omega arith in
     one_done a.plan.now a.sets.now l.sets l.claimed (l.i - 1) c.job-j.result c.claim-s.result
@@ -76,7 +76,7 @@ loop-again c =
 returns : tie.Need-returns invariant-loop decreases-loop
 returns c =
     let l = c.loop-i in
-        let front : l.i ≡ 0 = omega arith in
+    let front : l.i ≡ 0 = omega arith in
     all_done c.args.plan.now c.args.sets.now l.sets l.claimed c.requires.2
     (rw front at l.invariant)
 

@@ -31,7 +31,7 @@ flags c = rw (no_fault_lem c) at c.scan.ensures.agains
 -- 2 to 7
 returns : tie.Need-returns-in-Refused
 returns c =
-        let a = c.args in
+    let a = c.args in
     let r = c.in-Refused.r in
     faulty a.plan.now a.sets.now r
     (told (fault board a.plan.now) r (sym c.in-Refused.is ∙ c.scan.ensures.answers))
@@ -45,7 +45,7 @@ returns-2 c =
 -- the table
 returns-3 : tie.Need-returns
 returns-3 c =
-        let a = (entry c.before.before.before.before.before.before).args in
+    let a = (entry c.before.before.before.before.before.before).args in
     tabled a.plan.now a.sets.now _ (no_fault_lem c.before.before.before.before.before.before) c.if-sets-n.false
     c.fill.ensures
 

@@ -19,7 +19,7 @@ no_fault_lem c = untold _ (sym c.in_default.is ∙ c.scan_holding.ensures.scanne
 -- 2 to 7
 returns : tie.Need-returns-in-Refused
 returns c =
-        let p = c.args.plan.now in
+    let p = c.args.plan.now in
     let r = c.in-Refused.r in
     held_refused p r
     (told (fault board p) r (sym c.in-Refused.is ∙ c.scan_holding.ensures.scanned.answers))
@@ -36,7 +36,7 @@ over-jobs-requires c κs =
 -- the two sets
 returns-2 : tie.Need-returns
 returns-2 c =
-        c.over_jobs.ensures
+    c.over_jobs.ensures
     ∙ held_made (entry c.before.before).args.plan.now _ (no_fault_lem c.before.before) (held_is c.before.before)
 
 pub held_to_end_spec : {M : Type 1} → statement M

@@ -17,7 +17,7 @@ no_fault_lem c = untold _ (sym c.in_default.is ∙ c.scan.ensures.answers)
 -- 2 to 7
 returns : tie.Need-returns-in-Refused
 returns c =
-        let scanned = c.scan.ensures in
+    let scanned = c.scan.ensures in
     let a = c.args in
     let r = c.in-Refused.r in
     refused a.plan.now a.first.now _ a.again.now _ a.rows.now a.lasting.now scanned.firsts
@@ -26,12 +26,12 @@ returns c =
 -- the flags are the plan's
 walk-back-requires : tie.Need-walk_back-made-requires
 walk-back-requires c κs =
-        (no_fault_lem c.before.before.before, rw (no_fault_lem c.before.before.before) at c.scan.ensures.agains)
+    (no_fault_lem c.before.before.before, rw (no_fault_lem c.before.before.before) at c.scan.ensures.agains)
 
 -- the holds
 returns-2 : tie.Need-returns
 returns-2 c =
-            let scanned = c.scan.ensures in
+    let scanned = c.scan.ensures in
     let a = (entry c.before.before.before.before.before).args in
     made a.plan.now a.first.now _ a.again.now _ a.rows.now a.lasting.now scanned.firsts
     scanned.agains _ _ _ _ c.walk_back-made.result (no_fault_lem c.before.before.before.before.before) c.walk_back-made.ensures

@@ -34,7 +34,7 @@ joined_on {l} {j} {s} {lasts} {rs} {claimed} line take e es er =
 
 returns : tie.Need-returns
 returns c =
-        let pre = c.requires in
+    let pre = c.requires in
     joined_on pre.0 pre.1 c.job-j.ensures c.claim-s.ensures
     c.join_row.ensures
 

@@ -26,7 +26,7 @@ row_joined_lem l next rows e ed er = rw (e, er, ed)
 
 returns : tie.Need-returns-then-lasts-o
 returns c =
-        let a = c.args in
+    let a = c.args in
     let o = c.operand-o in
     row_joined_lem a.l a.next a.rows.now
     (on_board_lem a.l o.result a.lasts true o.ensures c.if-lasts-o.true) o.ensures c.union.ensures

@@ -22,8 +22,8 @@ loop-holds c =
 loop-again : tie.Need-loop-j-preserved invariant-loop decreases-loop
 unfolding union_of twice_in
 loop-again c =
-        let l = c.loop-j in
-        let h = c.args.holdings.now in
+    let l = c.loop-j in
+    let h = c.args.holdings.now in
     let back : l.j ≡ suc (l.j - 1) = omega (arith, c.loop-j-test.true) in
     let inv = rw back at l.invariant in
     let on = drop-cons h (l.j - 1) 0 (omega (arith, l.invariant.0, c.requires, c.loop-j-test.true)) in (

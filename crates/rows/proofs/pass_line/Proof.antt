@@ -23,7 +23,7 @@ passed_on old l plain ej ea et eo e ew eh eb e2 =
 
 returns : tie.Need-returns
 returns c =
-                let a = c.args in
+    let a = c.args in
     passed_on a.passed a.l a.plain c.job-j.ensures c.choose-after.ensures
     c.is_take.ensures c.operand.ensures c.only_if-one.ensures
     c.wanted_before.ensures c.union.ensures c.both.ensures

@@ -17,7 +17,7 @@ no_fault_lem c = untold _ (sym c.in_default.is ∙ c.scan.ensures.answers)
 -- 2 to 7
 returns : tie.Need-returns-in-Refused
 returns c =
-        let a = c.args in
+    let a = c.args in
     let r = c.in-Refused.r in
     not_tabled a.plan.now a.rows.now a.table.now r
     (told (fault board a.plan.now) r (sym c.in-Refused.is ∙ c.scan.ensures.answers))
@@ -25,12 +25,12 @@ returns c =
 -- the flags are the plan's
 walk-back-requires : tie.Need-walk_back-made-requires
 walk-back-requires c κs =
-        (no_fault_lem c.before.before.before.before, rw (no_fault_lem c.before.before.before.before) at c.scan.ensures.agains)
+    (no_fault_lem c.before.before.before.before, rw (no_fault_lem c.before.before.before.before) at c.scan.ensures.agains)
 
 -- rows and table
 returns-2 : tie.Need-returns
 returns-2 c =
-            let a = (entry c.before.before.before.before.before.before.before).args in
+    let a = (entry c.before.before.before.before.before.before.before).args in
     is_tabled a.plan.now a.rows.now a.table.now _ _ _ c.walk_back-made.result (no_fault_lem c.before.before.before.before.before.before.before)
     c.walk_back-made.ensures
 

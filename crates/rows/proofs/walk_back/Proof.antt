@@ -20,7 +20,7 @@ loop-holds c = let a = c.args in none_walked a.plan.now a.table.now
 
 element-copy-out-plain : tie.Need-bounds-again-i invariant-loop decreases-loop
 element-copy-out-plain c =
-            has_flag c.args.plan.now c.args.again.now (c.loop-i.i - 1) c.requires
+    has_flag c.args.plan.now c.args.again.now (c.loop-i.i - 1) c.requires
     (omega (arith, c.loop-i.invariant.counted.in_plan))
 
 -- the line at hand, passed as it counts
@@ -51,7 +51,7 @@ element-write-lasting c =
 
 join-line-requires : tie.Need-join_line-s-requires invariant-loop decreases-loop
 join-line-requires c κs =
-        let l = c.loop-i in
+    let l = c.loop-i in
     let fine = (s c.before.before.before.before).requires.0 in
     let back : l.i ≡ suc (l.i - 1) = omega arith in
     let m = rw back at l.invariant in
@@ -59,7 +59,7 @@ join-line-requires c κs =
 
 loop-again : tie.Need-loop-i-preserved invariant-loop decreases-loop
 loop-again c =
-                let l = c.loop-i in
+    let l = c.loop-i in
     let back : l.i ≡ suc (l.i - 1) = omega arith in
     rw c.store.ensures
     (one_walked (s c.before.before.before.before.before.before.before.before.before).requires.0 (rw back at l.invariant) (passed_on c.before.before.before.before.before.before.before.before.before)

@@ -24,7 +24,7 @@ made l n h em eg e et er = let s = (serves n).1 in let b = before n h (opens l) 
 
 returns : tie.Need-returns
 returns c =
-            let a = c.args in
+    let a = c.args in
     made a.l a.after (omega arith) c.wrapping_add_u32-more.ensures c.is_give.ensures
     c.choose-given.ensures c.opens.ensures c.choose.ensures
 

@@ -19,12 +19,12 @@ length-fits c = omega (arith, few c.requires.marked)
 -- 11
 returns : tie.Need-returns-then-order-n
 returns c =
-        short c.args.plan.now c.args.order.now c.requires.marked.sound c.if-order-n.true
+    short c.args.plan.now c.args.order.now c.requires.marked.sound c.if-order-n.true
 
 -- 9
 returns-2 : tie.Need-returns-then-d-lt-DEVICES
 returns-2 c =
-            without_order c.args.plan.now c.args.order.now c.requires.marked.sound c.if-order-n.false _
+    without_order c.args.plan.now c.args.order.now c.requires.marked.sound c.if-order-n.false _
     (two_lasting_lem c.requires c.lowest-d.ensures c.if-d-lt-DEVICES.true)
 
 -- where 10 is asked for
@@ -43,7 +43,7 @@ back c = c.lowest-e.ensures ∙ ap (lowest_of devices) c.circles.ensures
 -- 10
 returns-3 : tie.Need-returns-then-e-lt-DEVICES
 returns-3 c =
-        let a = (start c.before).args in
+    let a = (start c.before).args in
     without_order a.plan.now a.order.now (start c.before).requires.marked.sound (room c.before).if-order-n.false _
     (leads_back_lem (start c.before).requires (no_9 c.before).lowest-d.ensures (no_9 c.before).if-d-lt-DEVICES.false (back c.before)
     c.if-e-lt-DEVICES.true)
@@ -51,16 +51,16 @@ returns-3 c =
 -- neither
 orderly : (c : tie.Else-e-lt-DEVICES) → no_order devices (start c.before).args.plan.now ≡ none
 orderly c =
-        has_order (start c.before).requires (no_9 c.before).lowest-d.ensures (no_9 c.before).if-d-lt-DEVICES.false (back c.before) c.if-e-lt-DEVICES.false
+    has_order (start c.before).requires (no_9 c.before).lowest-d.ensures (no_9 c.before).if-d-lt-DEVICES.false (back c.before) c.if-e-lt-DEVICES.false
 
 hand-out-requires : tie.Need-hand_out-requires
 hand-out-requires c κs =
-        let pre = (start c.before.before).requires in
+    let pre = (start c.before.before).requires in
     ((pre.marked, pre.listed, pre.agains_are), (orderly c.before, (room c.before.before).if-order-n.false))
 
 returns-4 : tie.Need-returns
 returns-4 c =
-                let a = (start c.before.before.before.before.before.before).args in
+    let a = (start c.before.before.before.before.before.before).args in
     let pre = (start c.before.before.before.before.before.before).requires in
     ordered a.plan.now a.order.now pre.marked.sound (room c.before.before.before.before.before.before).if-order-n.false c.count.result _
     (orderly c.before.before.before.before.before) (c.count.ensures ∙ count_held pre (orderly c.before.before.before.before.before)) c.hand_out.ensures

@@ -13,7 +13,7 @@ decide-requires c κs =
 
 returns : tie.Need-returns-in-Refused
 returns c =
-        let a = c.args in
+    let a = c.args in
     faulty a.plan.now a.order.now c.in-Refused.r
     (holds_refused c.holds.ensures c.in-Refused.is)
 

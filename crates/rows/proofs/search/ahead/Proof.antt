@@ -16,7 +16,7 @@ decreases-loop rows within stop from reached₀ done₀ reached done = 2 ^ lengt
 
 loop-holds : tie.Need-loop-reached-init invariant-loop decreases-loop
 loop-holds c =
-        let a = c.args in
+    let a = c.args in
     rw (c.only-reached.ensures, sym c.requires.0)
     (following_begins a.rows.now a.within a.from (rw c.requires.0 c.requires.1))
 
@@ -32,7 +32,7 @@ chosen : (c : tie.After-lowest-d invariant-loop decreases-loop)
     → Next (rows c) (start c).args.within (start c).args.from c.loop-reached.reached
     c.loop-reached.done c.loop-reached.invariant c.lowest-d.result
 chosen c =
-        let a = (start c).args in
+    let a = (start c).args in
     next (rows c) a.within a.from c.loop-reached.reached c.loop-reached.done c.loop-reached.invariant a.stop
     (rw c.both.ensures at c.loop-reached-test.true) c.lowest-d.result
     (c.lowest-d.ensures ∙ ap (lowest_of devices) c.without.ensures
@@ -51,7 +51,7 @@ shared-slice-read-both c = (chosen c.before.before.before).on_board
 
 loop-less : tie.Need-loop-reached-smaller invariant-loop decreases-loop
 loop-less c =
-        let l = c.loop-reached in
+    let l = c.loop-reached in
     let a = (start c.before.before.before.before.before).args in
     rw (
       c.union-done.ensures,
@@ -63,7 +63,7 @@ loop-less c =
 
 loop-again : tie.Need-loop-reached-preserved invariant-loop decreases-loop
 loop-again c =
-        let l = c.loop-reached in
+    let l = c.loop-reached in
     let a = (start c.before.before.before.before.before).args in
     rw (
       c.union-reached.ensures,

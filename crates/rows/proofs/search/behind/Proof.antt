@@ -14,12 +14,12 @@ decreases-loop rows within these lead₀ before₀ lead before =
 
 loop-holds : tie.Need-loop-lead-init invariant-loop decreases-loop
 loop-holds c =
-        let a = c.args in
+    let a = c.args in
     gathering_begins a.rows.now a.within a.these (rw c.requires c.ranges.these.fits)
 
 loop-less : tie.Need-loop-lead-smaller invariant-loop decreases-loop
 loop-less c =
-        let a = c.args in
+    let a = c.args in
     let l = c.loop-lead in
     rw (c.union-lead.ensures, c.look-seen.ensures.0, c.without.ensures)
     (gathering_less a.rows.now a.within a.these l.lead l.before l.invariant
@@ -27,7 +27,7 @@ loop-less c =
 
 loop-again : tie.Need-loop-lead-preserved invariant-loop decreases-loop
 loop-again c =
-        let a = c.args in
+    let a = c.args in
     let l = c.loop-lead in
     rw (c.union-lead.ensures, c.look-seen.ensures.0, c.without.ensures)
     (gathering_on a.rows.now a.within a.these l.lead l.before l.invariant)

@@ -16,7 +16,7 @@ board start =
 -- nothing else was reached
 returns : tie.Need-returns-then-both-eq-NONE
 returns c =
-        let a = c.args in
+    let a = c.args in
     let led = c.ahead-led in
     circle_passed a.rows.now a.left a.walked c.requires.1 c.requires.2 c.requires.3 led.result
     led.ensures (sym c.both.ensures ∙ c.if-both-eq-NONE.true)
@@ -24,7 +24,7 @@ returns c =
 -- something was
 returns-2 : tie.Need-returns
 returns-2 c =
-        let a = c.args in
+    let a = c.args in
     circle_behind a.rows.now a.left a.walked c.requires.1 c.requires.2 c.requires.3
     c.behind-lead.result
     (rw c.without.ensures at c.behind-lead.ensures) c.ahead.result c.ahead.ensures

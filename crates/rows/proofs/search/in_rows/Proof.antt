@@ -19,7 +19,7 @@ loop-holds c = (search rules, joined_begins devices _ (row_at c.args.rows.now) (
 
 loop-again : tie.Need-loop-d-preserved invariant-loop decreases-loop
 loop-again c =
-        let l = c.loop-d in (
+    let l = c.loop-d in (
       omega arith,
       c.union-s.ensures
           ∙ joined_grows devices l.d (row_at c.args.rows.now) l.s (omega arith)
@@ -30,7 +30,7 @@ returns : tie.Need-returns invariant-loop decreases-loop
 unfolding in_rows
 returns c =
     let l = c.loop-d in
-        let rs = c.args.rows.now in
+    let rs = c.args.rows.now in
     rw c.requires
     (l.invariant.1 ∙ joined_whole devices l.d (row_at rs) l.invariant.0 (λ k h. absurd (omega (arith, c.loop-d-test.false))))
 

@@ -41,7 +41,7 @@ row_is c =
 
 loop-again : tie.Need-loop-d-preserved invariant-loop decreases-loop
 loop-again c =
-        let l = c.loop-d in
+    let l = c.loop-d in
     let a = (start c.before.before.before).args in (
       omega arith,
       c.union-into.ensures
@@ -61,7 +61,7 @@ loop-again c =
 returns : tie.Need-returns invariant-loop decreases-loop
 returns c =
     let l = c.loop-d in
-        let rs = c.args.rows.now in
+    let rs = c.args.rows.now in
     let within = c.args.within in
     let low : l.d ≤ lowest_of devices within =
     omega (arith, c.loop-d-test.false, c.last_looked_at-low.ensures) in (

@@ -34,7 +34,7 @@ again c =
 
 returns : tie.Need-returns-then-member
 returns c =
-        let s = start c.before.before.before in
+    let s = start c.before.before.before in
     let rs = s.args.rows.now in
     let old = s.args.search in
     let at = c.walk-walked.result.at in
@@ -55,7 +55,7 @@ returns c =
 -- where it was stuck
 returns-2 : tie.Need-returns
 returns-2 c =
-        let rs = c.args.rows.now in
+    let rs = c.args.rows.now in
     let left = c.args.search.left in
     let w = c.walk-walked in
     let q = sym c.member.ensures ∙ c.if-member.false in

@@ -14,18 +14,18 @@ decreases-loop rows left stays₀ before₀ stays before = 2 * stays + cond (eqb
 
 loop-holds : tie.Need-loop-stays-init invariant-loop decreases-loop
 loop-holds c =
-        taking_begins c.args.rows.now c.args.left (rw c.requires c.ranges.left.fits)
+    taking_begins c.args.rows.now c.args.left (rw c.requires c.ranges.left.fits)
 
 loop-less : tie.Need-loop-stays-smaller invariant-loop decreases-loop
 loop-less c =
-        let a = c.args in
+    let a = c.args in
     let l = c.loop-stays in
     rw (c.both-stays.ensures, c.look-seen.ensures.0, c.look-seen.ensures.1)
     (taking_less a.rows.now a.left l.stays l.before l.invariant c.loop-stays-test.true)
 
 loop-again : tie.Need-loop-stays-preserved invariant-loop decreases-loop
 loop-again c =
-        let a = c.args in
+    let a = c.args in
     let l = c.loop-stays in
     rw (c.both-stays.ensures, c.look-seen.ensures.0, c.look-seen.ensures.1)
     (taking_on a.rows.now a.left l.stays l.before l.invariant)

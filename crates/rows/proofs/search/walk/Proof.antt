@@ -14,7 +14,7 @@ decreases-loop rows left at₀ rest₀ at rest = rest
 
 loop-holds : tie.Need-loop-rest-init invariant-loop decreases-loop
 loop-holds c =
-        let a = c.args in
+    let a = c.args in
     rw (c.lowest-at.ensures, sym c.requires.0)
     (walking_begins a.rows.now a.left (rw c.requires.0 c.ranges.left.fits) c.requires.1)
 
@@ -41,7 +41,7 @@ mul-both c = omega (arith, board c.before.before, (start c.before.before).requir
 
 loop-less : tie.Need-loop-rest-smaller invariant-loop decreases-loop
 loop-less c =
-        let l = c.loop-rest in
+    let l = c.loop-rest in
     rw (
       c.without-rest.ensures,
       c.only.ensures,
@@ -51,7 +51,7 @@ loop-less c =
 
 loop-again : tie.Need-loop-rest-preserved invariant-loop decreases-loop
 loop-again c =
-        let l = c.loop-rest in
+    let l = c.loop-rest in
     rw (
       c.lowest-at-in-loop-rest.ensures,
       c.both.ensures,

@@ -17,7 +17,7 @@ mark-at c = omega (arith, few c.requires.0, c.if-i-plan.true)
 
 job-from-1 : tie.Need-place-s-requires
 job-from-1 c κs =
-        (job_fits (formed c.requires.0) c.args.i c.if-i-plan.true).0
+    (job_fits (formed c.requires.0) c.args.i c.if-i-plan.true).0
 
 -- where the place of a line of the plan is known
 abbrev start : tie.After-place-s → tie.Start
@@ -38,7 +38,7 @@ in-places c =
 returns : tie.Need-returns-then-i-plan
 unfolding arrived placed
 returns c =
-        let a = (start c.before.before).args in
+    let a = (start c.before.before).args in
     rw (lt-ltb a.i (length a.plan.now) c.if-i-plan.true, ← its_place c.before.before)
     (c.take_place.ensures, refl)
 

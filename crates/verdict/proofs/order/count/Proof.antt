@@ -18,7 +18,7 @@ one_more false n h = omega arith
 
 can-rise : tie.Need-overflow_add-counts
 can-rise c =
-        omega (
+    omega (
       arith,
       ap (λ (o : ℕ). get_or c.args.counts.now (o % devices) 0) c.operand.ensures,
       one_more c.is_take-takes.result _ c.requires,

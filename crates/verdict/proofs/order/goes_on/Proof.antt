@@ -8,12 +8,12 @@ use Rattle.verdict.proofs.order.goes_on.Tie as tie
 
 mark-at : tie.Need-bounds-lasting-i
 mark-at c =
-        let m = c.requires.0 in
+    let m = c.requires.0 in
     omega (arith, few m, next_line_lem m c.args.i (sym c.job_follows.ensures ∙ c.if-job_follows.true))
 
 returns : tie.Need-returns-then-job_follows
 returns c =
-        goes_unmarked c.requires.0 c.args.i
+    goes_unmarked c.requires.0 c.args.i
     (sym c.job_follows.ensures ∙ c.if-job_follows.true)
 
 -- the job's last line

@@ -49,16 +49,16 @@ slice-write-order c =
 
 pass-requires : tie.Need-pass-w-requires invariant-loop decreases-loop
 pass-requires c κs =
-        asks (in_loop c.before.before.before).loop-k.invariant (in_loop c.before.before.before).loop-k-test.true c.goes_next-c.ensures
+    asks (in_loop c.before.before.before).loop-k.invariant (in_loop c.before.before.before).loop-k-test.true c.goes_next-c.ensures
 
 goes-on-requires : tie.Need-goes_on-on-requires invariant-loop decreases-loop
 goes-on-requires c κs =
-        let h = (in_loop c.before.before.before.before).loop-k.invariant in
+    let h = (in_loop c.before.before.before.before).loop-k.invariant in
     (h.marked, a_line_lem h (in_loop c.before.before.before.before).loop-k-test.true c.goes_next-c.ensures)
 
 loop-again : tie.Need-loop-k-preserved invariant-loop decreases-loop
 loop-again c =
-        let p = c.pass-w.ensures in
+    let p = c.pass-w.ensures in
     hands_on (in_loop c.before.before.before.before.before).loop-k.invariant (in_loop c.before.before.before.before.before).loop-k-test.true c.goes_next-c.ensures p.0
     p.1.0 p.1.1 c.goes_on-on.ensures
 

@@ -4,7 +4,7 @@ use native.Mathlib.Omega.{arith}
 use lib.ListN.{length}
 use borrow.Author.Rules.{rules}
 use borrow.Author.Tests.{lt-ltb, le-ltb}
-use Prim.Native.Nat.{suc, ◌+◌}
+use Prim.Native.Nat.{suc}
 use Rattle.verdict.specs.Waiting.{followed}
 use Rattle.verdict.proofs.order.job_follows.Statement.{statement}
 use Rattle.verdict.proofs.order.job_follows.Tie as tie
@@ -12,7 +12,7 @@ use Rattle.verdict.proofs.order.job_follows.Tie as tie
 returns : tie.Need-returns-then-n-plan
 unfolding followed
 returns c =
-        let a = c.args in
+    let a = c.args in
     rw (
       c.job.ensures,
       c.job-then-n-plan.ensures,

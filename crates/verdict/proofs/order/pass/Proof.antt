@@ -11,7 +11,7 @@ use Rattle.verdict.proofs.order.pass.Tie as tie
 
 element-copy-out-plain : tie.Need-bounds-again-i
 element-copy-out-plain c =
-        let pre = c.requires in
+    let pre = c.requires in
     let a = c.args in
     has_flag a.plan.now a.again.now a.i (pre.0.0.sound, pre.1.0) pre.0.2
 
@@ -32,7 +32,7 @@ settle-requires c κs = rw (counts c) (start c).requires.1.2
 
 arrive-requires-2 : tie.Need-arrive-requires
 arrive-requires-2 c κs =
-        let s = start c.before.before.before.before.before.before in
+    let s = start c.before.before.before.before.before.before in
     let a = s.args in (
       s.requires.0.0,
       ap length c.arrive-followed.ensures.1
@@ -43,7 +43,7 @@ arrive-requires-2 c κs =
 returns : tie.Need-returns
 unfolding passed replaced
 returns c =
-            let t = rw (counts c.before.before.before.before.before.before.before) at c.settle-settled.ensures in
+    let t = rw (counts c.before.before.before.before.before.before.before) at c.settle-settled.ensures in
     let f = c.arrive-followed.ensures in
     let n = c.lasting_after-next.ensures in
     let s = c.started.ensures in

@@ -6,7 +6,7 @@ use Rattle.verdict.proofs.order.settle.Tie as tie
 
 can-fall : tie.Need-overflow_sub-counts
 can-fall c =
-        rw (c.is_take-takes.ensures, c.operand-d.ensures) c.requires
+    rw (c.is_take-takes.ensures, c.operand-d.ensures) c.requires
 
 returns : tie.Need-returns
 unfolding counted settled scarce_if

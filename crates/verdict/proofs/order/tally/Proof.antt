@@ -27,7 +27,7 @@ loop-holds c = (omega arith, refl)
 
 element-copy-out-plain : tie.Need-bounds-again-i invariant-loop decreases-loop
 element-copy-out-plain c =
-            has_flag c.args.plan.now c.args.again.now c.loop-i.i c.requires
+    has_flag c.args.plan.now c.args.again.now c.loop-i.i c.requires
     c.loop-i-test.true
 
 -- the line at hand, as it counts
@@ -46,7 +46,7 @@ module _ (c : tie.After-plain invariant-loop decreases-loop) where
 
 count-requires : tie.Need-count-requires invariant-loop decreases-loop
 count-requires c κs =
-                let w = (no_fault_exactly board c.args.plan.now).0 c.requires.0 in
+    let w = (no_fault_exactly board c.args.plan.now).0 c.requires.0 in
     rw (c.loop-i.invariant.1, counts c)
     (tallied_small c.args.plan.now w c.loop-i.i (omega (arith, w.few, c.loop-i-test.true)))
 
@@ -63,7 +63,7 @@ loop-again c =
 
 returns : tie.Need-returns invariant-loop decreases-loop
 returns c =
-        let p = c.args.plan.now in
+    let p = c.args.plan.now in
     let e : c.loop-i.i ≡ length p = omega arith in c.loop-i.invariant.1 ∙ ap (tallied p) e
 
 pub tally_spec : {M : Type 1} → statement M

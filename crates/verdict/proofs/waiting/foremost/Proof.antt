@@ -1,5 +1,4 @@
 -- `verdict::waiting::foremost` meets its contract: the lowest job, or else the lowest device of both sets.
-use mathlib.Core.Path.{◌∙◌, sym, ap}
 use native.Mathlib.Omega.{arith}
 use borrow.Author.Rules.{rules}
 use borrow.Author.Tests.{lt-ltb, le-ltb}

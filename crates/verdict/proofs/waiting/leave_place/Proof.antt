@@ -1,5 +1,4 @@
 -- `verdict::waiting::leave_place` meets its contract: the place is in one of the two sets.
-use mathlib.Core.Path.{◌∙◌, ap}
 use borrow.Author.Rules.{rules}
 use borrow.Author.Tests.{lt-ltb, le-ltb}
 use Rattle.model.specs.Line.{max_job}
