@@ -59,7 +59,7 @@ def own_path(path):
 
 DECLARED = re.compile(r"^\s*(?:(?:pub|abbrev|unfoldable|private|ruleset) )*([^\s(){}:,;=.]+)(?: [({][^:]*)?\s*:(?:\s|$)")
 BOUND = re.compile(r"[({]((?:[^\s(){}:;,=]+ )+):")
-GOAL = re.compile(r":\s*(?:\{[^}]*\}\s*→\s*)?(?:tie|goal)\.")
+GOAL = re.compile(r"^\s*(?:(?:pub|abbrev|unfoldable) )*[^\s:]+\s*:\s*(?:tie\.(?:Need-|invariant-|decreases-)|goal\.)")
 
 
 def declared(path, text):

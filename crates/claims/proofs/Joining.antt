@@ -45,6 +45,7 @@ at_most_one j (l ∷ ls) = go (eqb (job l) j) (first_line j ls) (at_most_one j l
     go true xs h = one 0
     go false [] no = no
     go false (x ∷ []) (one o) = one (suc o)
+    go false (x ∷ (y ∷ ys)) h = elim h [ ]
 
 -- the set of the first line of job j, among lines whose table is t; none where the job has no line there
 abbrev pub set_of : List ℕ → List ℕ → ℕ → ℕ
@@ -54,6 +55,7 @@ joined_both : (t xs ys : List ℕ) → AtMostOne xs → joined t (xs ++ ys) ≡ 
 unfolding joined union_of
 joined_both t [] ys no = sym (none_union (joined t ys))
 joined_both t (x ∷ []) ys (one o) = ap (λ (s : ℕ). union s (joined t ys)) (sym (union_none (get_or t o 0)))
+joined_both t (x ∷ (y ∷ more)) ys h = elim h [ ]
 
 joined_if : (t xs : List ℕ) (b : Bool) → joined t (cond b xs []) ≡ cond b (joined t xs) empty
 unfolding joined union_of

@@ -2,6 +2,8 @@
 // decimal number of any range read at a place, and bytes, words and numbers put into a lent buffer. Nothing is asked of
 // a caller. A put that does not fit puts nothing and answers a place from which no put fits, so that a chain of puts
 // needs no test in between: the last place tells whether all of them fitted.
+#![tactic(auto)]
+
 ghost use Rattle.std.specs.Prelude.{◌+◌, ◌≤◌, ◌<◌, ◌^◌, [], ◌∷◌, ◌++◌, ◌≡◌, length};
 ghost use Rattle.model.specs.Text.{decimal};
 ghost use Rattle.fields.specs.Number.{number_at, longer_by, unspelt};

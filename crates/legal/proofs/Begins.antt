@@ -17,7 +17,7 @@ use Rattle.model.specs.Lists.{up_from, has, those, positions}
 use Rattle.model.specs.Sets.{empty, union, member}
 use Rattle.model.specs.Line.{job, is_held, is_give, opens, device_of, holds, starts, at, max_job}
 use Rattle.model.specs.WellFormed.{WellFormed, fault}
-use Rattle.model.specs.Mate.{held_at, held_lines, device_at, grips, steps}
+use Rattle.model.specs.Mate.{held_at, held_lines, device_at, grips}
 use Rattle.model.specs.Legal.{given_back, held, MayFollow}
 use Rattle.model.specs.Board.{devices, board, board_at}
 use Rattle.theory.proofs.Tests.{clash, falsely, test, tests_agree, or_split, or_left, or_right, and_both}

@@ -10,7 +10,7 @@ use native.Mathlib.Numerals.{add-one}
 use native.Mathlib.Omega.{arith}
 use lib.Dec.{eqb, ltb}
 use lib.ListN.{length, get_or, set}
-use borrow.Author.Tests.{eqb-true, eqb-false, ltb-false, not-true, not-false}
+use borrow.Author.Tests.{eqb-true, eqb-false, ltb-false}
 use Rattle.model.specs.Sets.{empty, member}
 use Rattle.model.specs.Line.{Settings, job, kind, operand, is_take, is_give, is_start, starts, is_line, at}
 use Rattle.model.specs.Line.{max_job, max_lines}
@@ -102,13 +102,6 @@ module _ (p : List ℕ) (i : ℕ) where
   unfolding passed started_by
   passed_counted next first n =
       rw (plain_job (again_at p i) (at p i), plain_start p i, plain_operand (again_at p i) (at p i))
-
--- what the code's test says, which it makes of the answer's contrary
-pub test_passed : (r t : Bool) → r ≡ t → not r ≡ false → t ≡ true
-test_passed r t e n = sym e ∙ not-false r n
-
-pub test_failed : (r t : Bool) → r ≡ t → not r ≡ true → t ≡ false
-test_failed r t e n = sym e ∙ not-true r n
 
 -- ---- the places that a line changes
 

@@ -2,6 +2,8 @@
 // before it? One pass, and as much work for one entry as for another, whatever the entries are. Lines are looked at as
 // they count (02, request 2): one that takes again what its job holds, or gives such a take back, as a do. Of a plan
 // that is taken up at midday (02, request 5) the held lines are done first, in a pass over its lines.
+#![tactic(auto)]
+
 ghost use Rattle.std.specs.Prelude.{true, [], ◌≡◌, suc, ◌≤◌, length};
 ghost use Rattle.std.proofs.Math.Option.{none};
 ghost use Rattle.model.specs.Line.{job, max_job, max_lines};

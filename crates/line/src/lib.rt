@@ -1,6 +1,8 @@
 // One line as its packed number (01, "Packed" and the table of "The plan as text", and the held lines of 02, request
 // 5): job, kind and operand. No other source takes a packed number apart or puts one together. Every function that
 // takes one apart answers for every number.
+#![tactic(auto)]
+
 ghost use Rattle.std.specs.Prelude.{◌≡◌, cond, ◌&&◌, ◌+◌, ◌*◌, ◌%◌, ◌^◌, ◌≤◌, ◌<◌};
 ghost use Rattle.model.specs.Line.{pack, job, kind, operand, opens, is_held, is_take, is_give, is_start, device_of, is_line};
 ghost use Rattle.model.specs.Line.{verb_of, pack_verb, line_fits};

@@ -3,7 +3,7 @@
 -- verb by verb: what has to hold of each is computed over the list of them.
 use Prim.Native.Nat.{ℕ, zero, suc, ◌+◌, ◌-◌, ◌*◌, ◌^◌, ◌%◌, ◌≤◌, ◌<◌}
 use mathlib.Core.Bool.{Bool, true, false, cond, ◌&&◌}
-use mathlib.Core.List.{List, [], ◌∷◌, ◌++◌, map, head_d, append_assoc}
+use mathlib.Core.List.{List, [], ◌∷◌, ◌++◌, map, head_d}
 use mathlib.Core.Logic.{⊎_elim}
 use mathlib.Core.Option
 use mathlib.Core.Option.{Option, none, some}
@@ -13,14 +13,14 @@ use lib.Dec.{eqb, leb}
 use lib.ListN.{length, get_or, take, drop, length-append, length-drop, drop_of_length-le}
 use lib.Seq.{drop-cons}
 use borrow.Author.Tests.{eqb-true, eq-eqb, leb-true}
-use Rattle.model.specs.Lists.{up_from, all, has, first_of}
-use Rattle.model.specs.Text.{tab, verbs, verb}
+use Rattle.model.specs.Lists.{up_from, all, has}
+use Rattle.model.specs.Text.{verbs, verb}
 use Rattle.theory.proofs.Tests.{clash, and_split}
 use Rattle.theory.proofs.Lists.{has_none, has_cases, has_up_from, up_from_has, Answer, first_answer}
 use Rattle.lines.specs.Verbs.{word, begins, kind_by, verb_of, verb_at, as_number, highest_of, length_by}
 use Rattle.lines.specs.Verbs.{Tables, tables, all_verbs}
 use Rattle.lines.specs.declared.Verb.{Verb}
-use Rattle.lines.proofs.Numbers.{reach, plain, Fitting, Asked, asked, not_asked}
+use Rattle.lines.proofs.Numbers.{reach, plain, Fitting, asked, not_asked}
 
 -- ---- what holds of each verb
 

@@ -1,5 +1,7 @@
 // The lines of a text (01, "The plan as text"): one line from left to right, the line reader with a cursor, and the
 // lines of a text gathered one after another.
+#![tactic(auto)]
+
 ghost use Rattle.std.specs.Prelude.{◌+◌, ◌≤◌, ◌<◌, ◌≡◌, length, take, drop};
 ghost use Rattle.model.specs.Board.{board_at, board};
 ghost use Rattle.promises.specs.Text.{HandsOutAs};

@@ -2,7 +2,7 @@
 -- are the lines under the take, all of its job.
 use Prim.Native.Nat.{ℕ, zero, suc, ◌+◌, ◌-◌, ◌<◌, ◌≤◌}
 use mathlib.Core.Bool.{Bool, true, false, not}
-use mathlib.Core.List.{List, [], ◌∷◌}
+use mathlib.Core.List.{List, ◌∷◌}
 use mathlib.Core.Logic.{◌⊎◌, inl, inr}
 use mathlib.Core.Option.{Option, none, some, get_or, some-injective}
 use mathlib.Core.Path.{◌≡◌, refl, sym, ◌∙◌, ap}

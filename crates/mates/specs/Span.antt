@@ -1,6 +1,6 @@
 -- How far what a take takes is held (01, "Rules of a well-formed plan"): to its mate or, where it has none, to the end
 -- of its job's lines.
-use Rattle.std.specs.Prelude.{ℕ, suc, ◌-◌, Bool, not, List, eqb, length}
+use Rattle.std.specs.Prelude.{ℕ, suc, ◌-◌, not, List, eqb, length}
 use Rattle.std.proofs.Math.Option.{Option, none, some, get_or}
 use Rattle.model.specs.Lists.{up_from, first_of}
 use Rattle.model.specs.Line.{job, at}

@@ -1,5 +1,7 @@
 // The give that matches a take (01, "Rules of a well-formed plan"), found by depth in the take's job; and where the
 // job's lines end, if there is none.
+#![tactic(auto)]
+
 ghost use Rattle.std.specs.Prelude.{◌≡◌, ◌-◌, ◌^◌, ◌<◌};
 ghost use Rattle.mates.specs.Found.{passed_by};
 ghost use Rattle.mates.specs.Span.{span_of};
@@ -38,7 +40,7 @@ fn passed(n: u32, depth: usize) -> Search
 
 // How far what was taken is held: to the give at this position, or, where none matches, to the end of the job's lines,
 // which is the position after them.
-#[derive(Drop)]
+#[derive(Clone, Copy)]
 pub enum Span {
     Given(usize),
     Kept(usize),

@@ -1,9 +1,10 @@
 // The answers that the entries give, as Rattle enums. No code stands here: what each entry answers, for every input, is
 // defined in specs/, and specs/Answers.antt lists the number and the values of each case.
+#![tactic(auto)]
 
 // A refusal, one case for each number of 01, and of 02 as far as it is built, in their order; 8 is given no more (02,
 // request 2). A case holds the place, unless that is fixed: 0 for 1, and 1,025 for 3.
-#[derive(Drop)]
+#[derive(Clone, Copy)]
 pub enum Refusal {
     // 1: the text has over 12,288 bytes
     TextTooLong,

@@ -1,17 +1,17 @@
 -- Does the job of a line hold a device there? Going back in the job, line by line as they count (02, request 2): what
 -- is held before the line is what is held before those not yet passed.
-use Prim.Native.Nat.{ℕ, suc, ◌-◌, ◌<◌, ◌≤◌}
+use Prim.Native.Nat.{ℕ, suc, ◌≤◌}
 use mathlib.Core.Bool.{Bool, true, false, not, ◌&&◌, ◌||◌}
 use mathlib.Core.List.{List}
 use mathlib.Core.Logic.{◌⊎◌, inl, inr, ◌≢◌}
 use mathlib.Core.Path.{◌≡◌, refl, sym, ◌∙◌, ap}
 use native.Mathlib.Omega.{arith}
 use lib.Dec.{eqb, leb}
-use lib.ListN.{length, get_or}
+use lib.ListN.{get_or}
 use borrow.Author.Tests.{eqb-true, leb-false, not-true}
 use Rattle.model.specs.Lists.{has}
 use Rattle.model.specs.Line.{pack, job, kind, operand, opens, is_held, is_take, is_give, device_of, holds, at}
-use Rattle.model.specs.Line.{max_lines, held_from}
+use Rattle.model.specs.Line.{held_from}
 use Rattle.model.specs.WellFormed.{before, held_by, held_there}
 use Rattle.theory.specs.Outer.{again_at, plain, plain_at}
 use Rattle.theory.specs.Remarked.{names}

@@ -13,9 +13,8 @@ use lib.ListN.{length, get_or, set, length-set}
 use lib.Seq.{get_or-set_same, get_or-set_other, ext_get_or}
 use mir.Val.{bool_byte}
 use borrow.Author.Tests.{eqb-true, eqb-false}
-use Rattle.model.specs.Board.{devices}
 use Rattle.model.specs.Lists.{up_from, has}
-use Rattle.model.specs.Line.{job, operand, is_take, at, max_lines, held_from}
+use Rattle.model.specs.Line.{is_take, at, max_lines, held_from}
 use Rattle.model.specs.WellFormed.{held_there, Rules}
 use Rattle.model.specs.Mate.{device_at, mate}
 use Rattle.model.specs.Move.{edited, under}

@@ -86,9 +86,9 @@ module _ (midday : Bool) (p t : List ℕ) (line device : ℕ) where
     }
 
     -- the line from which the sets are joined is the last under the take
-    from_last : way p (stop - 1) ≡ from_last p i
+    from_last_lem : way p (stop - 1) ≡ from_last p i
     unfolding from_last i stop
-    from_last = ap (way p) (sym last)
+    from_last_lem = ap (way p) (sym last)
       where
         last : last_or i (under p i) ≡ stop - 1
         last =
@@ -103,7 +103,7 @@ module _ (midday : Bool) (p t : List ℕ) (line device : ℕ) where
         let there : Known q t' first starter (again_flags q) =
         record { scan = (known first starter again s).scan; room = omega (arith, alike.long, room) } in
         way_known there (stop - 1) (omega (arith, alike.long, span_is.high, span_is.low))
-        ∙ same_way p q alike (stop - 1) ∙ from_last
+        ∙ same_way p q alike (stop - 1) ∙ from_last_lem
 
     pub moved : (first starter again : List ℕ) (count : ℕ) (p' t' again' : List ℕ) → Scanned p first starter again
         → RewritesAs p t first starter (line - 1) device count p' t' again'
@@ -124,7 +124,7 @@ module _ (midday : Bool) (p t : List ℕ) (line device : ℕ) where
             ∙ ap (λ (x : List ℕ). mended_by x (again_flags x) first t (way_by x t starter (stop - 1))) r.plan
             ∙ mended_known (known first starter again s) (stop - 1)
             (omega (arith, alike.long, span_is.high, span_is.low))
-            ∙ ap (rewritten q t) (same_way p q alike (stop - 1) ∙ from_last)
+            ∙ ap (rewritten q t) (same_way p q alike (stop - 1) ∙ from_last_lem)
 
 -- the move for a caller that keeps more, refused and done
 module _ (midday : Bool) (p t : List ℕ) (line device : ℕ)
@@ -168,7 +168,7 @@ module _ (midday : Bool) (p t : List ℕ) (line device : ℕ)
         → RewritesAs p t first' starter' (line - 1) device count p' t' again'
         → MovesThrough (board_at midday) p t line device first starter again of_jobs (Through.Moved count stop)
         p' t' first' starter' again' of_jobs'
-    through_moved scanned agains count stop p' t' again' e r =
+    through_moved scanned agains count _ p' t' again' e r =
         let s = by_scan scanned agains in
         let x = moved midday p t line device none_refuses first' starter' scanned count p' t' again' s r in
         record {

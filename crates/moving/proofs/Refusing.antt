@@ -1,7 +1,7 @@
 -- Which test of a move refuses, by what the code found; and what is known where none does.
 use Prim.Native.Nat.{ℕ, zero, suc, ◌+◌, ◌-◌, ◌<◌, ◌≤◌}
 use mathlib.Core.Bool.{Bool, true, false}
-use mathlib.Core.List.{List, [], ◌∷◌}
+use mathlib.Core.List.{List, ◌∷◌}
 use mathlib.Core.Option.{Option, none, some, none-ne-some}
 use mathlib.Core.Path.{◌≡◌, refl, sym, ◌∙◌}
 use native.Mathlib.Numerals.{add-one}
@@ -11,7 +11,7 @@ use lib.ListN.{length, get_or}
 use borrow.Author.Tests.{lt-ltb, le-ltb, le-leb, lt-leb, ltb-false, leb-false}
 use Rattle.model.specs.Lists.{first_of, or_else}
 use Rattle.model.specs.Answers.{refuse_if, refuse_at, first_refusal, too_short}
-use Rattle.model.specs.Line.{Settings, is_take, at, line_number}
+use Rattle.model.specs.Line.{Settings, line_number}
 use Rattle.model.specs.WellFormed.{WellFormed, fault}
 use Rattle.model.specs.Move.{edited, way, under, may_change, stale, asked_at, is_take_of, move_refusal}
 use Rattle.model.specs.Board.{devices, board_at}
@@ -79,9 +79,9 @@ module _ (D : ℕ) (p t : List ℕ) (line device : ℕ) (span : Span) where
   abbrev Answers : TestAnswer → Type 0
   Answers x = x ≡ tested_by (first_refusal (asked_tests D p t line device)) span
 
-  pub too_short : length t < length p → Answers (TestAnswer.Refused (ListTooShort (length p)))
+  pub too_short_lem : length t < length p → Answers (TestAnswer.Refused (ListTooShort (length p)))
   unfolding first_refusal too_short refuse_if
-  too_short h = rw (lt-ltb (length t) (length p) h)
+  too_short_lem h = rw (lt-ltb (length t) (length p) h)
 
   -- where the table has room, by whether the line is a take of the plan
   module _ (room : length p ≤ length t) (taken : Bool) (e : taken ≡ is_take_of p line) where

@@ -1,6 +1,8 @@
 // Moving a claim (01, "Moving a claim") to another device, with the give that belongs to the take, and joining anew the
 // sets on the way and under the take. A take may be moved onto a device that its job holds, and away from one (02,
 // request 2). After the tests of the plan all the work is along the way, or in the moved take's job.
+#![tactic(auto)]
+
 ghost use Rattle.std.specs.Prelude.{◌≡◌, true, false, ◌&&◌, ◌%◌, ◌^◌, ◌-◌, ◌≤◌, ◌<◌, eqb};
 ghost use Rattle.model.specs.Lists.{has};
 ghost use Rattle.model.specs.Answers.{first_refusal};

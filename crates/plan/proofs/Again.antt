@@ -1,6 +1,6 @@
 -- What the flags tell of a line (02, request 2): the line as it counts, as the code makes it of its number and its
 -- flag.
-use Rattle.std.proofs.Common.{◌≡◌, ℕ, ◌<◌, Bool, true, false, cond, eqb, List, map, length, get_or, refl, ap, ◌∙◌, arith}
+use Rattle.std.proofs.Common.{◌≡◌, ℕ, ◌<◌, Bool, true, false, cond, eqb, List, length, get_or, refl, ap, ◌∙◌, arith}
 use lib.ListN.{length-map}
 use Rattle.model.specs.Lists.{up_from}
 use Rattle.model.specs.Line.{at, max_lines}

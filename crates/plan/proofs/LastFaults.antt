@@ -1,20 +1,19 @@
 -- The tests after the last line find 5 and 6 of `model`: the tables tell which jobs have lines and which start.
-use Rattle.std.proofs.Common.{◌≡◌, ℕ, zero, suc, ◌+◌, ◌<◌, ◌≤◌, Bool, true, false, cond, not, ◌&&◌, eqb, ◌⊎◌, List, [], ◌∷◌, map, length, get_or, sym, refl, ap, ◌∙◌, inl, inr, arith, eq-eqb, ne_eqb, eqb-true}
+use Rattle.std.proofs.Common.{◌≡◌, ℕ, suc, ◌<◌, ◌≤◌, true, false, cond, not, ◌&&◌, eqb, ◌⊎◌, List, [], ◌∷◌, length, get_or, sym, refl, ap, ◌∙◌, inl, inr, arith, ne_eqb, eqb-true}
 use mathlib.Core.List.{head_d}
 use mathlib.Core.Option.{Option, none, some}
 use borrow.Author.Tests.{eqb-false, not-true, not-false}
 use Rattle.model.specs.Answers.{refuse_at, first_refusal}
-use Rattle.model.specs.Lists.{up_from, positions, any, first_of}
+use Rattle.model.specs.Lists.{positions, any}
 use Rattle.model.specs.Line.{Settings, job, kind, operand, is_start, starts, is_line, at, line_number, has_lines, first_line}
 use Rattle.model.specs.Line.{max_job}
 use Rattle.model.specs.WellFormed.{empty_start, never_started, first_fault, fault}
 use Rattle.model.specs.declared.Refusal.{Refusal}
 use Rattle.model.specs.declared.Refusal.TheVariants.{BadStart, NeverStarted}
-use Rattle.theory.proofs.Tests.{clash, test, falsely, and_split, and_both}
+use Rattle.theory.proofs.Tests.{test, falsely, and_split, and_both}
 use Rattle.theory.proofs.Line.{start_range, start_parts, start_of}
-use Rattle.theory.proofs.Lists.{Answer, first_answer, has_up_from, first_is_lowest}
+use Rattle.theory.proofs.Lists.{first_is_lowest}
 use Rattle.theory.specs.WellFormed.{starts_empty, unstarted}
-use Rattle.theory.proofs.WellFormed.{any_line, line_any}
 use Rattle.plan.specs.Checked.{checked}
 use Rattle.plan.specs.Tables.{First, nothing, found, Tables}
 use Rattle.plan.specs.Ends.{Empty, Unstarted, EndsAs, empty, never, neither}

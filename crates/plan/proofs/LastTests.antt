@@ -1,5 +1,5 @@
 -- How the tests after the last line go from job to job, and what they find.
-use Rattle.std.proofs.Common.{◌≡◌, ℕ, suc, ◌+◌, ◌<◌, ◌≤◌, Bool, true, false, cond, not, ◌&&◌, ◌||◌, eqb, ltb, ◌⊎◌, List, get_or, sym, refl, ◌∙◌, inl, inr, add-one, arith, ltb-false, ltb-true, eq-eqb, ne_eqb, eqb-true}
+use Rattle.std.proofs.Common.{◌≡◌, ℕ, suc, ◌+◌, ◌<◌, ◌≤◌, Bool, true, false, not, ◌&&◌, ◌||◌, eqb, ltb, ◌⊎◌, List, get_or, sym, refl, ◌∙◌, inl, inr, add-one, arith, ltb-false, ltb-true, ne_eqb, eqb-true}
 use borrow.Author.Tests.{eqb-false, not-true, not-false}
 use Rattle.model.specs.Line.{max_job}
 use Rattle.theory.proofs.Tests.{test, and_split, and_true, or_split, or_neither}

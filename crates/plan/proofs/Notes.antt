@@ -7,7 +7,7 @@ use borrow.Author.Tests.{eqb-false}
 use mir.Val.{bool_byte}
 use Rattle.model.specs.Board.{devices, board_at}
 use Rattle.model.specs.Lists.{has}
-use Rattle.model.specs.Line.{Settings, job, opens, is_held, is_take, is_give, device_of, holds, is_line, at, max_lines}
+use Rattle.model.specs.Line.{Settings, job, opens, is_held, is_take, is_give, device_of, holds, at, max_lines}
 use Rattle.model.specs.Sets.{empty}
 use Rattle.model.specs.WellFormed.{before, held_by, held_there, line_fault}
 use Rattle.model.specs.Mate.{device_at, holds_already}
@@ -18,7 +18,7 @@ use Rattle.theory.specs.WellFormed.{InOrder}
 use Rattle.theory.proofs.Held.{held_foreign, held_opened, held_give, held_other}
 use Rattle.theory.proofs.Line.{line_parts, take_is, device_rest, held_opens, held_no_take, opens_no_give}
 use Rattle.theory.proofs.Lists.{has_tail, has_cases, has_none}
-use Rattle.theory.proofs.Tests.{clash, test, falsely, and_both, or_left, or_false}
+use Rattle.theory.proofs.Tests.{clash, test, falsely, and_both, or_left}
 use Rattle.theory.proofs.Sets.{empty_below}
 use Rattle.theory.specs.Outer.{again_at, holds_beneath}
 use Rattle.plan.specs.Walk.{named_after, step_of, held_in, next_by}

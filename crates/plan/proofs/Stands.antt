@@ -15,7 +15,7 @@ use Rattle.model.specs.declared.Refusal.{Refusal}
 use Rattle.model.specs.declared.Refusal.TheVariants.{Malformed, TooManyLines, JobOutOfSequence, BadStart}
 use Rattle.model.specs.declared.Refusal.TheVariants.{GiveWithoutTake}
 use Rattle.theory.proofs.Held.{held_opened, held_give, held_other, none_held}
-use Rattle.theory.proofs.Line.{line_parts, start_operand, start_parts, start_of, opens_no_give, opens_no_start}
+use Rattle.theory.proofs.Line.{line_parts, start_operand, start_of, opens_no_give, opens_no_start}
 use Rattle.theory.proofs.Line.{give_no_start, give_no_held, held_opens, own_device, device_line, device_rest}
 use Rattle.theory.proofs.Sets.{member_empty, member_union}
 use Rattle.theory.proofs.Tests.{clash, test, tests_agree, and_split, and_both, and_left, and_right, or_split, or_left}
@@ -26,7 +26,7 @@ use Rattle.sets.specs.Only.{only_of}
 use Rattle.sets.proofs.Members.{member_only_of}
 use Rattle.line.specs.Device.{device_bits}
 use Rattle.plan.specs.Tables.{First, nothing, none_yet, Tables}
-use Rattle.plan.specs.Walk.{placed_by, place_fault, held_both, late_by, held_fault, named_after, Next, on, bad, rule_of}
+use Rattle.plan.specs.Walk.{placed_by, place_fault, late_by, held_fault, named_after, Next, on, bad, rule_of}
 use Rattle.plan.specs.Walk.{unless, step_of}
 use Rattle.plan.proofs.Steps.{in_place}
 use Rattle.plan.proofs.Tables as Tab

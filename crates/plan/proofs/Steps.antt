@@ -1,13 +1,13 @@
 -- One step of the walk, by the code's tests: `step_of` from what its parts found.
-use Rattle.std.proofs.Common.{◌≡◌, ℕ, suc, ◌+◌, ◌<◌, Bool, true, false, cond, not, ◌||◌, eqb, leb, List, [], ◌∷◌, length, get_or, set, sym, refl, ap, ◌∙◌, add-one, arith, length-set, leb-false}
-use mathlib.Core.Option.{Option, none, some, none-ne-some}
+use Rattle.std.proofs.Common.{◌≡◌, ℕ, suc, ◌+◌, ◌<◌, Bool, true, false, cond, ◌||◌, eqb, leb, List, [], length, get_or, set, sym, refl, ◌∙◌, add-one, length-set, leb-false}
+use mathlib.Core.Option.{none, some, none-ne-some}
 use Rattle.model.specs.Answers.{refuse_if, first_refusal}
 use Rattle.model.specs.Board.{devices, board, board_at}
 use Rattle.model.specs.Line.{Settings, job, is_line, line_number, max_lines, max_job}
 use Rattle.model.specs.declared.Refusal.{Refusal}
 use Rattle.model.specs.declared.Refusal.TheVariants.{Malformed, TooManyLines, JobOutOfSequence}
 use Rattle.theory.proofs.Line.{morning_line, line_either}
-use Rattle.plan.specs.Walk.{placed_by, place_fault, held_fault, Next, bad, rule_of, step_of, held_in, Walking, StackBy}
+use Rattle.plan.specs.Walk.{placed_by, place_fault, held_fault, Next, bad, rule_of, step_of, held_in, StackBy}
 use Rattle.plan.specs.Walk.{WalkingBy}
 use Rattle.plan.specs.declared.After.{After}
 

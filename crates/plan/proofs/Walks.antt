@@ -17,7 +17,7 @@ use Rattle.plan.proofs.Stands.{Stands, begins, Stepped, goes, stops, stepped}
 
 pub record At (S : Settings) (p : List ℕ) (i prev named : ℕ) (early : Bool) (depth : ℕ) (stack first starter : List ℕ)
     : Type 0 where
-  pub at_most_lem : i ≤ length p
+  pub at_most : i ≤ length p
   pub deep : depth ≤ i
   pub stacked : Stack stack
   pub stands : Stands S p i prev named early (held_in depth stack) first starter
@@ -27,7 +27,7 @@ pub at_start : (S : Settings) (p stack first starter : List ℕ) → Stack stack
     → At S p 0 0 empty false 0 stack first starter
 unfolding held_in before
 at_start S p stack first starter h a b = record {
-  at_most_lem = omega arith;
+  at_most = omega arith;
   deep = omega arith;
   stacked = h;
   stands = rw (a, b) (begins S p);
@@ -40,7 +40,7 @@ module _ (S : Settings) (small : S.devices ≤ held_from) (p : List ℕ) (i prev
     pub at_end : length p ≤ i → Walked S p Checked.Fine first starter
     unfolding first_fault
     at_end h =
-        let e : i ≡ length p = omega (arith, s.at_most_lem) in
+        let e : i ≡ length p = omega (arith, s.at_most) in
         let z : first_fault S (before p i) (drop i p) ≡ none = rw (drop_of_length-le p {i = i} h) in record {
           answers = sym (ap checked (s.ahead ∙ z));
           tables = λ z. rw e at s.stands.tables;
@@ -94,7 +94,7 @@ module _ (S : Settings) (small : S.devices ≤ held_from) (p : List ℕ) (i prev
                   → At S p (suc i) (job (at p i)) (named_after S.devices (at p i) named) (is_held (at p i)) d stack'
                   first' starter'
               go (goes held f t z few stands) = record {
-                at_most_lem = omega arith;
+                at_most = omega arith;
                 deep = (rw e at k).0;
                 stacked = (rw e at k).1.stacked;
                 stands = stands;

@@ -2,7 +2,7 @@
 -- the devices held it has for each open take what that has added to them, its device or nothing. A line changes less
 -- than its verb says exactly if it is such a line. Beside them, what each job holds after the lines so far (02, request
 -- 4).
-use Rattle.std.specs.Prelude.{◌≡◌, ℕ, suc, ◌<◌, Bool, cond, not, List, [], ◌∷◌, length, set, ◌==◌, slice_index, slice_set}
+use Rattle.std.specs.Prelude.{◌≡◌, ℕ, suc, ◌<◌, Bool, cond, not, List, [], ◌∷◌, length, ◌==◌, slice_index, slice_set}
 use mir.Val.{bool_byte}
 use Rattle.model.specs.Board.{devices}
 use Rattle.model.specs.Lists.{has}

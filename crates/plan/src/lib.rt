@@ -3,6 +3,8 @@
 // numbers of each job's first line and of the line that starts it; the devices that each job holds after the last line;
 // and which lines take again what their job holds, or give such a take back (02, request 2). A plan is one of the
 // morning or one taken up at midday, which may have held lines: the caller says which.
+#![tactic(auto)]
+
 ghost use Rattle.std.specs.Prelude.{◌≡◌, ℕ, suc, ◌+◌, ◌-◌, ◌<◌, ◌≤◌, min, true, false, not, List, [], length, if◌then◌else◌, ◌==◌, slice_index};
 ghost use Rattle.model.specs.Line.{job, operand, is_start, is_line, max_lines, max_job};
 ghost use Rattle.model.specs.Sets.{empty};

@@ -1,6 +1,8 @@
 // The line reader as one thin struct of the lent text and an offset (01, "Language forms in the code", its form for the
 // line reader). It has no count of lines: the newlines before the offset give it, and then the reader that stands at a
 // cursor, of the crate `lines`, makes the step.
+#![tactic(auto)]
+
 ghost use Rattle.std.specs.Prelude.{◌≡◌};
 ghost use Rattle.model.specs.Board.{board};
 ghost use Rattle.model.specs.Text.{newlines_before, line_from};

@@ -1,16 +1,16 @@
 -- 01, "Refusal numbers" (its order): what the lines that were gathered say of the text. Where the reader stops, an
 -- earlier line's own fault decides over the refusal; where it comes to the end, the lines are the plan that the text
 -- spells.
-use Prim.Native.Nat.{ℕ, suc, ◌+◌, ◌≤◌, ◌<◌}
+use Prim.Native.Nat.{ℕ, suc, ◌≤◌}
 use mathlib.Core.Bool.{Bool, true, false, cond}
 use mathlib.Core.List.{List, [], ◌∷◌, map}
 use mathlib.Core.Option.{Option, none, some, get_or, none-ne-some}
-use mathlib.Core.Path.{◌≡◌, refl, sym, ◌∙◌, ap}
+use mathlib.Core.Path.{◌≡◌, refl, sym}
 use native.Mathlib.Omega.{arith}
 use lib.Dec.{leb}
 use lib.ListN.{length, take, drop, length-append}
 use lib.Seq.{take_at}
-use Rattle.model.specs.Answers.{first_refusal, refuse_if}
+use Rattle.model.specs.Answers.{first_refusal}
 use Rattle.model.specs.Line.{Settings, is_line, line_number, max_lines}
 use Rattle.model.specs.Lists.{over}
 use Rattle.model.specs.Text.{packed_line, lines_of, spelt}

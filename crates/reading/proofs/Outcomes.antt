@@ -3,11 +3,11 @@ use Prim.Native.Nat.{ℕ, ◌≤◌, ◌<◌}
 use mathlib.Core.Bool.{cond}
 use mathlib.Core.List.{List, [], ◌∷◌}
 use mathlib.Core.Option.{Option, none, some, get_or}
-use mathlib.Core.Path.{◌≡◌, refl, sym, ◌∙◌}
+use mathlib.Core.Path.{◌≡◌, refl, ◌∙◌}
 use lib.ListN.{length}
 use borrow.Author.Tests.{lt-ltb, le-ltb}
 use Rattle.model.specs.Answers.{first_refusal, refuse_if, too_short}
-use Rattle.model.specs.Entries.{outcome, text_fault, reading}
+use Rattle.model.specs.Entries.{text_fault, reading}
 use Rattle.model.specs.Line.{Settings, max_bytes}
 use Rattle.model.specs.Lists.{over}
 use Rattle.model.specs.Text.{lines_of, spelt}

@@ -1,5 +1,7 @@
 // Reading a plan (01, "The plan as text" and "Refusal numbers"): a text into a lent list of packed numbers. The lines
 // are gathered in a list of its own and tested there, so that a refusal leaves the lent list as it was.
+#![tactic(auto)]
+
 ghost use Rattle.std.specs.Prelude.{◌≤◌, [], ◌≡◌, length};
 ghost use Rattle.std.proofs.Math.Option.{get_or};
 ghost use Rattle.model.specs.Board.{board};

@@ -1,5 +1,7 @@
 // Number and place of a refusal (01, "Refusal numbers", and 02's so far), for what is printed and for callers in other
 // languages.
+#![tactic(auto)]
+
 ghost use Rattle.std.specs.Prelude.{◌≡◌};
 ghost use Rattle.model.specs.Answers.{number_of, place_of, refusal_values};
 ghost use Rattle.model.specs.InOne.{in_one};

@@ -73,12 +73,12 @@ module _ (f : ℕ → ℕ) (d : ℕ) where
         k_has = t.k_has;
       }
 
-  twice_in : (a n : ℕ) → Two f a n d → member (twice_in (map f (up_from a n))) d ≡ true
+  twice_in_lem : (a n : ℕ) → Two f a n d → member (twice_in (map f (up_from a n))) d ≡ true
   unfolding twice_in up_from
-  twice_in a zero t = absurd (omega (arith, has_up_from a 0 t.i t.i_in))
-  twice_in a (suc n) t =
+  twice_in_lem a zero t = absurd (omega (arith, has_up_from a 0 t.i t.i_in))
+  twice_in_lem a (suc n) t =
       go (has_cases t.i a (up_from (suc a) n) t.i_in) (has_cases t.k a (up_from (suc a) n) t.k_in)
-      (twice_in (suc a) n)
+      (twice_in_lem (suc a) n)
     where
       one : (x y : ℕ) → x ≡ a → member (f x) d ≡ true → has y (up_from (suc a) n) ≡ true → member (f y) d ≡ true
           → member (twice_in (map f (up_from a (suc n)))) d ≡ true
@@ -186,7 +186,7 @@ module _ (p : List ℕ) (w : WellFormed board p) where
           → member (twice_in (map (holding p) jobs)) d ≡ true
       from d h m =
           let t = (two_jobs p w.rules d).0 ((lasts_twice_exactly p d).0 m) in
-          twice_in (holding p) d 0 (suc max_job) (record {
+          twice_in_lem (holding p) d 0 (suc max_job) (record {
             i = t.0;
             k = t.1;
             apart = t.2;

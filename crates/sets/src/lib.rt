@@ -1,5 +1,7 @@
 // Sets of devices and of jobs (01, "Claims and rows"; "The order handed out" for jobs). No other source knows that they
 // are words, or how wide. Every function answers for every word and number; a device past the board is in no set.
+#![tactic(auto)]
+
 ghost use Rattle.std.specs.Prelude.{◌≡◌, cond, ◌&&◌, length};
 ghost use Rattle.model.specs.Lists.{up_from, those};
 ghost use Rattle.model.specs.Sets.{empty, union, member, lowest_of};

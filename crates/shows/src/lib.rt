@@ -1,5 +1,7 @@
 // A refusal as it is printed (01, "Plans with their verdicts", its last part): one line, into the front of a lent
 // buffer. Every program prints its refusals through this room.
+#![tactic(auto)]
+
 ghost use Rattle.model.specs.Printed.{printed_refusal};
 ghost use Rattle.fields.specs.Puts.{PutsAs};
 

@@ -10,7 +10,7 @@ pub const PLACES: usize = LAST_JOB as usize + EACH_DEVICE;
 
 // The lines that wait: the jobs that can go on, the devices at whose lasting takes jobs stand, and the devices that at
 // most one line still to do takes.
-#[derive(Drop)]
+#[derive(Clone, Copy)]
 pub struct Waiting {
     pub ready: Jobs,
     pub awaited: Set,

@@ -40,6 +40,7 @@ no_set t ls j f = go (first_line j ls) refl (at_most_one j ls)
     go [] e a = ap (joined t) e
     go (x ∷ []) e (one o) =
         let r = first_is j ls o (rw e (has_head o [])) in absurd (f o r.0 r.1)
+    go (x ∷ (_ ∷ _)) e a = elim a [ ]
 
 -- lines before the first of a job do not matter to its set
 past_others : (n j : ℕ) (p t : List ℕ) → length p ≤ length t → ((k : ℕ) → k < n → job (at p k) ≢ j)
@@ -122,6 +123,7 @@ module _ (p t : List ℕ) (w : WellFormed (board_at true) p) (room : length p �
             → get_or (empty ∷ t) (number_of_first (first_line j p)) 0 ≡ set_of t p j
         go [] e a = has_none there.0 (rw e at there.1)
         go (x ∷ []) e (one o) = rw e (sym (union_none (get_or t o 0)))
+        go (x ∷ (_ ∷ _)) e a = elim a [ ]
 
   begun_is : begun_set (at p i) t (first_lines p)
       ≡ cond (is_start (at p i)) (set_of (drop (suc i) t) (drop (suc i) p) (operand (at p i))) empty

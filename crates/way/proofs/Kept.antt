@@ -1,12 +1,11 @@
 -- Where a plan is known, with its table and its scan (specs/Known.antt), the walk is its way, the line found is its
 -- nearest stale one, and the sets are rewritten as 01 says.
 use Prim.Native.Nat.{ℕ, suc, ◌-◌, ◌<◌, ◌≤◌}
-use mathlib.Core.Bool.{true, false}
+use mathlib.Core.Bool.{true}
 use mathlib.Core.List.{List, [], ◌∷◌}
-use mathlib.Core.Path.{◌≡◌, refl, sym, ◌∙◌, ap}
+use mathlib.Core.Path.{◌≡◌, refl}
 use native.Mathlib.Omega.{arith}
-use lib.Dec.{eqb}
-use lib.ListN.{length, get_or, set, length-set}
+use lib.ListN.{length, set, length-set}
 use borrow.Author.Tests.{lt-ltb, le-leb}
 use Rattle.model.specs.Lists.{up_from, has, first_of}
 use Rattle.model.specs.Board.{board_at}
@@ -23,7 +22,7 @@ use Rattle.mates.specs.Found.{found}
 use Rattle.mates.specs.declared.Found.{Found}
 use Rattle.mates.proofs.Spans.{Spans}
 use Rattle.way.specs.Back.{begin_of, way_by, under_by}
-use Rattle.way.specs.Join.{rejoined_by, stale_by, mended_by}
+use Rattle.way.specs.Join.{stale_by, mended_by}
 use Rattle.way.specs.Known.{Known}
 use Rattle.way.proofs.OnWay.{walk_is}
 use Rattle.way.proofs.Joins.{rejoined_is}

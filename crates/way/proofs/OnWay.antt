@@ -1,7 +1,7 @@
 -- With the starters of a plan that obeys the rules, the walk from line to line is the way: it goes on at the line
 -- before, if that is of the same job, else at the line that starts the job. So no line between need be looked at.
 use Prim.Native.Nat.{ℕ, zero, suc, ◌-◌, ◌<◌, ◌≤◌}
-use mathlib.Core.Bool.{Bool, true, false, cond}
+use mathlib.Core.Bool.{true, false, cond}
 use mathlib.Core.List.{List, [], ◌∷◌}
 use mathlib.Core.Logic.{◌⊎◌, inl, inr, ◌≢◌}
 use mathlib.Core.Option.{Option, none, some}

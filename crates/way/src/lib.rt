@@ -3,6 +3,8 @@
 // tables of the first line of each job and of the line that starts it, as `plan::scan` fills them, so that no line off
 // the way is looked at; lines that take again are told by its flags. Each function answers for any tables and flags.
 // A caller that keeps rows finds the devices of the lasting takes on the way by flags of its own (02, request 4).
+#![tactic(auto)]
+
 ghost use Rattle.std.specs.Prelude.{◌≡◌, cond, ◌∷◌, ◌≤◌, ◌<◌, eqb, length, get_or, set};
 ghost use Rattle.model.specs.Lists.{first_of};
 ghost use Rattle.model.specs.Sets.{empty};

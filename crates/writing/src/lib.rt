@@ -1,4 +1,6 @@
 // Writing a plan as text (01, "The plan as text"; "Refusal numbers" as far as it is on writing).
+#![tactic(auto)]
+
 ghost use Rattle.std.specs.Prelude.{ℕ, ◌+◌, ◌≤◌, ◌<◌, ◌≡◌, length};
 ghost use Rattle.model.specs.Board.{board};
 ghost use Rattle.model.specs.Line.{at, job};

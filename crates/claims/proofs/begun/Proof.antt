@@ -8,13 +8,13 @@ use Rattle.claims.specs.Claim.{begun_of}
 use Rattle.claims.proofs.begun.Statement.{statement}
 use Rattle.claims.proofs.begun.Tie as tie
 
-place : tie.Need-element-copy-out-started
+place : tie.Need-bounds-claimed-operand
 unfolding operand
 place c = omega arith
 
 returns : tie.Need-returns
 unfolding begun_of empty
-returns c = c.choose.ensures ∙ rw (c.before.is-start.ensures, c.before.before.before.operand.ensures)
+returns c = c.choose.ensures ∙ rw (c.is_start.ensures, c.operand.ensures)
 
 pub begun_spec : {M : Type 1} → statement M
 begun_spec =

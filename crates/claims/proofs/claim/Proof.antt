@@ -7,7 +7,7 @@ use Rattle.claims.proofs.claim.Tie as tie
 
 returns : tie.Need-returns
 unfolding claim_of
-returns c = c.joined.ensures ∙ rw c.before.begun.ensures
+returns c = c.joined.ensures ∙ rw c.begun.ensures
 
 pub claim_spec : {M : Type 1} → statement M
 claim_spec = tie.close (tie.spec (λ c κs. search rules) (λ c κs. search rules) returns)

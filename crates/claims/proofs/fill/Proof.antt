@@ -18,69 +18,66 @@ use Rattle.claims.proofs.Written.{Done, none_done, one_done, all_done}
 use Rattle.claims.proofs.fill.Statement.{statement}
 use Rattle.claims.proofs.fill.Tie as tie
 
-abbrev invariant-loop : tie.invariant-loop
+abbrev invariant-loop : tie.invariant-loop-i
 invariant-loop plan again sets₀ claimed₀ i₀ sets claimed i = Done plan sets₀ sets claimed i
 
-abbrev decreases-loop : tie.decreases-loop
+abbrev decreases-loop : tie.decreases-loop-i
 decreases-loop plan again sets₀ claimed₀ i₀ sets claimed i = i
 
-loop-holds : tie.Need-loop-init invariant-loop decreases-loop
-loop-holds c = let a = c.before.before.args in none_done a.plan.now a.sets.now
+loop-holds : tie.Need-loop-i-init invariant-loop decreases-loop
+loop-holds c = let a = c.args in none_done a.plan.now a.sets.now
 
-well-formed : (s : tie.Start invariant-loop decreases-loop) → WellFormed board s.args.plan.now
-well-formed s = (no_fault_exactly board s.args.plan.now).0 s.requires.0
+well_formed : (s : tie.Start invariant-loop decreases-loop) → WellFormed board s.args.plan.now
+well_formed s = (no_fault_exactly board s.args.plan.now).0 s.requires.0
 
-element-copy-out-plain : tie.Need-element-copy-out-plain invariant-loop decreases-loop
+element-copy-out-plain : tie.Need-bounds-again-i invariant-loop decreases-loop
 element-copy-out-plain c =
-    let s = c.before.before.before.before.before in
-    omega (
+        omega (
       arith,
-      c.before.before.loop.invariant.in_plan,
-      (well-formed s).few,
-      ap length s.requires.1 ∙ length_again s.args.plan.now,
+      c.loop-i.invariant.in_plan,
+      (well_formed c.before.before.before.before.before.before).few,
+      ap length c.requires.1 ∙ length_again c.args.plan.now,
     )
 
 -- the line at hand, as it counts
-module _ (c : tie.After-job invariant-loop decreases-loop) where
+module _ (c : tie.After-job-j invariant-loop decreases-loop) where
   abbrev s : tie.Start invariant-loop decreases-loop
-  s = c.before.before.before.before.before.before.before.before
+  s = c.before.before.before.before.before.before.before.before.before
 
   abbrev k : ℕ
-  k = c.before.before.before.before.before.loop.i - 1
+  k = c.loop-i.i - 1
 
   in_plan : k < length s.args.plan.now
-  in_plan = omega (arith, c.before.before.before.before.before.loop.invariant.in_plan)
+  in_plan = omega (arith, c.loop-i.invariant.in_plan)
 
   line_at : is_line board (at s.args.plan.now k) ≡ true
-  line_at = (well-formed s).lines k in_plan
+  line_at = (well_formed s).lines k in_plan
 
-  counts : c.before.plain.result ≡ plain_at s.args.plan.now k
+  counts : c.plain-l.result ≡ plain_at s.args.plan.now k
   counts =
-      c.before.plain.ensures
-      ∙ plain_is s.args.plan.now s.args.again.now k s.pre.1 (omega (arith, in_plan, (well-formed s).few))
+      c.plain-l.ensures
+      ∙ plain_is s.args.plan.now s.args.again.now k s.requires.1 (omega (arith, in_plan, (well_formed s).few))
 
-  job_is_lem : c.job.result ≡ job (at s.args.plan.now k)
+  job_is_lem : c.job-j.result ≡ job (at s.args.plan.now k)
   job_is_lem =
-      c.job.ensures ∙ ap job counts ∙ plain_job (again_at s.args.plan.now k) (at s.args.plan.now k)
+      c.job-j.ensures ∙ ap job counts ∙ plain_job (again_at s.args.plan.now k) (at s.args.plan.now k)
 
-  job_at : c.job.result < operands
+  job_at : c.job-j.result < operands
   job_at = rw job_is_lem (job_place board _ line_at)
 
-loop-again : tie.Need-loop-preserved invariant-loop decreases-loop
+loop-again : tie.Need-loop-i-preserved invariant-loop decreases-loop
 loop-again c =
-    let at-job = c.before.before in
-    let a = (s at-job).args in
-    let l = at-job.before.before.before.before.before.loop in
+        let a = (s c.before.before).args in
+    let l = c.loop-i in
     let back : l.i ≡ suc (l.i - 1) = omega arith in
-    one_done a.plan.now a.sets.now l.sets l.claimed (l.i - 1) at-job.job.result c.claim.result
-    (rw back at l.invariant) (line_at at-job) (job_is_lem at-job) (rw (counts at-job) at c.claim.ensures)
+    one_done a.plan.now a.sets.now l.sets l.claimed (l.i - 1) c.job-j.result c.claim-s.result
+    (rw back at l.invariant) (line_at c.before.before) (job_is_lem c.before.before) (rw (counts c.before.before) at c.claim-s.ensures)
 
 returns : tie.Need-returns invariant-loop decreases-loop
 returns c =
-    let l = c.before.loop in
-    let start = c.before.before.before.before in
-    let front : l.i ≡ 0 = omega arith in
-    all_done start.args.plan.now start.args.sets.now l.sets l.claimed start.requires.2
+    let l = c.loop-i in
+        let front : l.i ≡ 0 = omega arith in
+    all_done c.args.plan.now c.args.sets.now l.sets l.claimed c.requires.2
     (rw front at l.invariant)
 
 pub fill_spec : {M : Type 1} → statement M

@@ -7,7 +7,7 @@ use Rattle.claims.proofs.joined.Tie as tie
 
 returns : tie.Need-returns
 unfolding claim_with
-returns c = c.union2.ensures ∙ rw (c.before.before.own.ensures, c.before.union.ensures)
+returns c = c.union-2.ensures ∙ rw (c.own.ensures, c.union.ensures)
 
 pub joined_spec : {M : Type 1} → statement M
 joined_spec = tie.close (tie.spec (λ c κs. search rules) (λ c κs. search rules) (λ c κs. search rules) returns)

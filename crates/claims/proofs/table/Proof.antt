@@ -13,49 +13,47 @@ use Rattle.claims.proofs.table.Statement.{statement}
 use Rattle.claims.proofs.table.Tie as tie
 
 -- where no test of the plan refused, it has no fault and is well-formed
-abbrev entry : tie.After-enum-told → tie.Start
-entry c = c.before.before.before.before.before.before.before.before
+abbrev entry : tie.In_default → tie.In_default
+entry c = c
 
-no-fault : (c : tie.After-enum-told) → fault board (entry c).args.plan.now ≡ none
-no-fault c =
+no_fault_lem : (c : tie.In_default) → fault board (entry c).args.plan.now ≡ none
+no_fault_lem c =
     untold (fault board (entry c).args.plan.now)
-    (sym c.enum_told.given.1 ∙ c.before.before.scan.ensures.answers)
+    (sym c.in_default.is ∙ c.scan.ensures.answers)
 
-well-formed : (c : tie.After-enum-told) → WellFormed board (entry c).args.plan.now
-well-formed c = (no_fault_exactly board (entry c).args.plan.now).0 (no-fault c)
+well_formed : (c : tie.In_default) → WellFormed board (entry c).args.plan.now
+well_formed c = (no_fault_exactly board (entry c).args.plan.now).0 (no_fault_lem c)
 
 -- and the flags are its
-flags : (c : tie.After-enum-told) → c.before.before.scan.new.1.1.1.1.0 ≡ again_flags (entry c).args.plan.now
-flags c = rw (no-fault c) at c.before.before.scan.ensures.agains
+flags : (c : tie.In_default) → c.scan.new.again ≡ again_flags (entry c).args.plan.now
+flags c = rw (no_fault_lem c) at c.scan.ensures.agains
 
 -- 2 to 7
-returns : tie.Need-returns
+returns : tie.Need-returns-in-Refused
 returns c =
-    let at-fault = c.before.before.before in
-    let a = at-fault.before.before.before.before.before.before.args in
-    let r = c.before.r.given.0.0 in
+        let a = c.args in
+    let r = c.in-Refused.r in
     faulty a.plan.now a.sets.now r
-    (told (fault board a.plan.now) r (sym c.before.r.given.1 ∙ at-fault.scan.ensures.answers))
+    (told (fault board a.plan.now) r (sym c.in-Refused.is ∙ c.scan.ensures.answers))
 
 -- 11
-returns-2 : tie.Need-returns-2
+returns-2 : tie.Need-returns-then-sets-n
 returns-2 c =
     let a = (entry c.before).args in
-    short a.plan.now a.sets.now (no-fault c.before) c.if1.true
+    short a.plan.now a.sets.now (no_fault_lem c.before) c.if-sets-n.true
 
 -- the table
-returns-3 : tie.Need-returns-3
+returns-3 : tie.Need-returns
 returns-3 c =
-    let at_test = c.before.before.before.before.before in
-    let a = (entry at_test.before).args in
-    tabled a.plan.now a.sets.now _ (no-fault at_test.before) at_test.if1.false
-    c.before.before.fill.ensures
+        let a = (entry c.before.before.before.before.before.before).args in
+    tabled a.plan.now a.sets.now _ (no_fault_lem c.before.before.before.before.before.before) c.if-sets-n.false
+    c.fill.ensures
 
 pub table_spec : {M : Type 1} → statement M
 table_spec =
     tie.close
     (tie.spec (λ c κs. search rules) (λ c. search rules) returns (λ c. search rules)
-    (λ c. omega (arith, (well-formed c.before).few)) returns-2
-    (λ c κs. (no-fault c.before.before.before, flags c.before.before.before, c.before.before.if1.false))
-    (λ c. omega (arith, (well-formed c.before.before.before.before.before.before).few)) (λ c. search rules)
+    (λ c. omega (arith, (well_formed c.before).few)) returns-2
+    (λ c κs. (no_fault_lem c.before.before.before, flags c.before.before.before, c.if-sets-n.false))
+    (λ c. omega (arith, (well_formed c.before.before.before.before.before.before).few)) (λ c. search rules)
     returns-3)

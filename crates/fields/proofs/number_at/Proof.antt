@@ -20,27 +20,27 @@ loop-holds c = let a = c.before.args in none_read a.text.now a.from a.end a.most
 -- the field ends, and spells none
 returns : tie.Need-returns-then-bound-value invariant-loop decreases-loop
 returns c =
-    let at-loop = c.before.before.before.before in
-    ended_wrong at-loop.loop-at.invariant (omega arith) c.before.if-b-end.true c.if-bound-value.true
+    let at_loop = c.before.before.before.before in
+    ended_wrong at_loop.loop-at.invariant (omega arith) c.before.if-b-end.true c.if-bound-value.true
 
 -- the field ends, and spells the number
 returns-2 : tie.Need-returns-then-b-end invariant-loop decreases-loop
 returns-2 c =
-    let at-loop = c.before.before.before.before in
-    ended_value at-loop.loop-at.invariant (omega arith) c.before.if-b-end.true c.if-bound-value.false
+    let at_loop = c.before.before.before.before in
+    ended_value at_loop.loop-at.invariant (omega arith) c.before.if-b-end.true c.if-bound-value.false
 
 -- with this byte it spells none, or one over `most`
 returns-3 : tie.Need-returns-then-bound-value-2 invariant-loop decreases-loop
 returns-3 c =
-    let at-loop = c.before.before.before.before.before in
-    stopped at-loop.loop-at.invariant (omega arith) c.before.before.if-b-end.false
+    let at_loop = c.before.before.before.before.before in
+    stopped at_loop.loop-at.invariant (omega arith) c.before.before.if-b-end.false
     (rw c.before.longer-value.ensures at c.if-bound-value-2.true)
 
 loop-again : tie.Need-loop-at-preserved invariant-loop decreases-loop
 loop-again c =
-    let at-loop = c.before.before.before.before.before in
+    let at_loop = c.before.before.before.before.before in
     rw c.before.longer-value.ensures
-    (read_on at-loop.loop-at.invariant (omega arith) c.before.before.if-b-end.false
+    (read_on at_loop.loop-at.invariant (omega arith) c.before.before.if-b-end.false
     (rw c.before.longer-value.ensures at c.if-bound-value-2.false))
 
 -- the text ends

@@ -15,11 +15,11 @@ entry c = c.before.before.before.before
 -- the place past both
 past : (c : tie.After-place_after-past)
     → c.place_after-past.result
-    ≡ place_after (length (entry c).args.out-1.now) (entry c).args.at
+    ≡ place_after (length (entry c).args.out.now) (entry c).args.at
     (length (decimal (entry c).args.n ++ ((entry c).args.end ∷ [])))
 past c =
     let a = (entry c).args in
-    places_joined (length a.out-1.now) a.at (decimal a.n) (a.end ∷ []) c.before.place_after-a.ensures
+    places_joined (length a.out.now) a.at (decimal a.n) (a.end ∷ []) c.before.place_after-a.ensures
     c.place_after-past.ensures c.before.before.digits.ensures refl
 
 returns : tie.Need-returns-then-out-past
@@ -32,7 +32,7 @@ returns-2 c =
     let test = number.before.before in
     let a = (entry test.before).args in
     put_both number.put_number-b.ensures byte.put_byte.ensures
-    (fits (length a.out-1.now) a.at (length (decimal a.n ++ (a.end ∷ []))) test.before.place_after-past.result
+    (fits (length a.out.now) a.at (length (decimal a.n ++ (a.end ∷ []))) test.before.place_after-past.result
     (past test.before) test.if-out-past.false).0
 
 pub put_field_spec : {M : Type 1} → statement M

@@ -35,10 +35,10 @@ loop-holds c =
     (f.1, rw f.1 (last_none a.n a.at a.out.now f.0))
 
 loop-again : tie.Need-loop-i-preserved invariant-loop decreases-loop
-loop-again c = let at-loop = c.before.loop-i in (at-loop.invariant.0, last_more at-loop.invariant.1 c.loop-i-test.true)
+loop-again c = let at_loop = c.before.loop-i in (at_loop.invariant.0, last_more at_loop.invariant.1 c.loop-i-test.true)
 
 returns-2 : tie.Need-returns invariant-loop decreases-loop
-returns-2 c = let at-loop = c.before.loop-i in rw at-loop.invariant.0 (last_all at-loop.invariant.1 c.loop-i-test.false)
+returns-2 c = let at_loop = c.before.loop-i in rw at_loop.invariant.0 (last_all at_loop.invariant.1 c.loop-i-test.false)
 
 pub put_number_spec : {M : Type 1} → statement M
 put_number_spec =

@@ -28,27 +28,27 @@ unfolding flat_map values_text
 loop-holds c =
     let a = c.before.before.before.before.args in
     let past = c.before.values_after-past in
-    let f = fits (length a.out-1.now) a.at (length (values_text a.values.now)) past.result past.ensures
+    let f = fits (length a.out.now) a.at (length (values_text a.values.now)) past.result past.ensures
     c.if-out-past.false in (
       omega (arith, f.0, length-append (flat_map value_text a.values.now) (newline ∷ [])),
-      put_none a.at a.out-1.now (omega (arith, f.0)),
+      put_none a.at a.out.now (omega (arith, f.0)),
     )
 
 put-value-requires : tie.Need-put_value-place-requires invariant-loop decreases-loop
 put-value-requires c κs =
-    let at-loop = c.before.before.before in
-    let a = at-loop.before.before.before.before.before.args in
-    next_room value_text a.values.now at-loop.loop-i.i c.before.before.loop-i-test.true
-    at-loop.loop-i.invariant.1 (omega (arith, at-loop.loop-i.invariant.0))
+    let at_loop = c.before.before.before in
+    let a = at_loop.before.before.before.before.before.args in
+    next_room value_text a.values.now at_loop.loop-i.i c.before.before.loop-i-test.true
+    at_loop.loop-i.invariant.1 (omega (arith, at_loop.loop-i.invariant.0))
 
 loop-again : tie.Need-loop-i-preserved invariant-loop decreases-loop
 loop-again c =
     let called = c.before.before in
-    let at-loop = called.before.before.before.before in
-    let a = at-loop.before.before.before.before.before.args in (
-      at-loop.loop-i.invariant.0,
-      put_more value_text a.values.now at-loop.loop-i.i called.before.before.before.loop-i-test.true
-          at-loop.loop-i.invariant.1 (omega (arith, at-loop.loop-i.invariant.0)) called.put_value-place.ensures,
+    let at_loop = called.before.before.before.before in
+    let a = at_loop.before.before.before.before.before.args in (
+      at_loop.loop-i.invariant.0,
+      put_more value_text a.values.now at_loop.loop-i.i called.before.before.before.loop-i-test.true
+          at_loop.loop-i.invariant.1 (omega (arith, at_loop.loop-i.invariant.0)) called.put_value-place.ensures,
     )
 
 same_length : tie.Need-shape_of-out invariant-loop decreases-loop
@@ -59,12 +59,12 @@ returns-2 : tie.Need-returns invariant-loop decreases-loop
 unfolding values_text
 returns-2 c =
     let byte = c.before.before in
-    let at-loop = byte.before.before.before in
-    let a = at-loop.before.before.before.before.before.args in
+    let at_loop = byte.before.before.before in
+    let a = at_loop.before.before.before.before.before.args in
     let vs = a.values.now in
-    let all = pieces_all value_text vs at-loop.loop-i.i byte.before.before.loop-i-test.false in
-    put_both (rw all at at-loop.loop-i.invariant.1) byte.put_byte.ensures
-    (omega (arith, at-loop.loop-i.invariant.0, length-append (flat_map value_text vs) (newline ∷ [])))
+    let all = pieces_all value_text vs at_loop.loop-i.i byte.before.before.loop-i-test.false in
+    put_both (rw all at at_loop.loop-i.invariant.1) byte.put_byte.ensures
+    (omega (arith, at_loop.loop-i.invariant.0, length-append (flat_map value_text vs) (newline ∷ [])))
 
 pub put_values_spec : {M : Type 1} → statement M
 put_values_spec =

@@ -35,15 +35,15 @@ loop-holds c =
 
 loop-again : tie.Need-loop-i-preserved invariant-loop decreases-loop
 loop-again c =
-    let at-loop = c.before.before in
-    let a = at-loop.before.before.before.before.before.args in
-    let i = at-loop.loop-i.i in
+    let at_loop = c.before.before in
+    let a = at_loop.before.before.before.before.before.args in
+    let i = at_loop.loop-i.i in
     let b = get_or a.word.now i 0 in
-    let inv = at-loop.loop-i.invariant in (
+    let inv = at_loop.loop-i.invariant in (
       search rules,
       inv.1,
       inv.2,
-      length-set at-loop.loop-i.out (a.at + i) b ∙ inv.3,
+      length-set at_loop.loop-i.out (a.at + i) b ∙ inv.3,
       rw (add-one i)
           (ap (λ l. set l (a.at + i) b) inv.4
           ∙ paste-suc a.out.now a.at a.word.now i 0 (omega arith) c.before.loop-i-test.true),
@@ -51,10 +51,10 @@ loop-again c =
 
 returns-2 : tie.Need-returns invariant-loop decreases-loop
 returns-2 c =
-    let at-loop = c.before in
-    let a = at-loop.before.before.before.before.before.args in
-    let inv = at-loop.loop-i.invariant in
-    let e : at-loop.loop-i.i ≡ length a.word.now = omega arith in
+    let at_loop = c.before in
+    let a = at_loop.before.before.before.before.before.args in
+    let inv = at_loop.loop-i.invariant in
+    let e : at_loop.loop-i.i ≡ length a.word.now = omega arith in
     put (record { room = inv.1; moved = inv.2; leaves = inv.4 ∙ rw (e, take-length a.word.now) })
 
 pub put_word_spec : {M : Type 1} → statement M

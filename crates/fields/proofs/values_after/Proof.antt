@@ -24,20 +24,20 @@ loop-holds c = λ k. ap (place_after c.before.args.room c.before.args.from) (ome
 
 loop-again : tie.Need-loop-i-preserved invariant-loop decreases-loop
 loop-again c =
-    let at-loop = c.before.before.before in
-    let a = at-loop.before.before.args in
-    place_more value_text a.values.now at-loop.loop-i.i c.before.before.loop-i-test.true a.room a.from
-    at-loop.loop-i.at c.value_after-at.result at-loop.loop-i.invariant c.value_after-at.ensures
+    let at_loop = c.before.before.before in
+    let a = at_loop.before.before.args in
+    place_more value_text a.values.now at_loop.loop-i.i c.before.before.loop-i-test.true a.room a.from
+    at_loop.loop-i.at c.value_after-at.result at_loop.loop-i.invariant c.value_after-at.ensures
 
 returns : tie.Need-returns invariant-loop decreases-loop
 unfolding values_text
 returns c =
-    let at-loop = c.before.before in
-    let a = at-loop.before.before.args in
+    let at_loop = c.before.before in
+    let a = at_loop.before.before.args in
     c.place_after.ensures
-    ∙ (at-loop.loop-i.invariant 1
+    ∙ (at_loop.loop-i.invariant 1
     ∙ ap (place_after a.room a.from)
-    (rw (pieces_all value_text a.values.now at-loop.loop-i.i c.before.loop-i-test.false, length-append)))
+    (rw (pieces_all value_text a.values.now at_loop.loop-i.i c.before.loop-i-test.false, length-append)))
 
 pub values_after_spec : {M : Type 1} → statement M
 values_after_spec =

@@ -19,9 +19,9 @@ entry c = c.before.before.before.before
 job_is_lem : (c : tie.After-tested-o) → c.before.before.before.job-j.result ≡ job (entry c).args.l
 job_is_lem c = c.before.before.before.job-j.ensures
 
-range-is : (c : tie.After-tested-o)
+range_is : (c : tie.After-tested-o)
     → let k = kind (entry c).args.l in c.before.range-r.result ≡ lowest_operand k + 256 * highest_operand k
-range-is c =
+range_is c =
     let k = c.before.before.kind.ensures in
     let small : kind (entry c).args.l % 4 ≡ kind (entry c).args.l = omega (arith, kind_small (entry c).args.l) in
     rw (k, small) at c.before.range-r.ensures
@@ -49,7 +49,7 @@ returns-3 c =
     let a = (entry o).args in
     sym (as_kind_lem a.midday a.l
     ∙ low_operand (job a.l) (kind a.l) (as_tested a.l a.midday) _ (omega (arith, job_is_lem o))
-    (omega (arith, job_is_lem o)) (kind_small a.l) (range-is o) (rw o.tested-o.ensures at c.if-o-r.true))
+    (omega (arith, job_is_lem o)) (kind_small a.l) (range_is o) (rw o.tested-o.ensures at c.if-o-r.true))
 
 returns-4 : tie.Need-returns
 returns-4 c =
@@ -58,7 +58,7 @@ returns-4 c =
     rw o.tested-o.ensures
     (sym (as_kind_lem a.midday a.l
     ∙ high_operand (job a.l) (kind a.l) (as_tested a.l a.midday) _ (omega (arith, job_is_lem o))
-    (omega (arith, job_is_lem o)) (kind_small a.l) (range-is o) (rw o.tested-o.ensures at c.if-o-r.false)))
+    (omega (arith, job_is_lem o)) (kind_small a.l) (range_is o) (rw o.tested-o.ensures at c.if-o-r.false)))
 
 pub is_line_spec : {M : Type 1} → statement M
 is_line_spec =

@@ -1,6 +1,6 @@
 -- `line::plain` meets its contract: job and operand have no more bits than there is room for.
 use Prim.Native.Nat.{ℕ, ◌%◌, ◌^◌}
-use mathlib.Core.Bool.{Bool, cond}
+use mathlib.Core.Bool.{cond}
 use mathlib.Core.Path.{◌≡◌, ◌∙◌, ap}
 use native.Mathlib.Omega.{arith}
 use borrow.Author.Rules.{rules}

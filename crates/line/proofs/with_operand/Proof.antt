@@ -1,6 +1,4 @@
 -- `line::with_operand` meets its contract: job and kind have no more bits than there is room for.
-use mathlib.Core.Path.{◌≡◌, refl}
-use Prim.Native.Nat.{◌%◌, ◌^◌}
 use native.Mathlib.Omega.{arith}
 use borrow.Author.Rules.{rules}
 use Rattle.model.specs.Line.{pack, job, kind}

@@ -1,6 +1,5 @@
 -- `mates::span_of` meets its contract: the whole search is the search from the present position and depth, by the laws
 -- of `Mates`.
-use mathlib.Core.Path.{sym, ◌∙◌}
 use Prim.Native.Nat.{◌-◌}
 use lib.ListN.{length}
 use Rattle.mates.proofs.Mates.{past, Sought, start, end, foreign, mate_here, on}
@@ -16,47 +15,40 @@ decreases-loop plan i j depth₀ k₀ depth k = length plan - k
 
 -- no such line
 returns : tie.Need-returns-then-plan-i invariant-loop decreases-loop
-returns c = let a = c.before.before.args in past a.plan.now a.i c.if-plan-i.true
+returns c = let a = c.args in past a.plan.now a.i c.if-plan-i.true
 
 loop-holds : tie.Need-loop-k-init invariant-loop decreases-loop
 loop-holds c =
-    let a = c.before.before.before.before.args in
+    let a = c.args in
     start a.plan.now a.i c.job-j.result (search rules) c.job-j.ensures
 
 -- a line of another job
 returns-2 : tie.Need-returns-then-job-j invariant-loop decreases-loop
 returns-2 c =
-    let l = c.before.before.before.before in
-    let a = l.before.before.before.before.before.args in
-    foreign a.plan.now a.i l.before.job-j.result l.loop-k.depth l.loop-k.k l.loop-k.invariant (search rules)
-    c.before.job.result c.before.job.ensures c.if-job-j.true
+    let a = c.args in
+    foreign a.plan.now a.i c.job-j.result c.loop-k.depth c.loop-k.k c.loop-k.invariant (search rules)
+    c.job.result c.job.ensures c.if-job-j.true
 
 -- the mate
 returns-3 : tie.Need-returns-in-Ends invariant-loop decreases-loop
 returns-3 c =
-    let at_line_lem = c.before.before.before.before in
-    let l = at_line_lem.before.before.before in
-    let a = l.before.before.before.before.before.args in
-    mate_here a.plan.now a.i l.before.job-j.result l.loop-k.depth l.loop-k.k l.loop-k.invariant (search rules)
-    at_line_lem.job.result at_line_lem.job.ensures c.before.before.before.if-job-j.false
-    (sym c.enum_told-1.given.1 ∙ c.before.before.passed.ensures)
+    let a = c.args in
+    mate_here a.plan.now a.i c.job-j.result c.loop-k.depth c.loop-k.k c.loop-k.invariant (search rules)
+    c.job.result c.job.ensures c.if-job-j.false
+    c.in-Ends.ensures
 
 loop-again : tie.Need-loop-k-preserved invariant-loop decreases-loop
 loop-again c =
-    let at_line_lem = c.before.before.before.before.before in
-    let l = at_line_lem.before.before.before in
-    let a = l.before.before.before.before.before.args in
-    let d = c.before.d-1.given in
-    on a.plan.now a.i l.before.job-j.result l.loop-k.depth l.loop-k.k l.loop-k.invariant (search rules)
-    at_line_lem.job.result at_line_lem.job.ensures c.before.before.before.before.if-job-j.false d.0.0
-    (sym d.1 ∙ c.before.before.before.passed.ensures)
+    let a = c.args in
+    on a.plan.now a.i c.job-j.result c.loop-k.depth c.loop-k.k c.loop-k.invariant (search rules)
+    c.job.result c.job.ensures c.if-job-j.false c.in-Goes.d
+    c.in-Goes.ensures
 
 -- the end
 returns-4 : tie.Need-returns invariant-loop decreases-loop
 returns-4 c =
-    let l = c.before in
-    let a = l.before.before.before.before.before.args in
-    end a.plan.now a.i l.before.job-j.result l.loop-k.depth l.loop-k.k l.loop-k.invariant c.loop-k-test.false
+    let a = c.args in
+    end a.plan.now a.i c.job-j.result c.loop-k.depth c.loop-k.k c.loop-k.invariant c.loop-k-test.false
 
 pub span_of_spec : {M : Type 1} → statement M
 span_of_spec =

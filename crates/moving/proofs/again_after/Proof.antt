@@ -1,45 +1,42 @@
 -- `moving::again_after` meets its contract, by its four returns.
-use mathlib.Core.Path.{◌≡◌, refl, sym, ◌∙◌}
+use mathlib.Core.Path.{sym, ◌∙◌}
 use borrow.Author.Rules.{rules}
 use Rattle.theory.specs.Remarked.{again_after}
 use Rattle.moving.proofs.again_after.Statement.{statement}
 use Rattle.moving.proofs.again_after.Tie as tie
 
 -- a line of the new device
-returns : tie.Need-returns
+returns : tie.Need-returns-then-named
 unfolding again_after
-returns c = rw (sym c.before.named.ensures ∙ c.if1.true)
+returns c = rw (sym c.named.ensures ∙ c.if-named.true)
 
 -- a take of the old one
-returns-2 : tie.Need-returns-2
+returns-2 : tie.Need-returns-then-is_take
 unfolding again_after
 returns-2 c =
-    let n = c.before.before.before in
     rw (
-      sym n.before.before.named.ensures ∙ n.before.if1.false,
-      rw n.named2.ensures at c.before.before.if2.true,
-      sym c.before.is_take.ensures ∙ c.if3.true,
+      sym c.named.ensures ∙ c.if-named.false,
+      rw c.named-2.ensures at c.if-fresh-named.true,
+      sym c.is_take.ensures ∙ c.if-is_take.true,
     )
 
 -- a give of it
-returns-3 : tie.Need-returns-3
+returns-3 : tie.Need-returns-then-fresh-named
 unfolding again_after
 returns-3 c =
-    let n = c.before.before.before in
     rw (
-      sym n.before.before.named.ensures ∙ n.before.if1.false,
-      rw n.named2.ensures at c.before.before.if2.true,
-      sym c.before.is_take.ensures ∙ c.if3.false,
+      sym c.named.ensures ∙ c.if-named.false,
+      rw c.named-2.ensures at c.if-fresh-named.true,
+      sym c.is_take.ensures ∙ c.if-is_take.false,
     )
 
 -- another line
-returns-4 : tie.Need-returns-4
+returns-4 : tie.Need-returns
 unfolding again_after
 returns-4 c =
-    let n = c.before in
     rw (
-      sym n.before.before.named.ensures ∙ n.before.if1.false,
-      rw n.named2.ensures at c.if2.false,
+      sym c.named.ensures ∙ c.if-named.false,
+      rw c.named-2.ensures at c.if-fresh-named.false,
     )
 
 pub again_after_spec : {M : Type 1} → statement M

@@ -20,22 +20,18 @@ module _ (p q : List ℕ) (i e : ℕ) (given : q ≡ with_device p e i) where
   alone h = rw h given
 
 -- a take with a mate
-returns : tie.Need-returns
+returns : tie.Need-returns-in-Given
 returns c =
-    let g = c.before.before.before.before.before.before.before.before.before in
-    let s = g.before.before.before in
-    with_mate s.args.plan.now _ s.args.i _ g.give_device.ensures _ _
-    (span_given s.args.plan.now s.args.i _
-    (sym c.before.before.before.before.before.span.given.1 ∙ s.requires))
-    c.before.before.give-device2.ensures
+    with_mate c.args.plan.now _ c.args.i _ c.give_device.ensures _ _
+    (span_given c.args.plan.now c.args.i _
+    (sym c.in-Given.is ∙ c.requires))
+    c.give_device-in-Given.ensures
 
 -- a lasting take
-returns-2 : tie.Need-returns-2
+returns-2 : tie.Need-returns-in_default
 returns-2 c =
-    let g = c.before.before.before.before in
-    let s = g.before.before.before in
-    alone s.args.plan.now _ s.args.i _ g.give_device.ensures
-    (span_kept s.args.plan.now s.args.i _ (sym c.enum_told.given.1 ∙ s.requires))
+    alone c.args.plan.now _ c.args.i _ c.give_device.ensures
+    (span_kept c.args.plan.now c.args.i _ (sym c.in_default.is ∙ c.requires))
 
 pub edit_spec : {M : Type 1} → statement M
 edit_spec =

@@ -1,7 +1,7 @@
 -- `moving::fresh` meets its contract: the search along the way, and then under the take.
 use Prim.Native.Nat.{◌<◌}
 use mathlib.Core.Option.{none, some}
-use mathlib.Core.Path.{◌≡◌, sym, ◌∙◌, ap}
+use mathlib.Core.Path.{◌≡◌, ◌∙◌, ap}
 use native.Mathlib.Omega.{arith}
 use lib.ListN.{length}
 use borrow.Author.Rules.{rules}
@@ -18,97 +18,78 @@ use Rattle.moving.proofs.fresh.Tie as tie
 
 -- ---- on the way
 
-way_at : (c : tie.After-known-told)
-    → let s = c.before.before.before.before.before.before.before.before.before in
-    first_of (stale s.args.plan.now s.args.sets.now) (may_change s.args.plan.now s.args.i)
-    ≡ some c.before.k.given.0.0
+way_at : (c : tie.In-At)
+    → first_of (stale c.args.plan.now c.args.sets.now) (may_change c.args.plan.now c.args.i)
+    ≡ some c.in-At.k
 way_at c =
-    let s = c.before.before.before.before.before.before.before.before.before in
-    let a = s.args in
+    let a = c.args in
     found_on_way a.plan.now a.sets.now a.i _
-    (found_some _ _ _ c.before.k.given.1
-    (stale_known s.requires.1 a.i s.requires.0.in_plan _ c.before.before.before.stale-line.ensures))
+    (found_some _ _ _ c.in-At.is
+    (stale_known c.requires.1 a.i c.requires.0.in_plan _ c.stale_line.ensures))
 
 -- a stale line stands in the plan, so its number fits
-within : (c : tie.After-known-told)
-    → let s = c.before.before.before.before.before.before.before.before.before in
-    (c.before.k.given.0.0 < length s.args.plan.now) × (length s.args.plan.now < 1025)
+within : (c : tie.In-At)
+    → (c.in-At.k < length c.args.plan.now) × (length c.args.plan.now < 1025)
 within c =
-    let s = c.before.before.before.before.before.before.before.before.before in
-    let a = s.args in (
-      stale_inside a.plan.now a.sets.now a.i _ s.requires.0.in_plan (way_at c),
-      omega (arith, s.requires.0.well_formed.few),
+    let a = c.args in (
+      stale_inside a.plan.now a.sets.now a.i _ c.requires.0.in_plan (way_at c),
+      omega (arith, c.requires.0.well_formed.few),
     )
 
-returns : tie.Need-returns
+returns : tie.Need-returns-in-At
 returns c =
-    let a = c.before.before.before.before.before.before.before.before.before.args in
+    let a = c.args in
     stale_refuses a.plan.now a.sets.now a.i (span_of a.plan.now a.i) _ (way_at c)
 
 -- ---- under the take
 
-no_way : (c : tie.After-enum-told)
-    → let s = c.before.before.before.before.before.before.before.before in
-    first_of (stale s.args.plan.now s.args.sets.now) (way s.args.plan.now s.args.i) ≡ none
+no_way : (c : tie.In_default)
+    → first_of (stale c.args.plan.now c.args.sets.now) (way c.args.plan.now c.args.i) ≡ none
 no_way c =
-    let s = c.before.before.before.before.before.before.before.before in
-    found_none _ _ c.enum_told.given.1
-    (stale_known s.requires.1 s.args.i s.requires.0.in_plan _ c.before.before.stale-line.ensures)
+    found_none _ _ c.in_default.is
+    (stale_known c.requires.1 c.args.i c.requires.0.in_plan _ c.stale_line.ensures)
 
 -- what the second search found is what is stale under the take
-found-under : (c : tie.After-stale-under)
-    → let e = c.before.before.before.before.before in
-    let s = e.before.before.before.before.before.before.before.before in
-    c.stale-under.result
-    ≡ found (first_of (stale s.args.plan.now s.args.sets.now) (under s.args.plan.now s.args.i))
-found-under c =
-    let s = c.before.before.before.before.before.before.before.before.before.before.before.before.before in
-    let a = s.args in
-    let stop = c.before.before.stop-of.ensures ∙ ap stop_of c.before.before.before.before.Span-of.ensures in
-    under_known s.requires.1 a.i (stop_of (span_of a.plan.now a.i))
-    (spans a.plan.now s.requires.0.well_formed.rules a.i s.requires.0.in_plan) _
-    (rw stop at c.stale-under.ensures)
+found_under : (c : tie.After-stale_under)
+    → c.stale_under.result
+    ≡ found (first_of (stale c.args.plan.now c.args.sets.now) (under c.args.plan.now c.args.i))
+found_under c =
+    let a = c.args in
+    let stop = c.stop_of.ensures ∙ ap stop_of c.span_of-span.ensures in
+    under_known c.requires.1 a.i (stop_of (span_of a.plan.now a.i))
+    (spans a.plan.now c.requires.0.well_formed.rules a.i c.requires.0.in_plan) _
+    (rw stop at c.stale_under.ensures)
 
 -- a stale line there
-under_at : (c : tie.After-known-told2)
-    → let e = c.before.before.before.before.before.before.before.before in
-    let s = e.before.before.before.before.before.before.before.before in
-    first_of (stale s.args.plan.now s.args.sets.now) (may_change s.args.plan.now s.args.i)
-    ≡ some c.before.k2.given.0.0
+under_at : (c : tie.In-At-stale_under)
+    → first_of (stale c.args.plan.now c.args.sets.now) (may_change c.args.plan.now c.args.i)
+    ≡ some c.in-At-stale_under.k
 under_at c =
-    let u = c.before.before.before in
-    let e = u.before.before.before.before.before in
-    let a = e.before.before.before.before.before.before.before.before.args in
-    then_under a.plan.now a.sets.now a.i _ (no_way e)
-    (found_some _ _ _ c.before.k2.given.1 (found-under u))
+    let a = c.args in
+    then_under a.plan.now a.sets.now a.i _ (no_way c.before.before.before.before.before.before)
+    (found_some _ _ _ c.in-At-stale_under.is (found_under c.before))
 
-within-2 : (c : tie.After-known-told2)
-    → let s = c.before.before.before.before.before.before.before.before.before.before.before.before.before.before.before.before in
-    (c.before.k2.given.0.0 < length s.args.plan.now) × (length s.args.plan.now < 1025)
-within-2 c =
-    let e = c.before.before.before.before.before.before.before.before in
-    let s = e.before.before.before.before.before.before.before.before in
-    let a = s.args in (
-      stale_inside a.plan.now a.sets.now a.i _ s.requires.0.in_plan (under_at c),
-      omega (arith, s.requires.0.well_formed.few),
+within_under : (c : tie.In-At-stale_under)
+    → (c.in-At-stale_under.k < length c.args.plan.now) × (length c.args.plan.now < 1025)
+within_under c =
+    let a = c.args in (
+      stale_inside a.plan.now a.sets.now a.i _ c.requires.0.in_plan (under_at c),
+      omega (arith, c.requires.0.well_formed.few),
     )
 
-returns-2 : tie.Need-returns-2
+returns-2 : tie.Need-returns-in-At-stale_under
 returns-2 c =
-    let e = c.before.before.before.before.before.before.before.before in
-    let a = e.before.before.before.before.before.before.before.before.args in
+    let a = c.args in
     stale_refuses a.plan.now a.sets.now a.i (span_of a.plan.now a.i) _ (under_at c)
 
 -- none
-returns-3 : tie.Need-returns-3
+returns-3 : tie.Need-returns
 returns-3 c =
-    let u = c.before.before in
-    let e = u.before.before.before.before.before in
-    let a = e.before.before.before.before.before.before.before.before.args in
+    let a = c.args in
     none_stale a.plan.now a.sets.now a.i (span_of a.plan.now a.i) _
-    u.before.before.before.before.Span-of.ensures
-    (then_under a.plan.now a.sets.now a.i _ (no_way e)
-    (found_none _ _ c.enum-told2.given.1 (found-under u)))
+    c.span_of-span.ensures
+    (then_under a.plan.now a.sets.now a.i _ (no_way c.before.before.before.before.before.before)
+    (found_none _ _ c.in_default-stale_under.is (found_under c.before)))
 
 pub fresh_spec : {M : Type 1} → statement M
 fresh_spec =
@@ -124,8 +105,8 @@ fresh_spec =
     (λ c κs. search rules)
     (λ c κs. search rules)
     (λ c. search rules)
-    (λ c. record { fits = omega (arith, (within-2 c).0, (within-2 c).1) })
-    (λ c. omega (arith, (within-2 c).0, (within-2 c).1))
+    (λ c. record { fits = omega (arith, (within_under c).0, (within_under c).1) })
+    (λ c. omega (arith, (within_under c).0, (within_under c).1))
     returns-2
     (λ c. search rules)
     returns-3)

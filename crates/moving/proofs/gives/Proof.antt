@@ -4,7 +4,7 @@ use Rattle.moving.proofs.gives.Statement.{statement}
 use Rattle.moving.proofs.gives.Tie as tie
 
 returns : tie.Need-returns
-returns c = rw (c.before.is-give.ensures, c.operand.ensures)
+returns c = rw (c.is_give.ensures, c.operand.ensures)
 
 pub gives_spec : {M : Type 1} → statement M
 gives_spec = tie.close (tie.spec (λ c κs. search rules) (λ c κs. search rules) returns)

@@ -1,6 +1,5 @@
 -- `moving::is_take_of` meets its contract: there is no line 0, and none past the end.
 use Prim.Native.Nat.{ℕ, zero, suc, ◌-◌}
-use mathlib.Core.Bool.{false}
 use mathlib.Core.List.{List}
 use mathlib.Core.Logic.{◌≢◌}
 use mathlib.Core.Path.{◌≡◌, refl, sym, ◌∙◌}
@@ -19,23 +18,22 @@ line_asked p zero n = absurd (n refl)
 line_asked p (suc i) n = let z : suc i - 1 ≡ i = omega arith in rw z
 
 -- line 0
-returns : tie.Need-returns
+returns : tie.Need-returns-then-line-eq0
 unfolding is_take_of
-returns c = rw c.if1.true
+returns c = rw c.if-line-eq0.true
 
 -- past the end
-returns-2 : tie.Need-returns-2
+returns-2 : tie.Need-returns-then-plan-i
 returns-2 c =
-    let a = c.before.before.before.args in
+    let a = c.args in
     sym (falsely (is_take (at a.plan.now (a.line - 1)))
-    (λ t. omega (arith, c.if2.true, take_line a.plan.now (a.line - 1) t)))
-    ∙ line_asked a.plan.now a.line c.before.if1.false
+    (λ t. omega (arith, c.if-plan-i.true, take_line a.plan.now (a.line - 1) t)))
+    ∙ line_asked a.plan.now a.line c.if-line-eq0.false
 
-returns-3 : tie.Need-returns-3
+returns-3 : tie.Need-returns
 returns-3 c =
-    let is_one = c.before.before.before in
-    let a = is_one.before.before.args in
-    c.is_take.ensures ∙ line_asked a.plan.now a.line is_one.if1.false
+    let a = c.args in
+    c.is_take.ensures ∙ line_asked a.plan.now a.line c.if-line-eq0.false
 
 pub is_take_of_spec : {M : Type 1} → statement M
 is_take_of_spec =

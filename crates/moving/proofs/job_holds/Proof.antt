@@ -1,6 +1,6 @@
 -- `moving::job_holds` meets its contract, by the laws of `Holding`.
-use Prim.Native.Nat.{suc, ◌-◌, ◌≤◌}
-use mathlib.Core.Path.{◌≡◌, refl, sym, ◌∙◌, ap}
+use Prim.Native.Nat.{suc, ◌-◌}
+use mathlib.Core.Path.{◌≡◌, sym, ◌∙◌, ap}
 use native.Mathlib.Omega.{arith}
 use lib.ListN.{length}
 use borrow.Author.Rules.{rules}
@@ -10,89 +10,69 @@ use Rattle.moving.proofs.Holding.{Back, back_start, back_end, back_foreign, back
 use Rattle.moving.proofs.job_holds.Statement.{statement}
 use Rattle.moving.proofs.job_holds.Tie as tie
 
-abbrev invariant-loop : tie.invariant-loop
+abbrev invariant-loop : tie.invariant-loop-n
 invariant-loop plan again i device j n₀ n = Back plan i device n
 
-abbrev decreases-loop : tie.decreases-loop
+abbrev decreases-loop : tie.decreases-loop-n
 decreases-loop plan again i device j n₀ n = n
 
--- the function's entry, from a turn; there n is one more than the line at hand
-abbrev entry : tie.In-loop invariant-loop decreases-loop → tie.Start invariant-loop decreases-loop
-entry c = c.before.before.before.before.before
+-- in a turn n is one more than the line at hand
+one_more : (c : tie.In-loop-n invariant-loop decreases-loop) → c.loop-n.n ≡ suc (c.loop-n.n - 1)
+one_more c = omega (arith, c.loop-n-test.true)
 
-one_more : (c : tie.In-loop invariant-loop decreases-loop) → c.before.loop.n ≡ suc (c.before.loop.n - 1)
-one_more c = omega (arith, c.loop-test.true)
-
-element-copy-out-plain : tie.Need-element-copy-out-plain invariant-loop decreases-loop
-element-copy-out-plain c =
-    let s = entry c.before in
-    let p = s.args.plan.now in
+bounds-again-n : tie.Need-bounds-again-n invariant-loop decreases-loop
+bounds-again-n c =
     omega (
       arith,
-      c.before.before.loop.invariant.low,
-      s.pre.0.in_plan,
-      s.pre.0.well_formed.few,
-      ap length s.pre.1 ∙ length_again p,
+      c.loop-n.invariant.low,
+      c.requires.0.in_plan,
+      c.requires.0.well_formed.few,
+      ap length c.requires.1 ∙ length_again c.args.plan.now,
     )
 
 -- the line at hand is of the job
-own_line : (c : tie.Else1 invariant-loop decreases-loop)
-    → let l = c.before.before in
-    job l.plain.result
-    ≡ job (at (entry l.before.before.before).args.plan.now (entry l.before.before.before).args.i)
-own_line c =
-    sym c.before.job2.ensures ∙ c.if1.false
-    ∙ c.before.before.before.before.before.before.before.job.ensures
+own_line : (c : tie.Else-job-j invariant-loop decreases-loop)
+    → job c.plain-l.result ≡ job (at c.args.plan.now c.args.i)
+own_line c = sym c.job.ensures ∙ c.if-job-j.false ∙ c.job-j.ensures
 
 -- a line of another job
-returns : tie.Need-returns invariant-loop decreases-loop
+returns : tie.Need-returns-then-job-j invariant-loop decreases-loop
 returns c =
-    let l = c.before.before in
-    let in-loop = l.before.before.before in
-    let s = entry in-loop in
-    back_foreign s.args.plan.now s.args.again.now s.args.i s.args.device in-loop.before.loop.n
-    s.pre.0 s.pre.1 in-loop.before.loop.invariant _ (one_more in-loop) l.plain.result l.plain.ensures
-    (λ e. c.if1.true (c.before.job2.ensures ∙ e ∙ sym in-loop.before.before.job.ensures))
+    let s = c.args in
+    back_foreign s.plan.now s.again.now s.i s.device c.loop-n.n c.requires.0 c.requires.1 c.loop-n.invariant _
+    (one_more c.before.before.before.before.before.before) c.plain-l.result c.plain-l.ensures
+    (λ e. c.if-job-j.true (c.job.ensures ∙ e ∙ sym c.job-j.ensures))
 
 -- a take of the device
-returns-2 : tie.Need-returns-2 invariant-loop decreases-loop
+returns-2 : tie.Need-returns-then-takes invariant-loop decreases-loop
 returns-2 c =
-    let own = c.before.before in
-    let l = own.before.before in
-    let in-loop = l.before.before.before in
-    let s = entry in-loop in
-    back_take s.args.plan.now s.args.again.now s.args.i s.args.device in-loop.before.loop.n
-    s.pre.0 s.pre.1 in-loop.before.loop.invariant _ (one_more in-loop) l.plain.result l.plain.ensures
-    (own_line own) (sym c.before.takes.ensures ∙ c.if2.true)
+    let s = c.args in
+    back_take s.plan.now s.again.now s.i s.device c.loop-n.n c.requires.0 c.requires.1 c.loop-n.invariant _
+    (one_more c.before.before.before.before.before.before.before.before) c.plain-l.result c.plain-l.ensures
+    (own_line c.before.before) (sym c.takes.ensures ∙ c.if-takes.true)
 
 -- a give of it
-returns-3 : tie.Need-returns-3 invariant-loop decreases-loop
+returns-3 : tie.Need-returns-then-gives invariant-loop decreases-loop
 returns-3 c =
-    let own = c.before.before.before.before in
-    let l = own.before.before in
-    let in-loop = l.before.before.before in
-    let s = entry in-loop in
-    back_give s.args.plan.now s.args.again.now s.args.i s.args.device in-loop.before.loop.n
-    s.pre.0 s.pre.1 in-loop.before.loop.invariant _ (one_more in-loop) l.plain.result l.plain.ensures
-    (own_line own) (sym c.before.gives.ensures ∙ c.if3.true)
+    let s = c.args in
+    back_give s.plan.now s.again.now s.i s.device c.loop-n.n c.requires.0 c.requires.1 c.loop-n.invariant _
+    (one_more c.before.before.before.before.before.before.before.before.before.before) c.plain-l.result
+    c.plain-l.ensures (own_line c.before.before.before.before) (sym c.gives.ensures ∙ c.if-gives.true)
 
-loop-again : tie.Need-loop-preserved invariant-loop decreases-loop
+loop-again : tie.Need-loop-n-preserved invariant-loop decreases-loop
 loop-again c =
-    let own = c.before.before.before.before in
-    let l = own.before.before in
-    let in-loop = l.before.before.before in
-    let s = entry in-loop in
-    back_on s.args.plan.now s.args.again.now s.args.i s.args.device in-loop.before.loop.n
-    s.pre.0 s.pre.1 in-loop.before.loop.invariant _ (one_more in-loop) l.plain.result l.plain.ensures
-    (own_line own) (sym c.before.before.before.takes.ensures ∙ c.before.before.if2.false)
-    (sym c.before.gives.ensures ∙ c.if3.false)
+    let s = c.args in
+    back_on s.plan.now s.again.now s.i s.device c.loop-n.n c.requires.0 c.requires.1 c.loop-n.invariant _
+    (one_more c.before.before.before.before.before.before.before.before.before.before) c.plain-l.result
+    c.plain-l.ensures (own_line c.before.before.before.before) (sym c.takes.ensures ∙ c.if-takes.false)
+    (sym c.gives.ensures ∙ c.if-gives.false)
 
 -- no line is left
-returns-4 : tie.Need-returns-4 invariant-loop decreases-loop
+returns-4 : tie.Need-returns invariant-loop decreases-loop
 returns-4 c =
-    let l = c.before.loop in
-    let a = c.before.before.before.before.before.args in
-    back_end a.plan.now a.i a.device l.n l.invariant c.loop-test.false
+    let l = c.loop-n in
+    let a = c.args in
+    back_end a.plan.now a.i a.device l.n l.invariant c.loop-n-test.false
 
 pub job_holds_spec : {M : Type 1} → statement M
 job_holds_spec =
@@ -103,12 +83,12 @@ job_holds_spec =
     (λ c. search rules)
     (λ c. search rules)
     (λ c κs. search rules)
-    (λ c. let a = c.before.before.before.args in back_start a.plan.now a.i a.device)
+    (λ c. let a = c.args in back_start a.plan.now a.i a.device)
     (λ c. search rules)
     (λ c. search rules)
-    (λ c. omega (arith, c.before.before.loop.invariant.low, (entry c.before).pre.0.in_plan))
+    (λ c. omega (arith, c.loop-n.invariant.low, c.requires.0.in_plan))
     (λ c. search rules)
-    element-copy-out-plain
+    bounds-again-n
     (λ c κs. search rules)
     (λ c κs. search rules)
     returns

@@ -1,87 +1,64 @@
 -- `moving::mark` meets its contract, by the laws of `Marking`.
-use Prim.Native.Nat.{ℕ, ◌<◌}
-use mathlib.Core.List.{List}
-use mathlib.Core.Option.{Option, none, some}
-use mathlib.Core.Path.{◌≡◌, refl, sym, ◌∙◌, ap}
+use mathlib.Core.Path.{sym, ◌∙◌, ap}
 use native.Mathlib.Omega.{arith}
 use borrow.Author.Rules.{rules}
-use Rattle.model.specs.Board.{devices}
-use Rattle.model.specs.Line.{max_lines}
-use Rattle.model.specs.Mate.{mate}
 use Rattle.theory.proofs.Mate.{pair}
 use Rattle.mates.specs.Span.{span_of, stop_of}
 use Rattle.moving.specs.Marked.{Marked}
-use Rattle.moving.specs.Tested.{Take}
 use Rattle.moving.proofs.Answers.{span_given, span_kept}
 use Rattle.moving.proofs.Marking.{all_given, all_kept}
 use Rattle.moving.proofs.mark.Statement.{statement}
 use Rattle.moving.proofs.mark.Tie as tie
 
-mark-under-requires : tie.Need-mark-under-requires
+mark-under-requires : tie.Need-mark_under-requires
 mark-under-requires c κs =
-    let s = c.before.before.before.before.before in
-    (s.requires.0, s.requires.1, c.stop-of.ensures ∙ ap stop_of s.requires.2)
+    (c.requires.0, c.requires.1, c.stop_of.ensures ∙ ap stop_of c.requires.2)
 
 -- what was marked under the take
-marked : (c : tie.After-mark-under)
-    → let s = c.before.before.before.before.before.before in
-    Marked s.args.plan.now s.args.i s.args.device (stop_of (span_of s.args.plan.now s.args.i))
-    c.mark-under.new.1.0
+marked : (c : tie.After-mark_under)
+    → Marked c.args.plan.now c.args.i c.args.device (stop_of (span_of c.args.plan.now c.args.i))
+    c.mark_under.new.again
 marked c =
-    let s = c.before.before.before.before.before.before in
-    rw (c.before.stop-of.ensures ∙ ap stop_of s.requires.2) at c.mark-under.ensures
+    rw (c.stop_of.ensures ∙ ap stop_of c.requires.2) at c.mark_under.ensures
 
-element-write-again : tie.Need-element-write-preserved
-element-write-again c =
-    let s = c.before.before.before.before.before.before in
-    omega (arith, s.requires.0.line.in_plan, s.requires.0.line.well_formed.few, (marked c).long)
+bounds-again-i : tie.Need-bounds-again-i
+bounds-again-i c =
+    omega (arith, c.requires.0.line.in_plan, c.requires.0.line.well_formed.few, (marked c.before).long)
 
--- the give
-given : (c : tie.After-known-told)
-    → let s = c.before.before.before.before.before.before.before.before.before in
-    mate s.args.plan.now s.args.i ≡ some c.before.span.given.0.0
-given c =
-    let s = c.before.before.before.before.before.before.before.before.before in
-    span_given s.args.plan.now s.args.i _ (sym c.before.span.given.1 ∙ s.requires.2)
-
-element-write-again-2 : tie.Need-element-write-preserved-2
-element-write-again-2 c =
-    let s = c.before.before.before.before.before.before.before.before.before in
+-- the give is in the plan
+bounds-again-m : tie.Need-bounds-again-m
+bounds-again-m c =
+    let s = c.args in
     omega (
       arith,
-      (pair s.args.plan.now s.args.i _ (given c)).in_plan,
-      s.requires.0.line.well_formed.few,
+      (pair s.plan.now s.i _ (span_given s.plan.now s.i _ (sym c.in-Given.is ∙ c.requires.2))).in_plan,
+      c.requires.0.line.well_formed.few,
     )
 
-returns : tie.Need-returns
+returns : tie.Need-returns-in-Given
 returns c =
-    let m = c.before.before.before in
-    let s = m.before.before.before.before.before.before in
-    all_given s.args.plan.now s.args.i s.args.device s.requires.0 _
-    m.before.before.before.job-holds.result
-    m.before.before.before.job-holds.ensures (marked m) _ (given c)
+    let s = c.args in
+    all_given s.plan.now s.i s.device c.requires.0 _ c.job_holds-held.result c.job_holds-held.ensures
+    (marked c.before.before) _ (span_given s.plan.now s.i _ (sym c.in-Given.is ∙ c.requires.2))
 
-returns-2 : tie.Need-returns-2
+returns-2 : tie.Need-returns-in_default
 returns-2 c =
-    let m = c.before.before in
-    let s = m.before.before.before.before.before.before in
-    all_kept s.args.plan.now s.args.i s.args.device s.requires.0 _
-    m.before.before.before.job-holds.result
-    m.before.before.before.job-holds.ensures (marked m)
-    (span_kept s.args.plan.now s.args.i _ (sym c.enum_told.given.1 ∙ s.requires.2))
+    let s = c.args in
+    all_kept s.plan.now s.i s.device c.requires.0 _ c.job_holds-held.result c.job_holds-held.ensures
+    (marked c.before.before) (span_kept s.plan.now s.i _ (sym c.in_default.is ∙ c.requires.2))
 
 pub mark_spec : {M : Type 1} → statement M
 mark_spec =
     tie.close
     (tie.spec
-    (λ c κs. let s = c.before.before in (s.requires.0.line, s.requires.1))
+    (λ c κs. (c.requires.0.line, c.requires.1))
     (λ c κs. search rules)
     mark-under-requires
     (λ c. search rules)
-    element-write-again
+    bounds-again-i
     (λ c. search rules)
     (λ c. search rules)
-    element-write-again-2
+    bounds-again-m
     (λ c. search rules)
     returns
     returns-2)

@@ -1,8 +1,8 @@
 -- `moving::mark_under` meets its contract, by the laws of `Marking`.
 use Prim.Native.Nat.{ℕ, ◌-◌, ◌<◌}
-use mathlib.Core.Bool.{Bool, not, ◌&&◌}
+use mathlib.Core.Bool.{not, ◌&&◌}
 use mathlib.Core.List.{List}
-use mathlib.Core.Path.{◌≡◌, refl, sym, ◌∙◌, ap}
+use mathlib.Core.Path.{◌≡◌, sym, ◌∙◌}
 use native.Mathlib.Omega.{arith}
 use lib.Dec.{eqb}
 use lib.ListN.{length, get_or}
@@ -19,11 +19,11 @@ use Rattle.moving.proofs.Marking.{span_is, Marks, marks_start, marks_on, none_be
 use Rattle.moving.proofs.mark_under.Statement.{statement}
 use Rattle.moving.proofs.mark_under.Tie as tie
 
-abbrev invariant-loop : tie.invariant-loop
+abbrev invariant-loop : tie.invariant-loop-k
 invariant-loop plan again₀ i device stop old fresh deep₀ k₀ again deep k =
     (t : Take plan i device) → Marks plan i device t fresh again deep k
 
-abbrev decreases-loop : tie.decreases-loop
+abbrev decreases-loop : tie.decreases-loop-k
 decreases-loop plan again₀ i device stop old fresh deep₀ k₀ again deep k = stop - k
 
 -- what tells that the old device is counted, as the code works it out
@@ -40,59 +40,49 @@ old_is p i device old t e = e ∙ sym (own_device (at p i) (take_no_held (at p i
 inside : (s : tie.Start invariant-loop decreases-loop) → s.args.i < max_lines
 inside s = omega (arith, s.requires.0.line.in_plan, s.requires.0.line.well_formed.few)
 
-abbrev entry : tie.In-loop invariant-loop decreases-loop → tie.Start invariant-loop decreases-loop
-entry c = c.before.before.before.before.before.before
-
 -- the line at hand is under the take
-under : (c : tie.In-loop invariant-loop decreases-loop)
-    → let s = entry c in c.before.loop.k < stop_of (span_of s.args.plan.now s.args.i)
-under c = rw (entry c).requires.2 at c.loop-test.true
+under : (c : tie.In-loop-k invariant-loop decreases-loop)
+    → c.loop-k.k < stop_of (span_of c.args.plan.now c.args.i)
+under c = rw c.requires.2 at c.loop-k-test.true
 
-in-plan : (c : tie.In-loop invariant-loop decreases-loop)
-    → (c.before.loop.k < length (entry c).args.plan.now) × (c.before.loop.k < max_lines)
-in-plan c =
-    let s = entry c in
-    let z = (span_is s.args.plan.now s.args.i s.args.device s.pre.0).high in
-    (omega (arith, under c, z), omega (arith, under c, z, s.pre.0.line.well_formed.few))
+in_plan_lem : (c : tie.In-loop-k invariant-loop decreases-loop)
+    → (c.loop-k.k < length c.args.plan.now) × (c.loop-k.k < max_lines)
+in_plan_lem c =
+    let z = (span_is c.args.plan.now c.args.i c.args.device c.requires.0).high in
+    (omega (arith, under c, z), omega (arith, under c, z, c.requires.0.line.well_formed.few))
 
-loop-holds : tie.Need-loop-init invariant-loop decreases-loop
-loop-holds c t =
-    let s = c.before.before.before.before in
-    marks_start s.args.plan.now s.args.i s.args.device t _ s.args.again.now s.requires.1
+loop-holds : tie.Need-loop-k-init invariant-loop decreases-loop
+loop-holds c t = marks_start c.args.plan.now c.args.i c.args.device t _ c.args.again.now c.requires.1
 
-open-after-requires : tie.Need-open-after-requires invariant-loop decreases-loop
+open-after-requires : tie.Need-open_after-deep-requires invariant-loop decreases-loop
 open-after-requires c κs =
-    let in-loop = c.before.before.before in
-    let s = entry in-loop in
-    let l = in-loop.before.loop in
-    let m = l.invariant s.pre.0 in
-    let o = in-loop.before.before.before.operand in (
-      few s.args.plan.now s.args.i s.args.device s.pre.0 _ l.again l.deep l.k m
-          (under in-loop),
-      none_below s.args.plan.now s.args.i s.args.device s.pre.0 _ l.again l.deep l.k m
-          (under in-loop) o.result
-          (old_is s.args.plan.now s.args.i s.args.device _ s.pre.0 o.ensures),
+    let a = c.args in
+    let l = c.loop-k in
+    let m = l.invariant c.requires.0 in
+    let o = c.operand-old in
+    let here = under c.before.before.before.before in (
+      few a.plan.now a.i a.device c.requires.0 _ l.again l.deep l.k m here,
+      none_below a.plan.now a.i a.device c.requires.0 _ l.again l.deep l.k m here o.result
+          (old_is a.plan.now a.i a.device _ c.requires.0 o.ensures),
     )
 
-loop-again : tie.Need-loop-preserved invariant-loop decreases-loop
+loop-again : tie.Need-loop-k-preserved invariant-loop decreases-loop
 loop-again c t =
-    let in-loop = c.before.before.before.before in
-    let s = entry in-loop in
-    let a = s.args in
-    let l = in-loop.before.loop in
-    let o = in-loop.before.before.before.operand in
+    let a = c.args in
+    let l = c.loop-k in
+    let o = c.operand-old in
     let old = old_is a.plan.now a.i a.device _ t o.ensures in
-    marks_on a.plan.now a.i a.device t _ l.again l.deep l.k (l.invariant t) (under in-loop)
-    (fresh_is a.plan.now a.again.now a.i a.device _ s.pre.1 (inside s) old) o.result
-    old c.before.again-after.result c.before.again-after.ensures c.Open-after.result
-    c.Open-after.ensures
+    marks_on a.plan.now a.i a.device t _ l.again l.deep l.k (l.invariant t)
+    (under c.before.before.before.before.before)
+    (fresh_is a.plan.now a.again.now a.i a.device _ c.requires.1
+    (inside c.before.before.before.before.before.before.before.before.before.before.before.before) old) o.result
+    old c.again_after-marked.result c.again_after-marked.ensures c.open_after-deep.result c.open_after-deep.ensures
 
 returns : tie.Need-returns invariant-loop decreases-loop
 returns c =
-    let l = c.before.loop in
-    let s = c.before.before.before.before.before.before in
-    let m = l.invariant s.requires.0 in
-    let z : l.k ≡ s.args.stop = omega (arith, m.high, s.requires.2) in
+    let l = c.loop-k in
+    let m = l.invariant c.requires.0 in
+    let z : l.k ≡ c.args.stop = omega (arith, m.high, c.requires.2) in
     rw z at m.marked
 
 pub mark_under_spec : {M : Type 1} → statement M
@@ -102,19 +92,19 @@ mark_under_spec =
     invariant-loop
     decreases-loop
     (λ c. search rules)
-    (λ c. c.before.before.requires.0.line.in_plan)
+    (λ c. c.requires.0.line.in_plan)
     (λ c κs. search rules)
-    (λ c. inside c.before.before.before)
+    (λ c. inside c.before.before.before.before)
     (λ c. search rules)
     loop-holds
-    (λ c. record { fits = omega (arith, (in-plan c).1) })
-    (λ c. (in-plan c.before).0)
-    (λ c. (in-plan c.before).1)
+    (λ c. record { fits = omega (arith, (in_plan_lem c).1) })
+    (λ c. (in_plan_lem c.before).0)
+    (λ c. (in_plan_lem c.before.before).1)
     (λ c κs. search rules)
     (λ c. search rules)
-    (λ c. (in-plan c.before.before.before).1)
+    (λ c. (in_plan_lem c.before.before.before.before).1)
     open-after-requires
-    (λ c. omega (arith, (in-plan c.before.before.before.before).1))
+    (λ c. omega (arith, (in_plan_lem c.before.before.before.before.before).1))
     (λ c. search rules)
     loop-again
     returns)

@@ -5,17 +5,14 @@ use Rattle.moving.proofs.Outcome.{plainly_refused, plainly_moved}
 use Rattle.moving.proofs.move_claim.Statement.{statement}
 use Rattle.moving.proofs.move_claim.Tie as tie
 
-returns : tie.Need-returns
+returns : tie.Need-returns-in-Refused
 returns c =
-    let m = c.before.before.before.before.before.before.before in
-    let g = c.before.r.given in
-    plainly_refused false _ _ _ _ _ _ _ _ _ _ _ _ _ _ _ m.move-through.ensures g.0.0 g.1
+    plainly_refused false _ _ _ _ _ _ _ _ _ _ _ _ _ _ _ c.move_through.ensures c.in-Refused.r c.in-Refused.is
 
-returns-2 : tie.Need-returns-2
+returns-2 : tie.Need-returns-in-Moved
 returns-2 c =
-    let m = c.before.before.before.before.before.before.before in
-    let g = c.before.count.given in
-    plainly_moved false _ _ _ _ _ _ _ _ _ _ _ _ _ _ _ m.move-through.ensures g.0.0 g.0.1.0 g.1
+    plainly_moved false _ _ _ _ _ _ _ _ _ _ _ _ _ _ _ c.move_through.ensures c.in-Moved.count
+    c.in-Moved.stop c.in-Moved.is
 
 pub move_claim_spec : {M : Type 1} → statement M
 move_claim_spec =

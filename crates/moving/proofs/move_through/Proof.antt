@@ -14,60 +14,54 @@ use Rattle.moving.proofs.move_through.Statement.{statement}
 use Rattle.moving.proofs.move_through.Tie as tie
 
 -- a test refuses
-returns : tie.Need-returns
+returns : tie.Need-returns-in-Refused
 returns c =
-    let at-tests = c.before.before.before in
-    let a = at-tests.before.before.before.before.before.before.before.before.before.args in
-    let r = c.before.r.given.0.0 in
-    let t = at-tests.tested.ensures in
+    let a = c.args in
+    let r = c.in-Refused.r in
+    let t = c.tested.ensures in
     through_refused false a.plan.now a.sets.now a.line a.device a.first.now a.starter.now
     a.again.now a.holdings.now _ _ _ t.firsts t.starts t.holds _ t.agains r
-    (told_refused _ _ r _ c.before.r.given.1 t.answers)
+    (told_refused _ _ r _ c.in-Refused.is t.answers)
 
--- the function's entry, from where no test refuses; what is known there
-abbrev entry : tie.After-known-told2 → tie.Start
-entry c = c.before.before.before.before.before.before.before.before.before.before.before.before
-
-told : (c : tie.After-known-told2)
-    → let a = (entry c).args in
+-- what is known where no test refuses
+told : (c : tie.In-Passes)
+    → let a = c.args in
     (move_refusal board a.plan.now a.sets.now a.line a.device ≡ none)
-    × (c.before.span.given.0.0 ≡ span_of a.plan.now (asked_at a.line))
+    × (c.in-Passes.span ≡ span_of a.plan.now (asked_at a.line))
 told c =
-    let a = (entry c).args in
+    let a = c.args in
     told_passes (move_refusal board a.plan.now a.sets.now a.line a.device)
-    (span_of a.plan.now (asked_at a.line)) _ _ c.before.span.given.1
-    c.before.before.before.tested.ensures.answers
+    (span_of a.plan.now (asked_at a.line)) _ _ c.in-Passes.is
+    c.tested.ensures.answers
 
-known : (c : tie.After-known-told2)
-    → let a = (entry c).args in Passes false a.plan.now a.sets.now a.line a.device
-known c = let a = (entry c).args in passes false a.plan.now a.sets.now a.line a.device (told c).0
+known : (c : tie.In-Passes)
+    → let a = c.args in Passes false a.plan.now a.sets.now a.line a.device
+known c = let a = c.args in passes false a.plan.now a.sets.now a.line a.device (told c).0
 
-span-is : (c : tie.After-known-told2)
-    → let a = (entry c).args in c.before.span.given.0.0 ≡ span_of a.plan.now (a.line - 1)
-span-is c = (told c).1 ∙ ap (span_of (entry c).args.plan.now) (known c).position
+span_is : (c : tie.In-Passes)
+    → let a = c.args in c.in-Passes.span ≡ span_of a.plan.now (a.line - 1)
+span_is c = (told c).1 ∙ ap (span_of c.args.plan.now) (known c).position
 
-rewrite-requires : tie.Need-rewrite-requires
+rewrite-requires : tie.Need-rewrite-count-requires
 rewrite-requires c κs =
-    let t = c.before.before.before.before.before in
-    let a = (entry t).args in
-    let e = t.before.before.before.tested.ensures in (
-      (known t).asked,
-      span-is t,
+    let a = c.args in
+    let e = c.tested.ensures in (
+      (known c.before.before.before).asked,
+      span_is c.before.before.before,
       (by_scan false a.plan.now a.sets.now a.line a.device a.first.now a.starter.now
-          a.again.now a.holdings.now _ _ _ e.firsts e.starts e.holds (told t).0 _ e.agains).agains,
+          a.again.now a.holdings.now _ _ _ e.firsts e.starts e.holds (told c.before.before.before).0 _ e.agains).agains,
     )
 
 -- none does
-returns-2 : tie.Need-returns-2
+returns-2 : tie.Need-returns-in-Passes
 returns-2 c =
-    let w = c.before.before.before.before.before in
-    let t = w.before.before.before.before.before.before in
-    let a = (entry t).args in
-    let e = t.before.before.before.tested.ensures in
+    let a = c.args in
+    let e = c.tested.ensures in
+    let known_there = told c.before.before.before.before.before.before.before.before.before in
     through_moved false a.plan.now a.sets.now a.line a.device a.first.now a.starter.now
-    a.again.now a.holdings.now _ _ _ e.firsts e.starts e.holds (told t).0 _ e.agains _ _ _ _ _
-    (c.stop-of.ensures ∙ ap stop_of (told t).1)
-    w.rewrite.ensures
+    a.again.now a.holdings.now _ _ _ e.firsts e.starts e.holds known_there.0 _ e.agains _ _ _ _ _
+    (c.stop_of.ensures ∙ ap stop_of known_there.1)
+    c.rewrite-count.ensures
 
 pub move_through_spec : {M : Type 1} → statement M
 move_through_spec =

@@ -1,5 +1,4 @@
 -- `moving::named` meets its contract.
-use mathlib.Core.Path.{◌≡◌, refl}
 use borrow.Author.Rules.{rules}
 use Rattle.theory.specs.Remarked.{names}
 use Rattle.moving.proofs.named.Statement.{statement}
@@ -7,7 +6,7 @@ use Rattle.moving.proofs.named.Tie as tie
 
 returns : tie.Need-returns
 unfolding names
-returns c = rw (c.operand.ensures, c.before.is-give.ensures, c.before.before.is_take.ensures)
+returns c = rw (c.operand.ensures, c.is_give.ensures, c.is_take.ensures)
 
 pub named_spec : {M : Type 1} → statement M
 named_spec =

@@ -15,43 +15,38 @@ use Rattle.moving.proofs.SameScan.{is_scanned}
 use Rattle.moving.proofs.tested.Statement.{statement}
 use Rattle.moving.proofs.tested.Tie as tie
 
--- where the scan does not refuse: the function's entry, and what is known
-abbrev entry : tie.After-enum-told → tie.Start
-entry c = c.before.before.before.before.before.before.before.before.before
+-- where the scan does not refuse
+no_fault_lem : (c : tie.In_default) → fault board c.args.plan.now ≡ none
+no_fault_lem c = refused_none _ _ c.in_default.is c.scan_holding.ensures.scanned.answers
 
-no-fault : (c : tie.After-enum-told) → fault board (entry c).args.plan.now ≡ none
-no-fault c = refused_none _ _ c.enum_told.given.1 c.before.before.scan-holding.ensures.scanned.answers
-
-scanned : (c : tie.After-enum-told)
-    → let s = c.before.before.scan-holding.new in
-    Scanned (entry c).args.plan.now s.1.1.0 s.1.1.1.0 s.1.1.1.1.0
+scanned : (c : tie.In_default)
+    → let s = c.scan_holding.new in
+    Scanned c.args.plan.now s.first s.starter s.again
 scanned c =
-    is_scanned (entry c).args.plan.now _ _ _ _ _ _ _ c.before.before.scan-holding.ensures.scanned (no-fault c)
+    is_scanned c.args.plan.now _ _ _ _ _ _ _ c.scan_holding.ensures.scanned (no_fault_lem c)
 
-returns : tie.Need-returns
+returns : tie.Need-returns-in-Refused
 returns c =
-    let at-scan = c.before.before.before in
-    let a = at-scan.before.before.before.before.before.before.before.args in
-    let r = c.before.r.given.0.0 in
+    let a = c.args in
+    let r = c.in-Refused.r in
     let e = by_fault board a.plan.now a.sets.now a.line a.device r
-    (refused_some _ r _ c.before.r.given.1 at-scan.scan-holding.ensures.scanned.answers) in
+    (refused_some _ r _ c.in-Refused.is c.scan_holding.ensures.scanned.answers) in
     record {
       answers = ap (λ (o : Option Refusal). tested_by o (span_of a.plan.now (asked_at a.line)))
           (sym e);
-      firsts = at-scan.scan-holding.ensures.scanned.firsts;
-      starts = at-scan.scan-holding.ensures.scanned.starts;
-      agains = at-scan.scan-holding.ensures.scanned.agains;
-      holds = at-scan.scan-holding.ensures.held;
+      firsts = c.scan_holding.ensures.scanned.firsts;
+      starts = c.scan_holding.ensures.scanned.starts;
+      agains = c.scan_holding.ensures.scanned.agains;
+      holds = c.scan_holding.ensures.held;
     }
 
-returns-2 : tie.Need-returns-2
+returns-2 : tie.Need-returns
 returns-2 c =
-    let passed = c.before.before.before.before in
-    let a = (entry passed).args in
-    let scan = passed.before.before.scan-holding.ensures in
+    let a = c.args in
+    let scan = c.scan_holding.ensures in
     record {
       answers = by_asked board a.plan.now a.sets.now a.line a.device
-          (span_of a.plan.now (asked_at a.line)) (no-fault passed) _ c.asked.ensures;
+          (span_of a.plan.now (asked_at a.line)) (no_fault_lem c.before) _ c.asked.ensures;
       firsts = scan.scanned.firsts;
       starts = scan.scanned.starts;
       agains = scan.scanned.agains;
@@ -66,5 +61,5 @@ tested_spec =
     (λ c. search rules)
     returns
     (λ c. search rules)
-    (λ c κs. scanned c.before.before.before)
+    (λ c κs. scanned c)
     returns-2)

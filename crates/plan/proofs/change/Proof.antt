@@ -7,18 +7,15 @@ use Rattle.plan.proofs.change.Tie as tie
 returns : tie.Need-returns
 unfolding change_of
 returns c =
-    let w = c.before.before in
-    let g = w.before.before in
-    let t = g.before.before in
     rw (
       c.union.ensures,
-      c.before.both.ensures,
-      w.without.ensures,
-      w.before.only-if2.ensures,
-      g.is-give.ensures,
-      g.before.only_if.ensures,
-      t.opens.ensures,
-      t.before.device.ensures,
+      c.both.ensures,
+      c.without.ensures,
+      c.only_if-given.ensures,
+      c.is_give.ensures,
+      c.only_if-taken.ensures,
+      c.opens.ensures,
+      c.device-o.ensures,
     )
 
 pub change_spec : {M : Type 1} → statement M

@@ -20,10 +20,10 @@ by_flags depth true false h = omega arith
 by_flags depth false true h = omega arith
 by_flags depth false false h = omega arith
 
-add-result : tie.Need-overflow-add-result
+add-result : tie.Need-overflow_add-result
 add-result c = record { fits = omega (arith, one_at_most c.args.takes) }
 
-sub-result : tie.Need-overflow-sub-result
+sub-result : tie.Need-overflow_sub-result
 sub-result c = some_left c.args.depth c.args.takes c.args.gives c.requires.1
 
 returns : tie.Need-returns

@@ -1,19 +1,19 @@
 -- `plan::ends` meets its contract: job by job, by the laws of `LastTests`.
-use Rattle.std.proofs.Common.{◌≡◌, ℕ, suc, ◌-◌, ◌≤◌, arith, rules}
+use Rattle.std.proofs.Common.{◌≡◌, suc, ◌-◌, ◌≤◌, arith, rules}
 use Rattle.model.specs.Line.{max_job}
 use Rattle.plan.proofs.LastTests.{Low, Never, low_start, never_start, low_on, never_on}
 use Rattle.plan.proofs.LastTests.{told_5, told_6, told_none}
 use Rattle.plan.proofs.ends.Statement.{statement}
 use Rattle.plan.proofs.ends.Tie as tie
 
-abbrev invariant-loop : tie.invariant-loop
+abbrev invariant-loop : tie.invariant-loop-j
 invariant-loop first starter midday empty₀ never₀ j₀ empty never j =
     (2 ≤ j) × (j ≤ suc max_job) × Low first starter j empty × Never first starter j never
 
-abbrev decreases-loop : tie.decreases-loop
+abbrev decreases-loop : tie.decreases-loop-j
 decreases-loop first starter midday empty₀ never₀ j₀ empty never j = suc max_job - j
 
-loop-holds : tie.Need-loop-init invariant-loop decreases-loop
+loop-holds : tie.Need-loop-j-init invariant-loop decreases-loop
 loop-holds c =
     let a = c.args in (
       search rules,
@@ -23,53 +23,47 @@ loop-holds c =
           a.starter.now,
     )
 
-loop-again : tie.Need-loop-preserved invariant-loop decreases-loop
+loop-again : tie.Need-loop-j-preserved invariant-loop decreases-loop
 loop-again c =
-    let l = c.before.before.before.before.before in
-    let a = l.before.args in
-    let inv = l.loop.invariant in (
+    let a = c.args in
+    let inv = c.loop-j.invariant in (
       search rules,
       search rules,
-      rw c.before.lower.ensures
-          (low_on a.first.now a.starter.now l.loop.j inv.0 (omega arith) l.loop.empty inv.2),
-      rw c.earlier.ensures
-          (never_on a.first.now a.starter.now l.loop.j inv.0 (omega arith) l.loop.never inv.3),
+      rw c.lower-empty.ensures
+          (low_on a.first.now a.starter.now c.loop-j.j inv.0 (omega arith) c.loop-j.empty inv.2),
+      rw c.earlier-never.ensures
+          (never_on a.first.now a.starter.now c.loop-j.j inv.0 (omega arith) c.loop-j.never inv.3),
     )
 
 -- past the last job
-low-at : (c : tie.After-loop invariant-loop decreases-loop)
-    → let l = c.before in
-    Low l.before.args.first.now l.before.args.starter.now (suc max_job) l.loop.empty
-low-at c = let e : c.before.loop.j ≡ suc max_job = omega arith in rw e at c.before.loop.invariant.2
+low_at : (c : tie.After-loop-j invariant-loop decreases-loop)
+    → Low c.args.first.now c.args.starter.now (suc max_job) c.loop-j.empty
+low_at c = let e : c.loop-j.j ≡ suc max_job = omega arith in rw e at c.loop-j.invariant.2
 
-never-at : (c : tie.After-loop invariant-loop decreases-loop)
-    → let l = c.before in
-    Never l.before.args.first.now l.before.args.starter.now (suc max_job) l.loop.never
-never-at c = let e : c.before.loop.j ≡ suc max_job = omega arith in rw e at c.before.loop.invariant.3
+never_at : (c : tie.After-loop-j invariant-loop decreases-loop)
+    → Never c.args.first.now c.args.starter.now (suc max_job) c.loop-j.never
+never_at c = let e : c.loop-j.j ≡ suc max_job = omega arith in rw e at c.loop-j.invariant.3
 
 -- 5
-returns : tie.Need-returns invariant-loop decreases-loop
+returns : tie.Need-returns-then-empty-ne0 invariant-loop decreases-loop
 returns c =
-    let l = c.before.before in
-    told_5 l.before.args.midday l.before.args.first.now l.before.args.starter.now l.loop.empty
-    (low-at c.before)
-    c.if1.true
+    told_5 c.args.midday c.args.first.now c.args.starter.now c.loop-j.empty
+    (low_at c.before)
+    c.if-empty-ne0.true
 
 -- 6
-returns-2 : tie.Need-returns-2 invariant-loop decreases-loop
+returns-2 : tie.Need-returns-then-never-midday invariant-loop decreases-loop
 returns-2 c =
-    let l = c.before.before.before in
-    told_6 l.before.args.midday l.before.args.first.now l.before.args.starter.now l.loop.empty
-    l.loop.never
-    (low-at c.before.before) c.before.if1.false (never-at c.before.before) c.if2.true
+    told_6 c.args.midday c.args.first.now c.args.starter.now c.loop-j.empty
+    c.loop-j.never
+    (low_at c.before.before) c.if-empty-ne0.false (never_at c.before.before) c.if-never-midday.true
 
 -- neither
-returns-3 : tie.Need-returns-3 invariant-loop decreases-loop
+returns-3 : tie.Need-returns invariant-loop decreases-loop
 returns-3 c =
-    let l = c.before.before.before in
-    told_none l.before.args.midday l.before.args.first.now l.before.args.starter.now l.loop.empty
-    l.loop.never
-    (low-at c.before.before) c.before.if1.false (never-at c.before.before) c.if2.false
+    told_none c.args.midday c.args.first.now c.args.starter.now c.loop-j.empty
+    c.loop-j.never
+    (low_at c.before.before) c.if-empty-ne0.false (never_at c.before.before) c.if-never-midday.false
 
 pub ends_spec : {M : Type 1} → statement M
 ends_spec =

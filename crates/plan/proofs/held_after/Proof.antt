@@ -20,40 +20,38 @@ deep_after n depth i h = go (opens n) (is_give n)
 room : (c : tie.Start) → c.args.depth < max_lines
 room c = omega (arith, c.requires.0, c.requires.1)
 
-cast-stack : tie.Need-overflow-cast-stack
+cast-stack : tie.Need-overflow_cast-stack
 cast-stack c = omega (arith, c.device.ensures)
 
-add-stack : tie.Need-overflow-add-stack
+add-stack : tie.Need-overflow_add-stack
 add-stack c = record { fits = omega (arith, room c.before) }
 
-element-write-stack : tie.Need-element-write-stack
-element-write-stack c = omega (arith, room c.before, c.before.requires.4.long)
+element-write-stack : tie.Need-bounds-stack-depth
+element-write-stack c = omega (arith, room c.before.before, c.requires.4.long)
 
 deeper-requires : tie.Need-deeper-requires
 deeper-requires c κs =
-    let s = c.before.before.before in
-    let a = s.args in
-    rw (c.is-give.ensures, c.before.opens.ensures) (
-      omega (arith, room s),
-      given_deep a.n a.depth a.stack.now s.requires.4 s.requires.2 (room s) s.requires.5,
+    let a = c.args in
+    rw (c.is_give.ensures, c.opens.ensures) (
+      omega (arith, room c.before.before.before.before),
+      given_deep a.n a.depth a.stack.now c.requires.4 c.requires.2 (room c.before.before.before.before) c.requires.5,
       opens_no_give a.n,
     )
 
 returns : tie.Need-returns
 returns c =
-    let s = c.before.before.before.before in
-    let a = s.args in
+    let a = c.args in
     rw (
       c.deeper.ensures,
-      c.before.is-give.ensures,
-      c.before.before.opens.ensures,
-      c.before.before.before.device.ensures,
+      c.is_give.ensures,
+      c.opens.ensures,
+      c.device.ensures,
     ) (
-      λ first starter. left_held a.n a.depth a.stack.now s.requires.4 s.requires.2 (room s) s.requires.5 a.i
-          s.requires.3 first starter,
+      λ first starter. left_held a.n a.depth a.stack.now c.requires.4 c.requires.2 (room c.before.before.before.before.before) c.requires.5 a.i
+          c.requires.3 first starter,
       (
-        deep_after a.n a.depth a.i s.requires.1,
-        rw add-one (stored a.stack.now (device_bits a.n) a.depth s.requires.4),
+        deep_after a.n a.depth a.i c.requires.1,
+        rw add-one (stored a.stack.now (device_bits a.n) a.depth c.requires.4),
       ),
     )
 

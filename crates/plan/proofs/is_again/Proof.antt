@@ -5,15 +5,13 @@ use Rattle.plan.proofs.is_again.Tie as tie
 
 returns : tie.Need-returns
 returns c =
-    let g = c.before.before in
-    let t = g.before.before in
     rw (
       c.union.ensures,
-      c.before.only-if2.ensures,
-      g.is-give.ensures,
-      g.before.only_if.ensures,
-      t.opens.ensures,
-      t.before.device.ensures,
+      c.only_if-given.ensures,
+      c.is_give.ensures,
+      c.only_if-taken.ensures,
+      c.opens.ensures,
+      c.device-o.ensures,
     )
 
 pub is_again_spec : {M : Type 1} → statement M

@@ -7,13 +7,12 @@ use Rattle.plan.proofs.misgives.Tie as tie
 returns : tie.Need-returns
 unfolding empty
 returns c =
-    let o = c.before.before in
     rw (
       c.without.ensures,
-      c.before.only.ensures,
-      o.only_if.ensures,
-      o.before.device.ensures,
-      o.before.before.is-give.ensures,
+      c.only.ensures,
+      c.only_if-given.ensures,
+      c.device.ensures,
+      c.is_give.ensures,
     )
 
 pub misgives_spec : {M : Type 1} → statement M

@@ -31,51 +31,42 @@ module _ (n i prev named : ℕ) (early : Bool) (starter : List ℕ) where
       in_time e = rw (h, m, e)
 
 -- 16
-returns : tie.Need-returns
+returns : tie.Need-returns-then-member
 returns c =
-    let d = c.before.before in
-    let h = d.before.before in
-    let a = h.before.args in
+    let a = c.args in
     ap checked (sym (twice a.n a.i a.prev a.named a.early a.starter.now
-    (sym h.is_held.ensures ∙ d.before.if1.true)
-    (rw d.device.ensures at (sym c.before.member.ensures ∙ c.if2.true))))
+    (sym c.is_held.ensures ∙ c.if-is_held.true)
+    (rw c.device.ensures at (sym c.member.ensures ∙ c.if-member.true))))
 
 -- its job has its entry
-element-copy-out-if3 : tie.Need-element-copy-out-if3
+element-copy-out-if3 : tie.Need-bounds-starter-j
 element-copy-out-if3 c =
-    let s = c.before.before.before.before.before.before in
-    omega (arith, c.job.ensures, s.requires.1, s.requires.2)
+    omega (arith, c.job-j.ensures, c.requires.1, c.requires.2)
 
 -- 17
-returns-2 : tie.Need-returns-2
+returns-2 : tie.Need-returns-then-j-prev
 returns-2 c =
-    let j = c.before.before in
-    let d = j.before.before.before in
-    let h = d.before.before in
-    let a = h.before.args in
+    let a = c.args in
     ap checked (sym (late a.n a.i a.prev a.named a.early a.starter.now
-    (sym h.is_held.ensures ∙ d.before.if1.true)
-    (rw d.device.ensures at (sym j.before.before.member.ensures ∙ j.before.if2.false))
-    (rw j.job.ensures at c.if3.true)))
+    (sym c.is_held.ensures ∙ c.if-is_held.true)
+    (rw c.device.ensures at (sym c.member.ensures ∙ c.if-member.false))
+    (rw c.job-j.ensures at c.if-j-prev.true)))
 
 -- neither
-returns-3 : tie.Need-returns-3
+returns-3 : tie.Need-returns-else-j-prev
 returns-3 c =
-    let j = c.before.before in
-    let d = j.before.before.before in
-    let h = d.before.before in
-    let a = h.before.args in
+    let a = c.args in
     ap checked (sym (in_time a.n a.i a.prev a.named a.early a.starter.now
-    (sym h.is_held.ensures ∙ d.before.if1.true)
-    (rw d.device.ensures at (sym j.before.before.member.ensures ∙ j.before.if2.false))
-    (rw j.job.ensures at c.if3.false)))
+    (sym c.is_held.ensures ∙ c.if-is_held.true)
+    (rw c.device.ensures at (sym c.member.ensures ∙ c.if-member.false))
+    (rw c.job-j.ensures at c.if-j-prev.false)))
 
 -- not held
-returns-4 : tie.Need-returns-4
+returns-4 : tie.Need-returns-else-is_held
 returns-4 c =
-    let a = c.before.before.args in
+    let a = c.args in
     ap checked (sym (unheld a.n a.i a.prev a.named a.early a.starter.now
-    (sym c.before.is_held.ensures ∙ c.if1.false)))
+    (sym c.is_held.ensures ∙ c.if-is_held.false)))
 
 pub misheld_spec : {M : Type 1} → statement M
 misheld_spec =

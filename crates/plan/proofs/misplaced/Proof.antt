@@ -25,9 +25,9 @@ module _ (j prev r : ℕ) (least : 1 ≤ j) (few : prev < 2 ^ 32) (fits : r < 2 
   strays h = rw (ne_eqb j prev (λ q. omega arith), ne_eqb j (suc prev) (λ q. omega arith))
 
 -- too many lines
-returns : tie.Need-returns
+returns : tie.Need-returns-then-i-ge-MOST_LINES
 unfolding place_fault first_refusal refuse_if
-returns c = rw (le-leb max_lines c.before.args.i c.if1.true)
+returns c = rw (le-leb max_lines c.args.i c.if-i-ge-MOST_LINES.true)
 
 placed : (midday : Bool) (n i prev j : ℕ) (b : Bool) → i < max_lines → is_line (board_at midday) n ≡ true → j ≡ job n
     → (eqb j prev || eqb j (suc prev)) ≡ b
@@ -43,54 +43,50 @@ placed midday n i prev j b few line e t =
     go false = refl
 
 -- the tests by what they found of the job, where the number is a line's
-at-job : (c : tie.After-job) (b : Bool)
-    → (eqb c.job.result c.before.before.before.before.args.prev
-    || eqb c.job.result (suc c.before.before.before.before.args.prev))
+at_job : (c : tie.After-job) (b : Bool)
+    → (eqb c.job.result c.args.prev
+    || eqb c.job.result (suc c.args.prev))
     ≡ b
-    → place_fault (board_at c.before.before.before.before.args.midday)
-    c.before.before.before.before.args.n c.before.before.before.before.args.i
-    c.before.before.before.before.args.prev
-    ≡ refuse_if (not b) (JobOutOfSequence (c.before.before.before.before.args.i + 1))
-at-job c b e =
-    let a = c.before.before.before.before.args in
-    placed a.midday a.n a.i a.prev c.job.result b c.before.before.before.if1.false
-    (sym c.before.before.is_line.ensures ∙ c.before.if2.true) c.job.ensures e
+    → place_fault (board_at c.args.midday)
+    c.args.n c.args.i
+    c.args.prev
+    ≡ refuse_if (not b) (JobOutOfSequence (c.args.i + 1))
+at_job c b e =
+    let a = c.args in
+    placed a.midday a.n a.i a.prev c.job.result b c.if-i-ge-MOST_LINES.false
+    (sym c.is_line.ensures ∙ c.if-is_line.true) c.job.ensures e
 
 -- a line's job is 1 at least
-job-least : (c : tie.After-job) → 1 ≤ c.job.result
-job-least c =
-    let l = c.before.before in
+job_least : (c : tie.After-job) → 1 ≤ c.job.result
+job_least c =
     omega (
       arith,
       c.job.ensures,
-      line_parts (board_at l.before.before.args.midday) l.before.before.args.n
-          (sym l.is_line.ensures ∙ c.before.if2.true),
+      line_parts (board_at c.args.midday) c.args.n
+          (sym c.is_line.ensures ∙ c.if-is_line.true),
     )
 
 -- out of sequence
-returns-2 : tie.Need-returns-2
+returns-2 : tie.Need-returns-then-wrapping_sub_u32-gt1
 unfolding refuse_if
 returns-2 c =
-    let w = c.before in
-    ap checked (sym (at-job w.before false (strays _ _ _ (job-least w.before) (omega arith) (omega arith)
-    w.wrapping-sub-u32.ensures c.if3.true)))
+    ap checked (sym (at_job c.before.before false (strays _ _ _ (job_least c.before.before) (omega arith) (omega arith)
+    c.wrapping_sub_u32.ensures c.if-wrapping_sub_u32-gt1.true)))
 
 -- in sequence
-returns-3 : tie.Need-returns-3
+returns-3 : tie.Need-returns-then-is_line
 unfolding refuse_if
 returns-3 c =
-    let w = c.before in
-    ap checked (sym (at-job w.before true (follows _ _ _ (job-least w.before) (omega arith) (omega arith)
-    w.wrapping-sub-u32.ensures c.if3.false)))
+    ap checked (sym (at_job c.before.before true (follows _ _ _ (job_least c.before.before) (omega arith) (omega arith)
+    c.wrapping_sub_u32.ensures c.if-wrapping_sub_u32-gt1.false)))
 
 -- no line
-returns-4 : tie.Need-returns-4
+returns-4 : tie.Need-returns
 unfolding place_fault first_refusal refuse_if line_number
 returns-4 c =
-    let s = c.before.before.before in
     rw (
-      lt-leb max_lines s.args.i c.before.before.if1.false,
-      sym c.before.is_line.ensures ∙ c.if2.false,
+      lt-leb max_lines c.args.i c.if-i-ge-MOST_LINES.false,
+      sym c.is_line.ensures ∙ c.if-is_line.false,
       add-one,
     )
 

@@ -17,18 +17,16 @@ left : (n named : ℕ) → is_held n ≡ false → named ≡ named_after devices
 unfolding named_after
 left n named u = rw u
 
-returns : tie.Need-returns
+returns : tie.Need-returns-then-is_held
 returns c =
-    let d = c.before.before in
-    let h = d.before.before in
-    let a = h.before.args in
+    let a = c.args in
     c.union.ensures
-    ∙ rw (c.before.only.ensures, d.device.ensures)
-    (put_in a.n a.named (sym h.is_held.ensures ∙ d.before.if1.true))
+    ∙ rw (c.only.ensures, c.device.ensures)
+    (put_in a.n a.named (sym c.is_held.ensures ∙ c.if-is_held.true))
 
-returns-2 : tie.Need-returns-2
+returns-2 : tie.Need-returns
 returns-2 c =
-    let a = c.before.before.args in left a.n a.named (sym c.before.is_held.ensures ∙ c.if1.false)
+    let a = c.args in left a.n a.named (sym c.is_held.ensures ∙ c.if-is_held.false)
 
 pub named_after_spec : {M : Type 1} → statement M
 named_after_spec =

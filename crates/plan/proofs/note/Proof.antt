@@ -9,43 +9,38 @@ no_deeper : (depth i : ℕ) (b : Bool) → depth ≤ i → i < max_lines → con
 no_deeper depth i true h k = omega arith
 no_deeper depth i false h k = omega arith
 
-room : (c : tie.After-choose2) → c.choose2.result < max_lines
+room : (c : tie.After-choose-t) → c.choose-t.result < max_lines
 room c =
-    let j = c.before.before in
-    let s = j.before in
-    rw c.choose2.ensures
-    (no_deeper s.args.depth s.args.i (eqb j.job.result s.args.prev) s.requires.1 s.requires.0)
+    rw c.choose-t.ensures
+    (no_deeper c.args.depth c.args.i (eqb c.job-j.result c.args.prev) c.requires.1 c.requires.0)
 
-element-copy-out-change : tie.Need-element-copy-out-change
-element-copy-out-change c = omega (arith, room c, c.before.before.before.requires.2)
+element-copy-out-change : tie.Need-bounds-added-t
+element-copy-out-change c = omega (arith, room c.before, c.requires.2)
 
-add-added : tie.Need-overflow-add-added
-add-added c = record { fits = omega (arith, room c.before.before) }
+add-added : tie.Need-overflow_add-added
+add-added c = record { fits = omega (arith, room c.before.before.before) }
 
-element-write-added : tie.Need-element-write-added
-element-write-added c = omega (arith, room c.before.before, c.before.before.before.before.before.requires.2)
+element-write-added : tie.Need-bounds-added-t-2
+element-write-added c = omega (arith, room c.before.before.before, c.requires.2)
 
-element-write-again : tie.Need-element-write-preserved
+element-write-again : tie.Need-bounds-again-i
 element-write-again c =
-    let s = c.before.before.before.before.before.before in omega (arith, s.requires.0, s.requires.3)
+    omega (arith, c.requires.0, c.requires.3)
 
-element-write-holdings : tie.Need-element-write-holdings
+element-write-holdings : tie.Need-bounds-holdings-j
 element-write-holdings c =
-    let j = c.before.before.before.before.before.before in
-    omega (arith, j.before.requires.4, j.before.requires.5, j.job.ensures)
+    omega (arith, c.requires.4, c.requires.5, c.job-j.ensures)
 
 returns : tie.Need-returns
 unfolding empty
 returns c =
-    let k = c.before.before.before in
-    let h = k.before.before in
     rw (
-      c.differ.ensures,
-      c.before.is-again.ensures,
-      c.before.before.change.ensures,
-      k.before.choose2.ensures,
-      h.choose.ensures,
-      h.before.job.ensures,
+      c.differ-after.ensures,
+      c.is_again.ensures,
+      c.change-c.ensures,
+      c.choose-t.ensures,
+      c.choose-h.ensures,
+      c.job-j.ensures,
       add-one,
     ) (record { holds = refl; adds = refl; flags = refl; keeps = refl })
 

@@ -28,81 +28,74 @@ module _ (i n : ℕ) (held starter : List ℕ) (s : is_start n ≡ true) where
   not_begun e first = rw (no_open, no_give, s, e, add-one)
 
 -- a give of what is not the latest
-element-copy-out-misgives : tie.Need-element-copy-out-misgives
+element-copy-out-misgives : tie.Need-bounds-stack-depth
 element-copy-out-misgives c = omega (arith, c.requires.0, c.requires.1, c.requires.3.long)
 
-returns : tie.Need-returns
+returns : tie.Need-returns-then-misgives
 returns c =
-    let s = c.before.before.before in
-    let a = s.args in (
-      λ first. wrongly_given a.n a.depth a.stack.now s.requires.3 s.requires.2 a.i
-          (sym c.before.misgives.ensures ∙ c.if1.true) first a.starter.now,
-      (tt, s.requires.4),
+    let a = c.args in (
+      λ first. wrongly_given a.n a.depth a.stack.now c.requires.3 c.requires.2 a.i
+          (sym c.misgives.ensures ∙ c.if-misgives.true) first a.starter.now,
+      (tt, c.requires.4),
     )
 
 -- the function's entry, from where it is told whether the line is a start
-abbrev entry : tie.After-is-start → tie.Start
-entry c = c.before.before.before.before
+abbrev entry : tie.After-is_start → tie.Start
+entry c = c.before.before.before.before.before
 
 -- a start's operand has its entry
-element-copy-out-if3 : tie.Need-element-copy-out-if3
+element-copy-out-if3 : tie.Need-bounds-starter-t
 unfolding is_start
 element-copy-out-if3 c =
-    let f = c.before.before.before in
-    let s = entry f in
+    let s = entry c.before.before.before.before in
     omega (
       arith,
-      c.before.operand.ensures,
-      start_operand (board_at true) s.args.n s.pre.2
-          (eqb-true (kind s.args.n) 3 (sym f.is-start.ensures ∙ c.before.before.if2.true)),
+      c.operand-o.ensures,
+      start_operand (board_at true) s.args.n s.requires.2
+          (eqb-true (kind s.args.n) 3 (sym c.is_start.ensures ∙ c.if-is_start.true)),
     )
 
-element-write-starter : tie.Need-element-write-starter
+element-write-starter : tie.Need-bounds-starter-t-then-job-o
 element-write-starter c = element-copy-out-if3 c.before.before
 
 -- a start that is in order
-returns-2 : tie.Need-returns-2
+returns-2 : tie.Need-returns-then-job-o
 returns-2 c =
-    let o = c.before.before.before in
-    let f = o.before.before in
-    let s = entry f in
+    let s = entry c.before.before.before.before.before.before in
     let a = s.args in
-    rw o.operand.ensures (
+    rw c.operand-o.ensures (
       begun a.i a.n (held_in a.depth a.stack.now) a.starter.now
-          (sym f.is-start.ensures ∙ o.before.if2.true)
-          (rw (c.before.before.job.ensures, o.operand.ensures) at c.if3.true),
-      ((omega (arith, s.pre.1), s.pre.3), length-set a.starter.now (operand a.n) (a.i + 1) ∙ s.pre.4),
+          (sym c.is_start.ensures ∙ c.if-is_start.true)
+          (rw (c.job.ensures, c.operand-o.ensures) at c.if-job-o.true),
+      ((omega (arith, s.requires.1), s.requires.3), length-set a.starter.now (operand a.n) (a.i + 1) ∙ s.requires.4),
     )
 
 -- one that is not
-returns-3 : tie.Need-returns-3
+returns-3 : tie.Need-returns-then-is_start
 returns-3 c =
-    let o = c.before.before.before in
-    let f = o.before.before in
-    let s = entry f in
+    let s = entry c.before.before.before.before.before.before in
     let a = s.args in (
       not_begun a.i a.n (held_in a.depth a.stack.now) a.starter.now
-          (sym f.is-start.ensures ∙ o.before.if2.true)
-          (rw (c.before.before.job.ensures, o.operand.ensures) at c.if3.false),
-      (tt, s.pre.4),
+          (sym c.is_start.ensures ∙ c.if-is_start.true)
+          (rw (c.job.ensures, c.operand-o.ensures) at c.if-job-o.false),
+      (tt, s.requires.4),
     )
 
-held-after-requires : tie.Need-held-after-requires
+held-after-requires : tie.Need-held_after-requires
 held-after-requires c κs =
-    let f = c.before.before in
-    let s = entry f in (
-      s.pre.0,
-      s.pre.1,
-      s.pre.2,
-      sym f.is-start.ensures ∙ c.before.if2.false,
-      s.pre.3,
-      sym f.before.before.misgives.ensures ∙ f.before.if1.false,
+    let s = entry c.before.before in (
+      s.requires.0,
+      s.requires.1,
+      s.requires.2,
+      sym c.is_start.ensures ∙ c.if-is_start.false,
+      s.requires.3,
+      sym c.misgives.ensures ∙ c.if-misgives.false,
     )
 
 -- another verb
-returns-4 : tie.Need-returns-4
+returns-4 : tie.Need-returns
 returns-4 c = let s = entry c.before.before.before in
-    (λ first. c.held_after.ensures.0 first s.args.starter.now, (c.held_after.ensures.1, s.pre.4))
+    (λ first. c.held_after.ensures.0 first s.args.starter.now, (c.held_after.ensures.1, s.requires.4))
 
 pub rule_spec : {M : Type 1} → statement M
 rule_spec =

@@ -8,37 +8,33 @@ use Rattle.rows.proofs.Outcome.{refused, made}
 use Rattle.rows.proofs.holds.Statement.{statement}
 use Rattle.rows.proofs.holds.Tie as tie
 
-abbrev entry : tie.After-enum-told → tie.Start
-entry c = c.before.before.before.before.before.before.before
+abbrev entry : tie.In_default → tie.In_default
+entry c = c
 
-no-fault : (c : tie.After-enum-told) → fault board (entry c).args.plan.now ≡ none
-no-fault c = untold _ (sym c.enum_told.given.1 ∙ c.before.before.scan.ensures.answers)
+no_fault_lem : (c : tie.In_default) → fault board (entry c).args.plan.now ≡ none
+no_fault_lem c = untold _ (sym c.in_default.is ∙ c.scan.ensures.answers)
 
 -- 2 to 7
-returns : tie.Need-returns
+returns : tie.Need-returns-in-Refused
 returns c =
-    let at-scan = c.before.before.before in
-    let scanned = at-scan.scan.ensures in
-    let a = at-scan.before.before.before.before.before.args in
-    let r = c.before.r.given.0.0 in
+        let scanned = c.scan.ensures in
+    let a = c.args in
+    let r = c.in-Refused.r in
     refused a.plan.now a.first.now _ a.again.now _ a.rows.now a.lasting.now scanned.firsts
-    scanned.agains r (told (fault board a.plan.now) r (sym c.before.r.given.1 ∙ scanned.answers))
+    scanned.agains r (told (fault board a.plan.now) r (sym c.in-Refused.is ∙ scanned.answers))
 
 -- the flags are the plan's
-walk-back-requires : tie.Need-walk-back-requires
+walk-back-requires : tie.Need-walk_back-made-requires
 walk-back-requires c κs =
-    let at_told = c.before.before.before.before in
-    (no-fault at_told, rw (no-fault at_told) at at_told.before.before.scan.ensures.agains)
+        (no_fault_lem c.before.before.before, rw (no_fault_lem c.before.before.before) at c.scan.ensures.agains)
 
 -- the holds
-returns-2 : tie.Need-returns-2
+returns-2 : tie.Need-returns
 returns-2 c =
-    let at-walk = c.before in
-    let at_told = at-walk.before.before.before.before.before in
-    let scanned = at_told.before.before.scan.ensures in
-    let a = (entry at_told).args in
+            let scanned = c.scan.ensures in
+    let a = (entry c.before.before.before.before.before).args in
     made a.plan.now a.first.now _ a.again.now _ a.rows.now a.lasting.now scanned.firsts
-    scanned.agains _ _ _ _ at-walk.walk-back.result (no-fault at_told) at-walk.walk-back.ensures
+    scanned.agains _ _ _ _ c.walk_back-made.result (no_fault_lem c.before.before.before.before.before) c.walk_back-made.ensures
 
 pub holds_spec : {M : Type 1} → statement M
 holds_spec =

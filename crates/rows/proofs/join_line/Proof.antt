@@ -11,8 +11,8 @@ use Rattle.rows.specs.Holds.{JoinedOn}
 use Rattle.rows.proofs.join_line.Statement.{statement}
 use Rattle.rows.proofs.join_line.Tie as tie
 
-has-place : (c : tie.After-job) → c.job.result < operands
-has-place c = rw c.job.ensures (job_place board c.before.args.l c.before.requires.0)
+has_place : (c : tie.After-job-j) → c.job-j.result < operands
+has_place c = rw c.job-j.ensures (job_place board c.args.l c.requires.0)
 
 -- the board has the device of a take
 on_board_lem : (l : ℕ) (lasts : Bool) → is_line board l ≡ true → (lasts ≡ true → is_take l ≡ true)
@@ -34,13 +34,12 @@ joined_on {l} {j} {s} {lasts} {rs} {claimed} line take e es er =
 
 returns : tie.Need-returns
 returns c =
-    let at_row = c.before.before in
-    let pre = at_row.before.before.before.before.requires in
-    joined_on pre.0 pre.1 at_row.before.before.before.job.ensures c.claim.ensures
-    at_row.join-row.ensures
+        let pre = c.requires in
+    joined_on pre.0 pre.1 c.job-j.ensures c.claim-s.ensures
+    c.join_row.ensures
 
 pub join_line_spec : {M : Type 1} → statement M
 join_line_spec =
     tie.close
-    (tie.spec (λ c κs. search rules) (λ c. search rules) (λ c. search rules) has-place (λ c κs. search rules)
-    (λ c κs. search rules) (λ c. search rules) (λ c. has-place c.before.before.before.before.before) returns)
+    (tie.spec (λ c κs. search rules) (λ c. search rules) (λ c. search rules) (λ c. has_place c.before) (λ c κs. search rules)
+    (λ c κs. search rules) (λ c. search rules) (λ c. has_place c.before.before.before.before.before.before) returns)

@@ -8,10 +8,10 @@ use Rattle.rows.specs.Lasting.{row_joined}
 use Rattle.rows.proofs.join_row.Statement.{statement}
 use Rattle.rows.proofs.join_row.Tie as tie
 
-has-row : (c : tie.Then1) → c.before.operand.result < devices
-has-row c =
-    let o = c.before.operand.result in
-    ltb-true o devices (and_split c.before.before.args.lasts (ltb o devices) c.if1.true).1
+has_row : (c : tie.Then-lasts-o) → c.operand-o.result < devices
+has_row c =
+    let o = c.operand-o.result in
+    ltb-true o devices (and_split c.args.lasts (ltb o devices) c.if-lasts-o.true).1
 
 -- the test, of the line's operand
 on_board_lem : (l o : ℕ) (lasts b : Bool) → o ≡ operand l → (lasts && ltb o devices) ≡ b
@@ -24,24 +24,23 @@ row_joined_lem : (l next : ℕ) (rows : List ℕ) {d r : ℕ} {b : Bool} → b �
 unfolding row_joined
 row_joined_lem l next rows e ed er = rw (e, er, ed)
 
-returns : tie.Need-returns
+returns : tie.Need-returns-then-lasts-o
 returns c =
-    let then = c.before.before in
-    let a = then.before.before.args in
-    let o = then.before.operand in
+        let a = c.args in
+    let o = c.operand-o in
     row_joined_lem a.l a.next a.rows.now
-    (on_board_lem a.l o.result a.lasts true o.ensures then.if1.true) o.ensures c.union.ensures
+    (on_board_lem a.l o.result a.lasts true o.ensures c.if-lasts-o.true) o.ensures c.union.ensures
 
 -- another line
-returns-2 : tie.Need-returns-2
+returns-2 : tie.Need-returns-else-lasts-o
 unfolding row_joined
 returns-2 c =
-    let a = c.before.before.args in
-    let o = c.before.operand in
-    rw (on_board_lem a.l o.result a.lasts false o.ensures c.if1.false)
+    let a = c.args in
+    let o = c.operand-o in
+    rw (on_board_lem a.l o.result a.lasts false o.ensures c.if-lasts-o.false)
 
 pub join_row_spec : {M : Type 1} → statement M
 join_row_spec =
     tie.close
-    (tie.spec (λ c κs. search rules) (λ c. search rules) (λ c. search rules) has-row (λ c κs. search rules)
-    (λ c. search rules) (λ c. has-row c.before.before) returns returns-2)
+    (tie.spec (λ c κs. search rules) (λ c. search rules) (λ c. search rules) (λ c. has_row c.before) (λ c κs. search rules)
+    (λ c. search rules) (λ c. has_row c.before.before.before) returns returns-2)

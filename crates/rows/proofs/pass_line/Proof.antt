@@ -23,14 +23,11 @@ passed_on old l plain ej ea et eo e ew eh eb e2 =
 
 returns : tie.Need-returns
 returns c =
-    let at-union = c.before.before in
-    let at_one = at-union.before.before in
-    let at-choose = at_one.before.before.before in
-    let a = at-choose.before.before.before.args in
-    passed_on a.passed a.l a.plain at-choose.before.before.job.ensures at-choose.choose.ensures
-    at_one.before.before.is_take.ensures at_one.before.operand.ensures at_one.only_if.ensures
-    at-union.before.wanted-before.ensures at-union.union.ensures c.before.both.ensures
-    c.union2.ensures
+                let a = c.args in
+    passed_on a.passed a.l a.plain c.job-j.ensures c.choose-after.ensures
+    c.is_take.ensures c.operand.ensures c.only_if-one.ensures
+    c.wanted_before.ensures c.union.ensures c.both.ensures
+    c.union-2.ensures
 
 pub pass_line_spec : {M : Type 1} → statement M
 pass_line_spec =

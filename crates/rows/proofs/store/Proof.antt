@@ -5,8 +5,8 @@ use Rattle.rows.proofs.store.Statement.{statement}
 use Rattle.rows.proofs.store.Tie as tie
 
 -- where it has no place
-returns-2 : tie.Need-returns-2
-returns-2 c = let a = c.before.args in sym (set_out a.table.now a.i a.s c.if1.false)
+returns-2 : tie.Need-returns-else-i-table
+returns-2 c = let a = c.args in sym (set_out a.table.now a.i a.s c.if-i-table.false)
 
 pub store_spec : {M : Type 1} → statement M
 store_spec =

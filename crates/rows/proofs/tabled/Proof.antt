@@ -8,35 +8,31 @@ use Rattle.rows.proofs.Outcome.{not_tabled, is_tabled}
 use Rattle.rows.proofs.tabled.Statement.{statement}
 use Rattle.rows.proofs.tabled.Tie as tie
 
-abbrev entry : tie.After-enum-told → tie.Start
-entry c = c.before.before.before.before.before.before.before.before
+abbrev entry : tie.In_default → tie.In_default
+entry c = c
 
-no-fault : (c : tie.After-enum-told) → fault board (entry c).args.plan.now ≡ none
-no-fault c = untold _ (sym c.enum_told.given.1 ∙ c.before.before.scan.ensures.answers)
+no_fault_lem : (c : tie.In_default) → fault board (entry c).args.plan.now ≡ none
+no_fault_lem c = untold _ (sym c.in_default.is ∙ c.scan.ensures.answers)
 
 -- 2 to 7
-returns : tie.Need-returns
+returns : tie.Need-returns-in-Refused
 returns c =
-    let at-scan = c.before.before.before in
-    let a = at-scan.before.before.before.before.before.before.args in
-    let r = c.before.r.given.0.0 in
+        let a = c.args in
+    let r = c.in-Refused.r in
     not_tabled a.plan.now a.rows.now a.table.now r
-    (told (fault board a.plan.now) r (sym c.before.r.given.1 ∙ at-scan.scan.ensures.answers))
+    (told (fault board a.plan.now) r (sym c.in-Refused.is ∙ c.scan.ensures.answers))
 
 -- the flags are the plan's
-walk-back-requires : tie.Need-walk-back-requires
+walk-back-requires : tie.Need-walk_back-made-requires
 walk-back-requires c κs =
-    let at_told = c.before.before.before.before in
-    (no-fault at_told, rw (no-fault at_told) at at_told.before.before.scan.ensures.agains)
+        (no_fault_lem c.before.before.before.before, rw (no_fault_lem c.before.before.before.before) at c.scan.ensures.agains)
 
 -- rows and table
-returns-2 : tie.Need-returns-2
+returns-2 : tie.Need-returns
 returns-2 c =
-    let at-walk = c.before.before in
-    let at_told = at-walk.before.before.before.before.before in
-    let a = (entry at_told).args in
-    is_tabled a.plan.now a.rows.now a.table.now _ _ _ at-walk.walk-back.result (no-fault at_told)
-    at-walk.walk-back.ensures
+            let a = (entry c.before.before.before.before.before.before.before).args in
+    is_tabled a.plan.now a.rows.now a.table.now _ _ _ c.walk_back-made.result (no_fault_lem c.before.before.before.before.before.before.before)
+    c.walk_back-made.ensures
 
 pub tabled_spec : {M : Type 1} → statement M
 tabled_spec =

@@ -24,11 +24,9 @@ made l n h em eg e et er = let s = (serves n).1 in let b = before n h (opens l) 
 
 returns : tie.Need-returns
 returns c =
-    let at-given = c.before.before in
-    let at_more = at-given.before.before in
-    let a = at_more.before.args in
-    made a.l a.after (omega arith) at_more.wrapping-add-u32.ensures at-given.before.is-give.ensures
-    at-given.choose.ensures c.before.opens.ensures c.choose2.ensures
+            let a = c.args in
+    made a.l a.after (omega arith) c.wrapping_add_u32-more.ensures c.is_give.ensures
+    c.choose-given.ensures c.opens.ensures c.choose.ensures
 
 pub wanted_before_spec : {M : Type 1} → statement M
 wanted_before_spec =

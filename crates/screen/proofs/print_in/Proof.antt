@@ -20,8 +20,8 @@ start c = c.before.before.before.before.before.before.before
 abbrev at_read : tie.After-known-told → tie.After-read
 at_read c = c.before.before.before.before.before
 
-abbrev at-lines : tie.After-verdict → tie.After-known-told
-at-lines c = c.before.before.before
+abbrev at_lines : tie.After-verdict → tie.After-known-told
+at_lines c = c.before.before.before
 
 abbrev lines : tie.After-known-told → ℕ
 lines c = c.before.n.given.0.0
@@ -43,7 +43,7 @@ slice-reshare-prefix-verdict c = omega (arith, few c, (at_read c).read.auto.1.0,
 slice-reshare-prefix-put-order : tie.Need-slice-reshare-prefix-put-order
 slice-reshare-prefix-put-order c =
     let v = c.before.before.before.before.before.before in
-    omega (arith, few (at-lines v), v.verdict.auto.1.0, (start (at_read (at-lines v))).requires.1)
+    omega (arith, few (at_lines v), v.verdict.auto.1.0, (start (at_read (at_lines v))).requires.1)
 
 slice-aggregate-put-order : tie.Need-slice-aggregate-put-order
 slice-aggregate-put-order c = sym (length-take-le _ _ (slice-reshare-prefix-put-order c.before))
@@ -51,24 +51,24 @@ slice-aggregate-put-order c = sym (length-take-le _ _ (slice-reshare-prefix-put-
 put-order-requires : tie.Need-put-order-requires
 put-order-requires c κs =
     let v = c.before.before.before.before.before.before.before in
-    omega (arith, slice-aggregate-put-order c, few (at-lines v))
+    omega (arith, slice-aggregate-put-order c, few (at_lines v))
 
 -- an order
 returns-2 : tie.Need-returns-2
 returns-2 c =
     let v = c.before.before.before.before.before.before.before.before.before.before in
-    let r = at_read (at-lines v) in
+    let r = at_read (at_lines v) in
     prints_order _ _ _ _ (start r).pre r.read.ensures r.before.before.if1.left
-    (at-lines v).before.n.given.1 v.verdict.ensures
+    (at_lines v).before.n.given.1 v.verdict.ensures
     c.before.before.before.before.before.before.held.given.1 c.before.before.put_order.ensures
 
 -- no order
 returns-3 : tie.Need-returns-3
 returns-3 c =
     let v = c.before.before.before.before.before.before.before.before.before in
-    let r = at_read (at-lines v) in
+    let r = at_read (at_lines v) in
     prints_why _ _ _ _ (start r).pre r.read.ensures r.before.before.if1.left
-    (at-lines v).before.n.given.1 v.verdict.ensures
+    (at_lines v).before.n.given.1 v.verdict.ensures
     c.before.before.before.before.before.r.given.1 (shown c.before.before.put-refusal.ensures)
 
 -- a fault of the text

@@ -24,11 +24,11 @@ cast-put-field c = omega (arith, c.shared-slice-known2.given c.before.before.bef
 
 loop-again : tie.Need-loop-preserved invariant-loop decreases-loop
 loop-again c =
-    let at-loop = c.before.before.before.before.before.before in (
+    let at_loop = c.before.before.before.before.before.before in (
       search rules,
-      c.before.before.put-field.auto.0 ∙ at-loop.loop.invariant.1,
-      listed_more _ at-loop.loop.i c.before.before.before.before.before.loop-test.true
-          at-loop.loop.invariant.2 c.before.before.put-field.ensures,
+      c.before.before.put-field.auto.0 ∙ at_loop.loop.invariant.1,
+      listed_more _ at_loop.loop.i c.before.before.before.before.before.loop-test.true
+          at_loop.loop.invariant.2 c.before.before.put-field.ensures,
     )
 
 returns : tie.Need-returns invariant-loop decreases-loop

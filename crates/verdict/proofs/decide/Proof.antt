@@ -13,66 +13,57 @@ use Rattle.verdict.proofs.Outcome.{short, without_order, ordered}
 use Rattle.verdict.proofs.decide.Statement.{statement}
 use Rattle.verdict.proofs.decide.Tie as tie
 
-length-fits : tie.Need-overflow-cast-t14
-length-fits c = omega (arith, few c.before.before.before.requires.marked)
+length-fits : tie.Need-overflow_cast-result
+length-fits c = omega (arith, few c.requires.marked)
 
 -- 11
-returns : tie.Need-returns
+returns : tie.Need-returns-then-order-n
 returns c =
-    let start = c.before.before.before in
-    short start.args.plan.now start.args.order.now start.requires.marked.sound c.if1.true
+        short c.args.plan.now c.args.order.now c.requires.marked.sound c.if-order-n.true
 
 -- 9
-returns-2 : tie.Need-returns-2
+returns-2 : tie.Need-returns-then-d-lt-DEVICES
 returns-2 c =
-    let room = c.before.before in
-    let start = room.before.before.before in
-    without_order start.args.plan.now start.args.order.now start.requires.marked.sound room.if1.false _
-    (two_lasting_lem start.requires c.before.lowest.ensures c.if2.true)
+            without_order c.args.plan.now c.args.order.now c.requires.marked.sound c.if-order-n.false _
+    (two_lasting_lem c.requires c.lowest-d.ensures c.if-d-lt-DEVICES.true)
 
 -- where 10 is asked for
-abbrev no_9 : tie.After-lowest2 → tie.Else2
+abbrev no_9 : tie.After-lowest-e → tie.Else-d-lt-DEVICES
 no_9 c = c.before.before
 
-abbrev room : tie.After-lowest2 → tie.Else1
+abbrev room : tie.After-lowest-e → tie.Else-order-n
 room c = (no_9 c).before.before
 
-abbrev start : tie.After-lowest2 → tie.Start
+abbrev start : tie.After-lowest-e → tie.Start
 start c = (room c).before.before.before
 
-back : (c : tie.After-lowest2) → c.lowest2.result ≡ lowest_of devices (circles_of (start c).args.rows.now)
-back c = c.lowest2.ensures ∙ ap (lowest_of devices) c.before.circles.ensures
+back : (c : tie.After-lowest-e) → c.lowest-e.result ≡ lowest_of devices (circles_of (start c).args.rows.now)
+back c = c.lowest-e.ensures ∙ ap (lowest_of devices) c.circles.ensures
 
 -- 10
-returns-3 : tie.Need-returns-3
+returns-3 : tie.Need-returns-then-e-lt-DEVICES
 returns-3 c =
-    let here = c.before in
-    let a = (start here).args in
-    without_order a.plan.now a.order.now (start here).requires.marked.sound (room here).if1.false _
-    (leads_back_lem (start here).requires (no_9 here).before.lowest.ensures (no_9 here).if2.false (back here)
-    c.if3.true)
+        let a = (start c.before).args in
+    without_order a.plan.now a.order.now (start c.before).requires.marked.sound (room c.before).if-order-n.false _
+    (leads_back_lem (start c.before).requires (no_9 c.before).lowest-d.ensures (no_9 c.before).if-d-lt-DEVICES.false (back c.before)
+    c.if-e-lt-DEVICES.true)
 
 -- neither
-orderly : (c : tie.Else3) → no_order devices (start c.before).args.plan.now ≡ none
+orderly : (c : tie.Else-e-lt-DEVICES) → no_order devices (start c.before).args.plan.now ≡ none
 orderly c =
-    let here = c.before in
-    has_order (start here).requires (no_9 here).before.lowest.ensures (no_9 here).if2.false (back here) c.if3.false
+        has_order (start c.before).requires (no_9 c.before).lowest-d.ensures (no_9 c.before).if-d-lt-DEVICES.false (back c.before) c.if-e-lt-DEVICES.false
 
-hand-out-requires : tie.Need-hand-out-requires
+hand-out-requires : tie.Need-hand_out-requires
 hand-out-requires c κs =
-    let here = c.before.before in
-    let pre = (start here).requires in
-    ((pre.marked, pre.listed, pre.agains_are), (orderly c.before, (room here).if1.false))
+        let pre = (start c.before.before).requires in
+    ((pre.marked, pre.listed, pre.agains_are), (orderly c.before, (room c.before.before).if-order-n.false))
 
-returns-4 : tie.Need-returns-4
+returns-4 : tie.Need-returns
 returns-4 c =
-    let handed = c.before.before.before in
-    let test = handed.before.before in
-    let here = test.before in
-    let a = (start here).args in
-    let pre = (start here).requires in
-    ordered a.plan.now a.order.now pre.marked.sound (room here).if1.false c.count.result _
-    (orderly test) (c.count.ensures ∙ count_held pre (orderly test)) handed.hand-out.ensures
+                let a = (start c.before.before.before.before.before.before).args in
+    let pre = (start c.before.before.before.before.before.before).requires in
+    ordered a.plan.now a.order.now pre.marked.sound (room c.before.before.before.before.before.before).if-order-n.false c.count.result _
+    (orderly c.before.before.before.before.before) (c.count.ensures ∙ count_held pre (orderly c.before.before.before.before.before)) c.hand_out.ensures
 
 pub decide_spec : {M : Type 1} → statement M
 decide_spec =

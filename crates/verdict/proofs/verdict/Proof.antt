@@ -8,15 +8,14 @@ use Rattle.verdict.proofs.verdict.Tie as tie
 
 decide-requires : tie.Need-decide-requires
 decide-requires c κs =
-    holds_made c.before.before.before.before.before.before.before.before.holds.ensures
-    c.before.before.before.before.before.before.held.given.1
+    holds_made c.holds.ensures
+    c.in-Made.is
 
-returns : tie.Need-returns
+returns : tie.Need-returns-in-Refused
 returns c =
-    let holds = c.before.before.before in
-    let a = holds.before.before.before.before.before.before.before.args in
-    faulty a.plan.now a.order.now c.before.r.given.0.0
-    (holds_refused holds.holds.ensures c.before.r.given.1)
+        let a = c.args in
+    faulty a.plan.now a.order.now c.in-Refused.r
+    (holds_refused c.holds.ensures c.in-Refused.is)
 
 pub verdict_spec : {M : Type 1} → statement M
 verdict_spec =

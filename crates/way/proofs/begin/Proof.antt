@@ -8,28 +8,28 @@ use Rattle.way.proofs.begin.Statement.{statement}
 use Rattle.way.proofs.begin.Tie as tie
 
 -- the plan has no line there
-returns : tie.Need-returns
+returns : tie.Need-returns-then-plan-i
 unfolding begin_of
-returns c = let a = c.before.args in rw (le-ltb a.i (length a.plan.now) c.if1.true)
+returns c = let a = c.args in rw (le-ltb a.i (length a.plan.now) c.if-plan-i.true)
 
 -- the table has no set
-returns-2 : tie.Need-returns-2
+returns-2 : tie.Need-returns-then-sets-i
 unfolding begin_of
 returns-2 c =
-    let a = c.before.before.args in
+    let a = c.args in
     rw (
-      lt-ltb a.i (length a.plan.now) c.before.if1.false,
-      le-ltb a.i (length a.sets.now) c.if2.true,
+      lt-ltb a.i (length a.plan.now) c.if-plan-i.false,
+      le-ltb a.i (length a.sets.now) c.if-sets-i.true,
     )
 
-returns-3 : tie.Need-returns-3
+returns-3 : tie.Need-returns
 unfolding begin_of
 returns-3 c =
-    let a = c.before.before.args in
+    let a = c.args in
     rw (
       add-one a.i,
-      lt-ltb a.i (length a.plan.now) c.before.if1.false,
-      lt-ltb a.i (length a.sets.now) c.if2.false,
+      lt-ltb a.i (length a.plan.now) c.if-plan-i.false,
+      lt-ltb a.i (length a.sets.now) c.if-sets-i.false,
     )
 
 pub begin_spec : {M : Type 1} → statement M

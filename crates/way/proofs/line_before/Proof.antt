@@ -24,39 +24,36 @@ module _ (p starter : List ℕ) (i j k : ℕ) (h : i ≢ 0) (e : j ≡ job (at p
   other_job s n g = rw (ne_eqb i 0 h, ne_eqb (job (at p (i - 1))) (job (at p i)) (λ z. n (cc)), ← e, g)
 
 -- line 1
-returns : tie.Need-returns
+returns : tie.Need-returns-then-i-eq0
 unfolding line_before
-returns c = (rw (eq-eqb c.before.before.before.args.i 0 c.if1.true), search rules)
+returns c = (rw (eq-eqb c.args.i 0 c.if-i-eq0.true), search rules)
 
 -- the line before
-returns-2 : tie.Need-returns-2
+returns-2 : tie.Need-returns-then-job-j
 returns-2 c =
-    let not_first = c.before.before.before.before.before in
-    let a = not_first.before.before.before.args in (
-      same_job_lem a.plan.now a.starter.now a.i _ _ not_first.if1.false
-          c.before.before.before.job.ensures c.before.job2.ensures c.if2.true,
+    let a = c.args in (
+      same_job_lem a.plan.now a.starter.now a.i _ _ c.if-i-eq0.false
+          c.job-j.ensures c.job.ensures c.if-job-j.true,
       search rules,
     )
 
 -- by the table
-by-table : (c : tie.After-entry)
-    → let a = c.before.before.before.before.before.before.before.before.before.args in
-    cond (ltb a.i c.entry.result) 0 c.entry.result ≡ line_before a.plan.now a.starter.now a.i
-by-table c =
-    let jobs = c.before in
-    let not_first = jobs.before.before.before.before.before in
-    let a = not_first.before.before.before.args in
-    other_job a.plan.now a.starter.now a.i _ _ not_first.if1.false
-    jobs.before.before.before.job.ensures jobs.before.job2.ensures c.entry.result jobs.if2.false
-    c.entry.ensures
+by_table : (c : tie.After-entry-s)
+    → let a = c.args in
+    cond (ltb a.i c.entry-s.result) 0 c.entry-s.result ≡ line_before a.plan.now a.starter.now a.i
+by_table c =
+    let a = c.args in
+    other_job a.plan.now a.starter.now a.i _ _ c.if-i-eq0.false
+    c.job-j.ensures c.job.ensures c.entry-s.result c.if-job-j.false
+    c.entry-s.ensures
 
 -- no start further up
-returns-3 : tie.Need-returns-3
-returns-3 c = (rw (lt-ltb _ _ c.if3.true) at (by-table c.before), search rules)
+returns-3 : tie.Need-returns-then-i-s
+returns-3 c = (rw (lt-ltb _ _ c.if-i-s.true) at (by_table c.before), search rules)
 
 -- the start
-returns-4 : tie.Need-returns-4
-returns-4 c = (rw (le-ltb _ _ c.if3.false) at (by-table c.before), search rules)
+returns-4 : tie.Need-returns
+returns-4 c = (rw (le-ltb _ _ c.if-i-s.false) at (by_table c.before), search rules)
 
 pub line_before_spec : {M : Type 1} → statement M
 line_before_spec =

@@ -16,9 +16,9 @@ as_number_lem false = refl
 returns : tie.Need-returns
 unfolding stale_by
 returns c =
-    let a = c.before.before.before.before.before.before.before.args in
-    let s = c.before.rejoined.result in
-    rw (← c.before.rejoined.ensures) (refl, as_number_lem (not (eqb (get_or a.sets.now a.i 0) s)))
+    let a = c.args in
+    let s = c.rejoined-s.result in
+    rw (← c.rejoined-s.ensures) (refl, as_number_lem (not (eqb (get_or a.sets.now a.i 0) s)))
 
 pub mend_spec : {M : Type 1} → statement M
 mend_spec =

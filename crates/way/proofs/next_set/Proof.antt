@@ -28,20 +28,18 @@ module _ (p t : List ℕ) (i l n j : ℕ) (e : l ≡ at p (i + 1)) (f : n ≡ jo
   unfolding next_set
   another_job z = rw (ne_eqb (job (at p (suc i))) (job (at p i)) (λ q. z (next_job ∙ q ∙ sym g)))
 
-returns : tie.Need-returns
+returns : tie.Need-returns-then-job
 returns c =
-    let at-job = c.before.before.before.before in
-    let a = at-job.before.before.before.before.args in
-    the_next a.plan.now a.sets.now a.i _ _ _ at-job.before.entry.ensures at-job.job.ensures
-    c.before.before.job2.ensures c.before.if1.true _ c.set_at.ensures
+    let a = c.args in
+    the_next a.plan.now a.sets.now a.i _ _ _ c.entry.ensures c.job.ensures
+    c.job-2.ensures c.if-job.true _ c.set_at.ensures
 
-returns-2 : tie.Need-returns-2
+returns-2 : tie.Need-returns
 unfolding empty
 returns-2 c =
-    let at-job = c.before.before.before in
-    let a = at-job.before.before.before.before.args in
-    another_job a.plan.now a.sets.now a.i _ _ _ at-job.before.entry.ensures at-job.job.ensures
-    c.before.job2.ensures c.if1.false
+    let a = c.args in
+    another_job a.plan.now a.sets.now a.i _ _ _ c.entry.ensures c.job.ensures
+    c.job-2.ensures c.if-job.false
 
 pub next_set_spec : {M : Type 1} → statement M
 next_set_spec =

@@ -1,5 +1,4 @@
 -- `way::rejoined` meets its contract: the line's own claim and the two sets are joined.
-use mathlib.Core.Path.{◌≡◌}
 use borrow.Author.Rules.{rules}
 use Rattle.way.specs.Join.{rejoined_by}
 use Rattle.way.proofs.rejoined.Statement.{statement}
@@ -8,12 +7,11 @@ use Rattle.way.proofs.rejoined.Tie as tie
 returns : tie.Need-returns
 unfolding rejoined_by
 returns c =
-    let p = c.before.before.before in
     rw (
-      ← p.before.flagged.ensures,
-      ← p.plain.ensures,
-      ← c.before.before.next-set.ensures,
-      ← c.before.begun-set.ensures,
+      ← c.flagged.ensures,
+      ← c.plain-counts.ensures,
+      ← c.next_set.ensures,
+      ← c.begun_set.ensures,
     )
     c.joined.ensures
 

@@ -14,13 +14,13 @@ one_up : (n : ℕ) (t : List ℕ) → n ≢ 0 → get_or t (n - 1) 0 ≡ get_or 
 one_up zero t h = absurd (h refl)
 one_up (suc k) t h = let z : suc k - 1 ≡ k = omega arith in rw z
 
-returns : tie.Need-returns
+returns : tie.Need-returns-then-n-eq0
 unfolding empty
-returns c = rw c.if1.true
+returns c = rw c.if-n-eq0.true
 
-returns-2 : tie.Need-returns-2
+returns-2 : tie.Need-returns
 returns-2 c =
-    let a = c.before.before.before.args in c.set_at.ensures ∙ one_up a.n a.sets.now c.before.if1.false
+    let a = c.args in c.set_at.ensures ∙ one_up a.n a.sets.now c.if-n-eq0.false
 
 pub set_of_spec : {M : Type 1} → statement M
 set_of_spec =

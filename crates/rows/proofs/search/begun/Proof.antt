@@ -8,8 +8,8 @@ returns : tie.Need-returns
 returns c = record {
   below = c.trim.ensures.below;
   searching =
-      searching_begins c.before.before.before.args.rows.now c.trim.result
-      (rw c.before.in_rows.ensures at c.trim.ensures);
+      searching_begins c.args.rows.now c.trim.result
+      (rw c.in_rows.ensures at c.trim.ensures);
 }
 
 pub begun_spec : {M : Type 1} → statement M

@@ -14,26 +14,24 @@ board start =
     on_board_lem devices a.left a.walked.at start.ranges.left.fits start.requires.2
 
 -- nothing else was reached
-returns : tie.Need-returns
+returns : tie.Need-returns-then-both-eq-NONE
 returns c =
-    let start = c.before.before.before.before in
-    let a = start.args in
-    let led = c.before.before.ahead in
-    circle_passed a.rows.now a.left a.walked start.requires.1 start.requires.2 start.requires.3 led.result
-    led.ensures (sym c.before.both.ensures ∙ c.if1.true)
+        let a = c.args in
+    let led = c.ahead-led in
+    circle_passed a.rows.now a.left a.walked c.requires.1 c.requires.2 c.requires.3 led.result
+    led.ensures (sym c.both.ensures ∙ c.if-both-eq-NONE.true)
 
 -- something was
-returns-2 : tie.Need-returns-2
+returns-2 : tie.Need-returns
 returns-2 c =
-    let start = c.before.before.before.before.before.before.before in
-    let a = start.args in
-    circle_behind a.rows.now a.left a.walked start.requires.1 start.requires.2 start.requires.3
-    c.before.behind.result
-    (rw c.before.before.without.ensures at c.before.behind.ensures) c.ahead2.result c.ahead2.ensures
+        let a = c.args in
+    circle_behind a.rows.now a.left a.walked c.requires.1 c.requires.2 c.requires.3
+    c.behind-lead.result
+    (rw c.without.ensures at c.behind-lead.ensures) c.ahead.result c.ahead.ensures
 
 pub circle_of_spec : {M : Type 1} → statement M
 circle_of_spec =
     tie.close
-    (tie.spec (λ c κs. (c.before.requires.0, board c.before)) (λ c κs. search rules) returns (λ c κs. search rules)
+    (tie.spec (λ c κs. (c.requires.0, board c.before)) (λ c κs. search rules) returns (λ c κs. search rules)
     (λ c κs. search rules)
-    (λ c κs. let start = c.before.before.before.before.before.before in (start.requires.0, board start)) returns-2)
+    (λ c κs. (c.requires.0, board c.before.before.before.before.before.before)) returns-2)

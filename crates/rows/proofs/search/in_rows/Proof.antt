@@ -7,34 +7,32 @@ use Rattle.rows.proofs.Where.{joined_from, joined_begins, joined_grows, joined_w
 use Rattle.rows.proofs.search.in_rows.Statement.{statement}
 use Rattle.rows.proofs.search.in_rows.Tie as tie
 
-abbrev invariant-loop : tie.invariant-loop
+abbrev invariant-loop : tie.invariant-loop-d
 invariant-loop rows s₀ d₀ s d = (d ≤ devices) × (s ≡ joined_from devices (row_at rows) d)
 
-abbrev decreases-loop : tie.decreases-loop
+abbrev decreases-loop : tie.decreases-loop-d
 decreases-loop rows s₀ d₀ s d = d
 
-loop-holds : tie.Need-loop-init invariant-loop decreases-loop
+loop-holds : tie.Need-loop-d-init invariant-loop decreases-loop
 unfolding empty
-loop-holds c = (search rules, joined_begins devices _ (row_at c.before.args.rows.now) (omega arith))
+loop-holds c = (search rules, joined_begins devices _ (row_at c.args.rows.now) (omega arith))
 
-loop-again : tie.Need-loop-preserved invariant-loop decreases-loop
+loop-again : tie.Need-loop-d-preserved invariant-loop decreases-loop
 loop-again c =
-    let at-loop = c.before.before.before in
-    let l = at-loop.loop in (
+        let l = c.loop-d in (
       omega arith,
-      c.union.ensures
-          ∙ joined_grows devices l.d (row_at at-loop.before.before.args.rows.now) l.s (omega arith)
+      c.union-s.ensures
+          ∙ joined_grows devices l.d (row_at c.args.rows.now) l.s (omega arith)
           l.invariant.0 l.invariant.1,
     )
 
 returns : tie.Need-returns invariant-loop decreases-loop
 unfolding in_rows
 returns c =
-    let l = c.before.loop in
-    let start = c.before.before.before in
-    let rs = start.args.rows.now in
-    rw start.requires
-    (l.invariant.1 ∙ joined_whole devices l.d (row_at rs) l.invariant.0 (λ k h. absurd (omega (arith, c.loop-test.false))))
+    let l = c.loop-d in
+        let rs = c.args.rows.now in
+    rw c.requires
+    (l.invariant.1 ∙ joined_whole devices l.d (row_at rs) l.invariant.0 (λ k h. absurd (omega (arith, c.loop-d-test.false))))
 
 pub in_rows_spec : {M : Type 1} → statement M
 in_rows_spec =

@@ -6,39 +6,36 @@ use Rattle.rows.proofs.Smaller.{one_of_two}
 use Rattle.rows.proofs.search.trim.Statement.{statement}
 use Rattle.rows.proofs.search.trim.Tie as tie
 
-abbrev invariant-loop : tie.invariant-loop
+abbrev invariant-loop : tie.invariant-loop-stays
 invariant-loop rows left stays₀ before₀ stays before = Taking rows left stays before
 
-abbrev decreases-loop : tie.decreases-loop
+abbrev decreases-loop : tie.decreases-loop-stays
 decreases-loop rows left stays₀ before₀ stays before = 2 * stays + cond (eqb stays before) 0 1
 
-loop-holds : tie.Need-loop-init invariant-loop decreases-loop
+loop-holds : tie.Need-loop-stays-init invariant-loop decreases-loop
 loop-holds c =
-    let start = c.before in
-    taking_begins start.args.rows.now start.args.left (rw start.requires start.ranges.left.fits)
+        taking_begins c.args.rows.now c.args.left (rw c.requires c.ranges.left.fits)
 
-loop-less : tie.Need-loop-smaller invariant-loop decreases-loop
+loop-less : tie.Need-loop-stays-smaller invariant-loop decreases-loop
 loop-less c =
-    let at-loop = c.before.before.before in
-    let a = at-loop.before.before.args in
-    let l = at-loop.loop in
-    rw (c.both.ensures, c.before.look.ensures.0, c.before.look.ensures.1)
-    (taking_less a.rows.now a.left l.stays l.before l.invariant c.before.before.loop-test.true)
+        let a = c.args in
+    let l = c.loop-stays in
+    rw (c.both-stays.ensures, c.look-seen.ensures.0, c.look-seen.ensures.1)
+    (taking_less a.rows.now a.left l.stays l.before l.invariant c.loop-stays-test.true)
 
-loop-again : tie.Need-loop-preserved invariant-loop decreases-loop
+loop-again : tie.Need-loop-stays-preserved invariant-loop decreases-loop
 loop-again c =
-    let at-loop = c.before.before.before in
-    let a = at-loop.before.before.args in
-    let l = at-loop.loop in
-    rw (c.both.ensures, c.before.look.ensures.0, c.before.look.ensures.1)
+        let a = c.args in
+    let l = c.loop-stays in
+    rw (c.both-stays.ensures, c.look-seen.ensures.0, c.look-seen.ensures.1)
     (taking_on a.rows.now a.left l.stays l.before l.invariant)
 
 returns : tie.Need-returns invariant-loop decreases-loop
 returns c =
-    let a = c.before.before.before.args in
-    let l = c.before.loop in
+    let a = c.args in
+    let l = c.loop-stays in
     all_taken a.rows.now a.left l.stays l.before l.invariant
-    (one_of_two l.stays l.before 0 c.loop-test.false)
+    (one_of_two l.stays l.before 0 c.loop-stays-test.false)
 
 pub trim_spec : {M : Type 1} → statement M
 trim_spec =

@@ -6,70 +6,67 @@ use Rattle.rows.proofs.Looked.{on_board_lem}
 use Rattle.rows.proofs.search.walk.Statement.{statement}
 use Rattle.rows.proofs.search.walk.Tie as tie
 
-abbrev invariant-loop : tie.invariant-loop
+abbrev invariant-loop : tie.invariant-loop-rest
 invariant-loop rows left at₀ rest₀ at rest = Walking rows left at rest
 
-abbrev decreases-loop : tie.decreases-loop
+abbrev decreases-loop : tie.decreases-loop-rest
 decreases-loop rows left at₀ rest₀ at rest = rest
 
-loop-holds : tie.Need-loop-init invariant-loop decreases-loop
+loop-holds : tie.Need-loop-rest-init invariant-loop decreases-loop
 loop-holds c =
-    let start = c.before.before in
-    let a = start.args in
-    rw (c.lowest.ensures, sym start.requires.0)
-    (walking_begins a.rows.now a.left (rw start.requires.0 start.ranges.left.fits) start.requires.1)
+        let a = c.args in
+    rw (c.lowest-at.ensures, sym c.requires.0)
+    (walking_begins a.rows.now a.left (rw c.requires.0 c.ranges.left.fits) c.requires.1)
 
 -- where the walk goes on
-abbrev start : tie.Then1 invariant-loop decreases-loop → tie.Start invariant-loop decreases-loop
+abbrev start : tie.In-loop-rest invariant-loop decreases-loop → tie.Start invariant-loop decreases-loop
 start c = c.before.before.before.before.before
 
-abbrev rows : tie.Then1 invariant-loop decreases-loop → List ℕ
+abbrev rows : tie.In-loop-rest invariant-loop decreases-loop → List ℕ
 rows c = (start c).args.rows.now
 
-here : (c : tie.Then1 invariant-loop decreases-loop) → member c.before.before.loop.rest c.before.before.loop.at ≡ true
-here c = sym c.before.member.ensures ∙ c.if1.true
+here : (c : tie.In-loop-rest invariant-loop decreases-loop) → member c.loop-rest.rest c.loop-rest.at ≡ true
+here c = sym c.member.ensures ∙ c.loop-rest-test.true
 
-board : (c : tie.Then1 invariant-loop decreases-loop) → c.before.before.loop.at < length (rows c)
+board : (c : tie.In-loop-rest invariant-loop decreases-loop) → c.loop-rest.at < length (rows c)
 board c =
-    let l = c.before.before.loop in
+    let l = c.loop-rest in
     on_board_lem (length (rows c)) l.rest l.at l.invariant.rest_below (here c)
 
-cast-both : tie.Need-overflow-cast-both invariant-loop decreases-loop
-cast-both c = let at_test = c.before.before in omega (arith, board at_test, (start at_test).requires.0)
+cast-both : tie.Need-overflow_cast-at invariant-loop decreases-loop
+cast-both c = omega (arith, board c.before.before, (start c.before.before).requires.0)
 
-mul-both : tie.Need-overflow-mul-both invariant-loop decreases-loop
-mul-both c = let at_test = c.before.before in omega (arith, board at_test, (start at_test).requires.0)
+mul-both : tie.Need-offset_bounds-rows-at invariant-loop decreases-loop
+mul-both c = omega (arith, board c.before.before, (start c.before.before).requires.0)
 
-loop-less : tie.Need-loop-smaller invariant-loop decreases-loop
+loop-less : tie.Need-loop-rest-smaller invariant-loop decreases-loop
 loop-less c =
-    let at_test = c.before.before.before.before.before in
-    let l = at_test.before.before.loop in
+        let l = c.loop-rest in
     rw (
-      c.before.before.before.without.ensures,
-      c.before.before.before.before.only.ensures,
-      sym (start at_test).requires.0,
+      c.without-rest.ensures,
+      c.only.ensures,
+      sym (start c.before.before.before.before.before).requires.0,
     )
-    (walking_less (rows at_test) (start at_test).args.left l.at l.rest l.invariant (here at_test))
+    (walking_less (rows c.before.before.before.before.before) (start c.before.before.before.before.before).args.left l.at l.rest l.invariant (here c.before.before.before.before.before))
 
-loop-again : tie.Need-loop-preserved invariant-loop decreases-loop
+loop-again : tie.Need-loop-rest-preserved invariant-loop decreases-loop
 loop-again c =
-    let at_test = c.before.before.before.before.before in
-    let l = at_test.before.before.loop in
+        let l = c.loop-rest in
     rw (
-      c.lowest2.ensures,
-      c.before.both.ensures,
-      c.before.before.before.without.ensures,
-      c.before.before.before.before.only.ensures,
-      sym (start at_test).requires.0,
+      c.lowest-at-in-loop-rest.ensures,
+      c.both.ensures,
+      c.without-rest.ensures,
+      c.only.ensures,
+      sym (start c.before.before.before.before.before).requires.0,
     )
-    (walking_on (rows at_test) (start at_test).args.left l.at l.rest l.invariant (here at_test))
+    (walking_on (rows c.before.before.before.before.before) (start c.before.before.before.before.before).args.left l.at l.rest l.invariant (here c.before.before.before.before.before))
 
 returns : tie.Need-returns invariant-loop decreases-loop
 returns c =
-    let l = c.before.before.loop in
-    let a = c.before.before.before.before.before.args in
+    let l = c.loop-rest in
+    let a = c.args in
     walking_ends a.rows.now a.left record { at = l.at; rest = l.rest } l.invariant
-    (sym c.before.member.ensures ∙ c.if1.false)
+    (sym c.member.ensures ∙ c.loop-rest-test.false)
 
 pub walk_spec : {M : Type 1} → statement M
 walk_spec =

@@ -12,43 +12,41 @@ use Rattle.verdict.proofs.Steps.{formed, few, marked}
 use Rattle.verdict.proofs.order.arrive.Statement.{statement}
 use Rattle.verdict.proofs.order.arrive.Tie as tie
 
-mark-at : tie.Need-element-copy-out-place
-mark-at c = omega (arith, few c.before.before.before.requires.0, c.before.if1.true)
+mark-at : tie.Need-bounds-lasting-i
+mark-at c = omega (arith, few c.requires.0, c.if-i-plan.true)
 
-job-from-1 : tie.Need-place-requires
+job-from-1 : tie.Need-place-s-requires
 job-from-1 c κs =
-    let start = c.before.before.before.before in
-    (job_fits (formed start.requires.0) start.args.i c.before.before.if1.true).0
+        (job_fits (formed c.requires.0) c.args.i c.if-i-plan.true).0
 
 -- where the place of a line of the plan is known
-abbrev start : tie.After-place → tie.Start
-start c = c.before.before.before.before.before
+abbrev start : tie.After-place-s → tie.Start
+start c = c.before.before.before.before.before.before
 
-its-place : (c : tie.After-place) → c.place.result ≡ place_at (start c).args.plan.now (start c).args.i
+its_place : (c : tie.After-place-s) → c.place-s.result ≡ place_at (start c).args.plan.now (start c).args.i
 unfolding place_at
-its-place c =
-    c.place.ensures
+its_place c =
+    c.place-s.ensures
     ∙ ap (λ (b : Bool). waiting_place b (at (start c).args.plan.now (start c).args.i))
-    (marked (start c).requires.0 c.before.before.before.if1.true)
+    (marked (start c).requires.0 c.if-i-plan.true)
 
-in-places : tie.Need-element-write-places
+in-places : tie.Need-bounds-places-s
 in-places c =
-    rw (its-place c)
-    (place_below (formed (start c).requires.0) (start c).args.i c.before.before.before.if1.true)
+    rw (its_place c.before)
+    (place_below (formed (start c.before).requires.0) (start c.before).args.i c.if-i-plan.true)
 
-returns : tie.Need-returns
+returns : tie.Need-returns-then-i-plan
 unfolding arrived placed
 returns c =
-    let here = c.before in
-    let a = (start here).args in
-    rw (lt-ltb a.i (length a.plan.now) here.before.before.before.if1.true, ← its-place here)
-    (c.take-place.ensures, refl)
+        let a = (start c.before.before).args in
+    rw (lt-ltb a.i (length a.plan.now) c.if-i-plan.true, ← its_place c.before.before)
+    (c.take_place.ensures, refl)
 
 -- past the plan's end
-returns-2 : tie.Need-returns-2
+returns-2 : tie.Need-returns
 unfolding arrived placed
 returns-2 c =
-    let a = c.before.before.args in rw (le-ltb a.i (length a.plan.now) c.if1.false) (refl, refl)
+    let a = c.args in rw (le-ltb a.i (length a.plan.now) c.if-i-plan.false) (refl, refl)
 
 pub arrive_spec : {M : Type 1} → statement M
 arrive_spec =

@@ -16,18 +16,17 @@ one_more : (b : Bool) (n : ℕ) → n ≤ max_lines → n + bool_byte b ≤ max_
 one_more true n h = omega arith
 one_more false n h = omega arith
 
-can-rise : tie.Need-overflow-add-counts
+can-rise : tie.Need-overflow_add-counts
 can-rise c =
-    let start = c.before.before.before in
-    omega (
+        omega (
       arith,
-      ap (λ (o : ℕ). get_or start.args.counts.now (o % devices) 0) c.before.operand.ensures,
-      one_more c.before.before.is_take.result _ start.requires,
+      ap (λ (o : ℕ). get_or c.args.counts.now (o % devices) 0) c.operand.ensures,
+      one_more c.is_take-takes.result _ c.requires,
     )
 
 returns : tie.Need-returns
 unfolding added
-returns c = rw (c.before.before.is_take.ensures, c.before.operand.ensures)
+returns c = rw (c.is_take-takes.ensures, c.operand.ensures)
 
 pub count_spec : {M : Type 1} → statement M
 count_spec =

@@ -5,18 +5,18 @@ use Rattle.verdict.proofs.order.goes_next.Statement.{statement}
 use Rattle.verdict.proofs.order.goes_next.Tie as tie
 
 -- a job goes on
-returns : tie.Need-returns
+returns : tie.Need-returns-then-on
 unfolding choosing
-returns c = rw c.if1.true
+returns c = rw c.if-on.true
 
-in-places : tie.Need-element-copy-out-line
-in-places c = rw c.foremost.ensures (c.before.before.requires c.before.if1.false)
+in-places : tie.Need-bounds-places-s
+in-places c = rw c.foremost-s.ensures (c.requires c.if-on.false)
 
 -- none does
-returns-2 : tie.Need-returns-2
+returns-2 : tie.Need-returns
 unfolding choosing
 returns-2 c =
-    let f = c.before.before in rw (f.before.if1.false, c.leave-place.ensures, f.foremost.ensures)
+    rw (c.if-on.false, c.leave_place.ensures, c.foremost-s.ensures)
 
 pub goes_next_spec : {M : Type 1} → statement M
 goes_next_spec =

@@ -9,24 +9,23 @@ use Rattle.verdict.specs.Waiting.{followed}
 use Rattle.verdict.proofs.order.job_follows.Statement.{statement}
 use Rattle.verdict.proofs.order.job_follows.Tie as tie
 
-returns : tie.Need-returns
+returns : tie.Need-returns-then-n-plan
 unfolding followed
 returns c =
-    let here = c.before.before.before.before in
-    let a = here.before.before.args in
+        let a = c.args in
     rw (
-      c.before.before.job.ensures,
-      c.job2.ensures,
+      c.job.ensures,
+      c.job-then-n-plan.ensures,
       add-one a.i,
-      lt-ltb (suc a.i) (length a.plan.now) (omega (arith, here.if1.true)),
+      lt-ltb (suc a.i) (length a.plan.now) (omega (arith, c.if-n-plan.true)),
     )
 
 -- the plan's last line
-returns-2 : tie.Need-returns-2
+returns-2 : tie.Need-returns
 unfolding followed
 returns-2 c =
-    let a = c.before.before.args in
-    rw (le-ltb (suc a.i) (length a.plan.now) (omega (arith, c.if1.false)))
+    let a = c.args in
+    rw (le-ltb (suc a.i) (length a.plan.now) (omega (arith, c.if-n-plan.false)))
 
 pub job_follows_spec : {M : Type 1} → statement M
 job_follows_spec =

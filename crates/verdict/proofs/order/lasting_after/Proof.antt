@@ -9,32 +9,30 @@ use Rattle.verdict.proofs.order.lasting_after.Statement.{statement}
 use Rattle.verdict.proofs.order.lasting_after.Tie as tie
 
 -- where the next line is of the job
-abbrev start : tie.Then1 → tie.Start
+abbrev start : tie.Then-job_follows → tie.Start
 start c = c.before.before.before
 
-in-job : (c : tie.Then1) → followed (start c).args.plan.now (start c).args.i ≡ true
-in-job c = sym c.before.job-follows.ensures ∙ c.if1.true
+in_job : (c : tie.Then-job_follows) → followed (start c).args.plan.now (start c).args.i ≡ true
+in_job c = sym c.job_follows.ensures ∙ c.if-job_follows.true
 
-mark-at : tie.Need-element-copy-out-if2
-mark-at c = let m = (start c).requires.0 in omega (arith, few m, next_line_lem m (start c).args.i (in-job c))
+mark-at : tie.Need-bounds-lasting-i
+mark-at c = let m = (start c.before).requires.0 in omega (arith, few m, next_line_lem m (start c.before).args.i (in_job c.before))
 
 -- it is a lasting take
-returns : tie.Need-returns
+returns : tie.Need-returns-then-lasting-i-eq1
 returns c =
-    let here = c.before.before in
-    after_marked (start here).requires.0 (start here).args.i (in-job here) c.if2.true
+        after_marked (start c.before.before.before).requires.0 (start c.before.before.before).args.i (in_job c.before.before.before) c.if-lasting-i-eq1.true
 
 -- it is not
-returns-2 : tie.Need-returns-2
+returns-2 : tie.Need-returns-else-lasting-i-eq1
 returns-2 c =
-    let here = c.before.before in
-    after_unmarked (start here).requires.0 (start here).args.i (in-job here) c.if2.false
+        after_unmarked (start c.before.before.before).requires.0 (start c.before.before.before).args.i (in_job c.before.before.before) c.if-lasting-i-eq1.false
 
 -- the job's last line
-returns-3 : tie.Need-returns-3
+returns-3 : tie.Need-returns-else-job_follows
 returns-3 c =
-    let a = c.before.before.before.args in
-    (none_after a.plan.now a.i (sym c.before.job-follows.ensures ∙ c.if1.false)).1
+    let a = c.args in
+    (none_after a.plan.now a.i (sym c.job_follows.ensures ∙ c.if-job_follows.false)).1
 
 pub lasting_after_spec : {M : Type 1} → statement M
 lasting_after_spec =

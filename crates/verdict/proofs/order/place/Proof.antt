@@ -6,13 +6,13 @@ use Rattle.verdict.specs.Waiting.{waiting_place}
 use Rattle.verdict.proofs.order.place.Statement.{statement}
 use Rattle.verdict.proofs.order.place.Tie as tie
 
-place-fits : tie.Need-overflow-add-choose
+place-fits : tie.Need-overflow_add-operand
 unfolding operand
 place-fits c = omega (arith, c.operand.ensures)
 
 returns : tie.Need-returns
 unfolding waiting_place
-returns c = rw (c.choose.ensures, c.before.job.ensures, c.before.before.operand.ensures)
+returns c = rw (c.choose.ensures, c.job.ensures, c.operand.ensures)
 
 pub place_spec : {M : Type 1} → statement M
 place_spec =

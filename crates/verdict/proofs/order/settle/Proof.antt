@@ -4,17 +4,16 @@ use Rattle.verdict.specs.Waiting.{counted, settled, scarce_if}
 use Rattle.verdict.proofs.order.settle.Statement.{statement}
 use Rattle.verdict.proofs.order.settle.Tie as tie
 
-can-fall : tie.Need-overflow-sub-counts
+can-fall : tie.Need-overflow_sub-counts
 can-fall c =
-    let start = c.before.before.before in
-    rw (c.before.before.is_take.ensures, c.before.operand.ensures) start.requires
+        rw (c.is_take-takes.ensures, c.operand-d.ensures) c.requires
 
 returns : tie.Need-returns
 unfolding counted settled scarce_if
 returns c =
-    let e = c.before.before.before.before.is_take.ensures in
-    let d = c.before.before.before.operand.ensures in
-    (rw (c.union.ensures, c.before.only_if.ensures, e, d), rw (e, d))
+    let e = c.is_take-takes.ensures in
+    let d = c.operand-d.ensures in
+    (rw (c.union.ensures, c.only_if.ensures, e, d), rw (e, d))
 
 pub settle_spec : {M : Type 1} → statement M
 settle_spec =

@@ -22,7 +22,7 @@ formed : (c : tie.After-operand) → WellFormed board (start c).args.plan.now
 formed c = (no_fault_exactly board (start c).args.plan.now).0 (start c).requires.0.sound
 
 found : (c : tie.After-operand) → Starts (start c).args.plan.now (start c).args.i
-found c = the_start (formed c) (start c).args.i (sym c.before.before.is-start.ensures ∙ c.before.if1.true)
+found c = the_start (formed c) (start c).args.i (sym c.is_start.ensures ∙ c.if-is_start.true)
 
 listed : (c : tie.After-operand)
     → get_or (start c).args.first.now c.operand.result 0
@@ -33,23 +33,23 @@ listed c =
     ∙ ap (λ (ns : List ℕ). get_or ns (operand (at a.plan.now a.i)) 0) (start c).requires.0.firsts
     ∙ (found c).listed
 
-job-at : tie.Need-element-copy-out-result
-job-at c = omega (arith, c.operand.ensures, (found c).a_job)
+job-at : tie.Need-bounds-first-operand
+job-at c = omega (arith, c.operand.ensures, (found c.before).a_job)
 
-line-fits : tie.Need-overflow-cast-result-2
-line-fits c = let here = c.before in omega (arith, listed here, (found here).begun.line, (formed here).few)
+line-fits : tie.Need-overflow_cast-result-then-is_start
+line-fits c = omega (arith, listed c.before.before, (found c.before.before).begun.line, (formed c.before.before).few)
 
 -- a start
-returns : tie.Need-returns
-returns c = omega (arith, listed c.before)
+returns : tie.Need-returns-then-is_start
+returns c = omega (arith, listed c.before.before)
 
 -- any other line
-returns-2 : tie.Need-returns-2
+returns-2 : tie.Need-returns
 unfolding started_line
-returns-2 c = rw (sym c.before.is-start.ensures ∙ c.if1.false)
+returns-2 c = rw (sym c.is_start.ensures ∙ c.if-is_start.false)
 
 pub started_spec : {M : Type 1} → statement M
 started_spec =
     tie.close
     (tie.spec (λ c. search rules) (λ c. search rules) (λ c κs. search rules) (λ c κs. search rules) (λ c. search rules)
-    (λ c. search rules) job-at line-fits (λ c. omega (arith, listed c.before)) returns returns-2)
+    (λ c. search rules) job-at line-fits (λ c. omega (arith, listed c.before.before)) returns returns-2)

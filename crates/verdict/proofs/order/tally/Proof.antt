@@ -15,62 +15,56 @@ use Rattle.verdict.proofs.Counts.{tallied_small}
 use Rattle.verdict.proofs.order.tally.Statement.{statement}
 use Rattle.verdict.proofs.order.tally.Tie as tie
 
-abbrev invariant-loop : tie.invariant-loop
+abbrev invariant-loop : tie.invariant-loop-i
 invariant-loop plan again counts₀ i₀ counts i = (i ≤ length plan) × (counts ≡ tallied plan i)
 
-abbrev decreases-loop : tie.decreases-loop
+abbrev decreases-loop : tie.decreases-loop-i
 decreases-loop plan again counts₀ i₀ counts i = length plan - i
 
-loop-holds : tie.Need-loop-init invariant-loop decreases-loop
+loop-holds : tie.Need-loop-i-init invariant-loop decreases-loop
 unfolding tallied
 loop-holds c = (omega arith, refl)
 
-element-copy-out-plain : tie.Need-element-copy-out-plain invariant-loop decreases-loop
+element-copy-out-plain : tie.Need-bounds-again-i invariant-loop decreases-loop
 element-copy-out-plain c =
-    let loop = c.before.before.before in
-    let start = loop.before.before in
-    has_flag start.args.plan.now start.args.again.now loop.loop.i start.requires
-    c.before.before.loop-test.true
+            has_flag c.args.plan.now c.args.again.now c.loop-i.i c.requires
+    c.loop-i-test.true
 
 -- the line at hand, as it counts
 module _ (c : tie.After-plain invariant-loop decreases-loop) where
-  abbrev here : tie.At-loop invariant-loop decreases-loop
-  here = c.before.before.before.before.before
+  abbrev here : tie.At-loop-i invariant-loop decreases-loop
+  here = c.before.before.before.before.before.before
 
   abbrev start : tie.Start invariant-loop decreases-loop
   start = here.before.before
 
-  counts : c.plain.result ≡ plain_at start.args.plan.now here.loop.i
+  counts : c.plain.result ≡ plain_at start.args.plan.now here.loop-i.i
   counts =
       c.plain.ensures
-      ∙ counts_as start.args.plan.now start.args.again.now here.loop.i start.pre
-      c.before.before.before.before.loop-test.true
+      ∙ counts_as start.args.plan.now start.args.again.now here.loop-i.i start.requires
+      c.loop-i-test.true
 
 count-requires : tie.Need-count-requires invariant-loop decreases-loop
 count-requires c κs =
-    let test = c.before.before.before.before in
-    let loop = test.before in
-    let start = loop.before.before in
-    let w = (no_fault_exactly board start.args.plan.now).0 start.requires.0 in
-    rw (loop.loop.invariant.1, counts c)
-    (tallied_small start.args.plan.now w loop.loop.i (omega (arith, w.few, test.loop-test.true)))
+                let w = (no_fault_exactly board c.args.plan.now).0 c.requires.0 in
+    rw (c.loop-i.invariant.1, counts c)
+    (tallied_small c.args.plan.now w c.loop-i.i (omega (arith, w.few, c.loop-i-test.true)))
 
-loop-again : tie.Need-loop-preserved invariant-loop decreases-loop
+loop-again : tie.Need-loop-i-preserved invariant-loop decreases-loop
 unfolding tallied
 loop-again c =
-    let l = (here c.before).loop in
+    let l = (here c.before).loop-i in
     let p = (start c.before).args.plan.now in (
       omega arith,
       rw (add-one l.i)
           ((rw (counts c.before) at c.count.ensures)
-          ∙ ap (λ (ns : List ℕ). added ns (plain_at p l.i)) l.inv.1),
+          ∙ ap (λ (ns : List ℕ). added ns (plain_at p l.i)) l.invariant.1),
     )
 
 returns : tie.Need-returns invariant-loop decreases-loop
 returns c =
-    let loop = c.before in
-    let p = loop.before.before.args.plan.now in
-    let e : loop.loop.i ≡ length p = omega arith in loop.loop.invariant.1 ∙ ap (tallied p) e
+        let p = c.args.plan.now in
+    let e : c.loop-i.i ≡ length p = omega arith in c.loop-i.invariant.1 ∙ ap (tallied p) e
 
 pub tally_spec : {M : Type 1} → statement M
 tally_spec =

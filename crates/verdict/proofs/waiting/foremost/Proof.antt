@@ -11,23 +11,23 @@ use Rattle.verdict.proofs.waiting.foremost.Statement.{statement}
 use Rattle.verdict.proofs.waiting.foremost.Tie as tie
 
 -- a job can go on
-returns : tie.Need-returns
+returns : tie.Need-returns-then-job-lt-LAST_JOB
 unfolding foremost
-returns c = rw (← c.before.lowest-job.ensures, lt-ltb c.before.lowest-job.result max_job c.if1.true)
+returns c = rw (← c.lowest_job-job.ensures, lt-ltb c.lowest_job-job.result max_job c.if-job-lt-LAST_JOB.true)
 
-add-result : tie.Need-overflow-add-result
-add-result c = omega (arith, c.lowest.ensures, lowest_at_most devices c.before.both.result)
+add-result : tie.Need-overflow_add-result
+add-result c = omega (arith, c.lowest.ensures, lowest_at_most devices c.both.result)
 
 -- none can
-returns-2 : tie.Need-returns-2
+returns-2 : tie.Need-returns
 unfolding foremost
 returns-2 c =
-    let job = c.before.before.before.lowest-job in
+    let job = c.lowest_job-job in
     rw (
       ← job.ensures,
-      le-ltb job.result max_job c.before.before.if1.false,
+      le-ltb job.result max_job c.if-job-lt-LAST_JOB.false,
       c.lowest.ensures,
-      c.before.both.ensures,
+      c.both.ensures,
     )
 
 pub foremost_spec : {M : Type 1} → statement M

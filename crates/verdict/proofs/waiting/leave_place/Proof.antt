@@ -8,18 +8,18 @@ use Rattle.verdict.proofs.waiting.leave_place.Statement.{statement}
 use Rattle.verdict.proofs.waiting.leave_place.Tie as tie
 
 -- a job's place
-returns : tie.Need-returns
+returns : tie.Need-returns-then-s-lt-LAST_JOB
 unfolding vacated
-returns c = rw (lt-ltb c.before.before.args.s max_job c.before.if1.true, c.without-job.ensures)
+returns c = rw (lt-ltb c.args.s max_job c.if-s-lt-LAST_JOB.true, c.without_job.ensures)
 
 -- a device's place
-returns-2 : tie.Need-returns-2
+returns-2 : tie.Need-returns
 unfolding vacated
 returns-2 c =
     rw (
-      le-ltb c.before.before.before.args.s max_job c.before.before.if1.false,
+      le-ltb c.args.s max_job c.if-s-lt-LAST_JOB.false,
       c.without.ensures,
-      c.before.only.ensures,
+      c.only.ensures,
     )
 
 pub leave_place_spec : {M : Type 1} → statement M
