@@ -170,7 +170,8 @@ module _ {p t : List ℕ} {line device : ℕ} {first starter again of_jobs : Lis
   -- a line of another job is as it was
   other_line : (x : ℕ) → job (at p' x) ≢ job (at p' (stop - 1)) → at p' x ≡ at p x
   other_line x n = edit_is.elsewhere x (λ e. n (taken x (ap (λ (y : ℕ). job (at p y)) e)))
-      (λ e. n (taken x ((pair p (line - 1) x e).same_job x (omega (arith, (pair p (line - 1) x e).below)) (omega arith))))
+      (λ e. n
+      (taken x ((pair p (line - 1) x e).same_job x (omega (arith, (pair p (line - 1) x e).below)) (omega arith))))
     where
       taken : (x : ℕ) → job (at p x) ≡ job (at p (line - 1)) → job (at p' x) ≡ job (at p' (stop - 1))
       taken x e = edit_is.alike.jobs x ∙ e ∙ sym last_in_job

@@ -25,7 +25,8 @@ pub record Prepared (p again t : List ℕ) : Type 0 where
 -- a set.)
 pub record Skips (p first holdings : List ℕ) (moved : ℕ) : Type 0 where
   pub firsts : first ≡ first_lines p
-  pub among : (k d : ℕ) → lasting p k d ≡ true → job (at p k) ≢ moved → member (get_or holdings (job (at p k)) 0) d ≡ true
+  pub among : (k d : ℕ) → lasting p k d ≡ true → job (at p k) ≢ moved
+      → member (get_or holdings (job (at p k)) 0) d ≡ true
 
 -- the row of each device, by the plan and some table
 abbrev pub rows_by : List ℕ → List ℕ → List ℕ

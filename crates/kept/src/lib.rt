@@ -1,6 +1,8 @@
 // Rows kept beside the table (02, request 4): they are built once, every accepted move keeps them true, and a quick
 // verdict reads them and hands out no order. What is lent may be another plan's, or nobody's: a move then still writes
 // the rows that it concerns, by the edited plan and the table as it has become, and leaves all others.
+#![tactic(auto)]
+
 ghost use Rattle.std.specs.Prelude.{◌≡◌, not, ◌&&◌, ◌≤◌, eqb, length, get_or, take};
 ghost use Rattle.model.specs.Board.{devices, board};
 ghost use Rattle.model.specs.Line.{job, at, max_job};

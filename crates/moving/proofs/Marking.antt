@@ -175,7 +175,8 @@ module _ (p : List ℕ) (i device : ℕ) (take : Take p i device) where
 
     at_mate_lem : (x : ℕ) → mate p i ≡ some x → bit ≡ again_flag q x
     unfolding again_flag
-    at_mate_lem x g = byte held ∙ ap (λ (b : Bool). cond b 1 0) (e ∙ sym (again_at_mate p i device take.takes small x g))
+    at_mate_lem x g =
+        byte held ∙ ap (λ (b : Bool). cond b 1 0) (e ∙ sym (again_at_mate p i device take.takes small x g))
 
     not_under : (x : ℕ) → (x ≤ i) ⊎ (stop ≤ x) → has x (under p i) ≡ false
     not_under x s = falsely (has x (under p i)) (λ u. no s (rw span_is.under_is at u))

@@ -33,7 +33,8 @@ use Rattle.moving.proofs.SameScan.{at_midday_lem}
 -- ---- 14
 
 -- a stale line stands in the plan
-pub stale_inside : (p t : List ℕ) (i k : ℕ) → i < length p → first_of (stale p t) (may_change p i) ≡ some k → k < length p
+pub stale_inside : (p t : List ℕ) (i k : ℕ) → i < length p → first_of (stale p t) (may_change p i) ≡ some k
+    → k < length p
 stale_inside p t i k h e = may_change_line p i h k (nearest_may_change p t i k ((stale_exactly p t i k).0 e))
 
 module _ (p t : List ℕ) (i : ℕ) where

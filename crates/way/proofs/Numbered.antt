@@ -21,5 +21,6 @@ pub starter_at_job : (p : List ℕ) (j : ℕ) → j ≤ max_job
 unfolding starters
 starter_at_job p j h =
     let z : 0 + j ≡ j = omega arith in
-    get_or_up_from (λ j. number_of_found (first_of (λ i. starts (at p i) j) (positions p))) 0 (suc max_job) j (omega arith)
+    get_or_up_from (λ j. number_of_found (first_of (λ i. starts (at p i) j) (positions p))) 0 (suc max_job) j
+    (omega arith)
     ∙ ap (λ (x : ℕ). number_of_found (first_of (λ i. starts (at p i) x) (positions p))) z

@@ -188,7 +188,8 @@ one_rewritten : (p old t : List ℕ) (x v : ℕ) → x < length p → x < length
     → changed p old (set t x v) ≡ changed p old t + cond (not (eqb (get_or t x 0) v)) 1 0
 unfolding changed positions
 one_rewritten p old t x v h room e =
-    one_more (λ i. not (eqb (get_or (set t x v) i 0) (get_or old i 0))) (λ i. not (eqb (get_or t i 0) (get_or old i 0))) x 0
+    one_more (λ i. not (eqb (get_or (set t x v) i 0) (get_or old i 0)))
+    (λ i. not (eqb (get_or t i 0) (get_or old i 0))) x 0
     (length p) (omega arith) (omega arith)
     (λ k n. ap (λ (y : ℕ). not (eqb y (get_or old k 0))) (get_or-set_other t x k v 0 n))
     (rw (e, eq-eqb (get_or old x 0) (get_or old x 0) refl))

@@ -20,15 +20,14 @@ asked_for : (p : List ℕ) (line : ℕ) → (line ≡ 0 → ⊥) → operand (ge
 asked_for p zero h = absurd (h refl)
 asked_for p (suc i) h = rw (suc-sub-suc i 0, sub-zero i)
 
-returns-2 : tie.Need-returns-2
+returns-2 : tie.Need-returns-then-plan-i
 returns-2 c =
-    let a = c.before.before.before.args in past_end a.plan.now a.line c.if2.true
+    let a = c.args in past_end a.plan.now a.line c.if-plan-i.true
 
-returns-3 : tie.Need-returns-3
+returns-3 : tie.Need-returns
 returns-3 c =
-    let tests = c.before.before in
-    let a = tests.before.before.before.args in
-    c.operand.ensures ∙ asked_for a.plan.now a.line tests.before.if1.false
+    let a = c.args in
+    c.operand.ensures ∙ asked_for a.plan.now a.line c.if-line-eq0.false
 
 pub device_at_spec : {M : Type 1} → statement M
 device_at_spec =

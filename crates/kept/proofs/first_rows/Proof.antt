@@ -12,34 +12,33 @@ use Rattle.kept.proofs.Lists.{PutTo, none_put, one_put, all_put}
 use Rattle.kept.proofs.first_rows.Statement.{statement}
 use Rattle.kept.proofs.first_rows.Tie as tie
 
-abbrev invariant-loop : tie.invariant-loop
+abbrev invariant-loop : tie.invariant-loop-d
 invariant-loop rows first₀ d₀ first d = PutTo (take devices rows) first₀ first d
 
-abbrev decreases-loop : tie.decreases-loop
+abbrev decreases-loop : tie.decreases-loop-d
 decreases-loop rows first₀ d₀ first d = devices - d
 
-loop-holds : tie.Need-loop-init invariant-loop decreases-loop
+loop-holds : tie.Need-loop-d-init invariant-loop decreases-loop
 loop-holds c = none_put (take devices c.args.rows.now) _
 
-loop-again : tie.Need-loop-preserved invariant-loop decreases-loop
+loop-again : tie.Need-loop-d-preserved invariant-loop decreases-loop
 loop-again c =
-    let l = c.before.before.loop in
-    let start = c.before.before.before in
-    let rows = start.args.rows.now in
-    let long = length-take-le devices rows start.requires in
+    let l = c.loop-d in
+    let rows = c.args.rows.now in
+    let long = length-take-le devices rows c.requires in
     one_put l.invariant (omega (arith, long)) (omega arith)
-    (sym (get_or-take devices rows l.d 0 c.before.loop-test.true))
+    (sym (get_or-take devices rows l.d 0 c.loop-d-test.true))
 
 returns : tie.Need-returns invariant-loop decreases-loop
 unfolding over
 returns c =
-    let l = c.before.loop in
-    let rows = c.before.before.args.rows.now in
-    let long = length-take-le devices rows c.before.before.requires in
+    let l = c.loop-d in
+    let rows = c.args.rows.now in
+    let long = length-take-le devices rows c.requires in
     all_put l.invariant (omega (arith, long)) ∙ rw long (append-nil (take devices rows))
 
 pub first_rows_spec : {M : Type 1} → statement M
 first_rows_spec =
     tie.close
-    (tie.spec invariant-loop decreases-loop loop-holds (λ c. search rules) (λ c. search rules) (λ c. search rules) (λ c. search rules)
-    (λ c. search rules) (λ c. search rules) loop-again returns)
+    (tie.spec invariant-loop decreases-loop loop-holds (λ c. search rules) (λ c. search rules) (λ c. search rules)
+    (λ c. search rules) (λ c. search rules) (λ c. search rules) loop-again returns)

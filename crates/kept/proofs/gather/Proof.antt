@@ -16,112 +16,92 @@ use Rattle.kept.proofs.Gathering.{in_range, has_first, goes_back, past_job}
 use Rattle.kept.proofs.gather.Statement.{statement}
 use Rattle.kept.proofs.gather.Tie as tie
 
-abbrev invariant-loop : tie.invariant-loop
+abbrev invariant-loop : tie.invariant-loop-i
 invariant-loop plan again first holdings moved sets rows₀ lasting₀ passed₀ behind₀ i₀ rows lasting passed behind i =
     Gathered plan sets rows lasting passed behind i
 
-abbrev decreases-loop : tie.decreases-loop
+abbrev decreases-loop : tie.decreases-loop-i
 decreases-loop plan again first holdings moved sets rows₀ lasting₀ passed₀ behind₀ i₀ rows lasting passed behind i = i
 
-loop-holds : tie.Need-loop-init invariant-loop decreases-loop
+loop-holds : tie.Need-loop-i-init invariant-loop decreases-loop
 loop-holds c =
-    let s = c.before.before.before.before in none_gathered s.args.plan.now s.args.again.now _ s.requires.0
+    none_gathered c.args.plan.now c.args.again.now _ c.requires.0
 
--- the function's entry, from a turn of the loop; the line at hand has its flag
-abbrev entry : tie.In-loop invariant-loop decreases-loop → tie.Start invariant-loop decreases-loop
-entry c = c.before.before.before.before.before.before
+-- in a turn i is one more than the line at hand, which has its flag
+back : (c : tie.In-loop-i invariant-loop decreases-loop) → c.loop-i.i ≡ suc (c.loop-i.i - 1)
+back c = omega (arith, c.loop-i-test.true)
 
-back : (c : tie.In-loop invariant-loop decreases-loop) → c.before.loop.i ≡ suc (c.before.loop.i - 1)
-back c = omega (arith, c.loop-test.true)
+in_plan : (c : tie.In-loop-i invariant-loop decreases-loop) → c.loop-i.i - 1 < length c.args.plan.now
+in_plan c = omega (arith, c.loop-i.invariant.found.counted.in_plan, c.loop-i-test.true)
 
-in_plan : (c : tie.In-loop invariant-loop decreases-loop) → c.before.loop.i - 1 < length (entry c).args.plan.now
-in_plan c = omega (arith, c.before.loop.invariant.found.counted.in_plan, c.loop-test.true)
-
-flag : (c : tie.In-loop invariant-loop decreases-loop) → c.before.loop.i - 1 < max_lines
+flag : (c : tie.In-loop-i invariant-loop decreases-loop) → c.loop-i.i - 1 < max_lines
 flag c =
-    let s = entry c in
-    has_flag s.args.plan.now s.args.again.now (c.before.loop.i - 1) (s.pre.0.sound, s.pre.0.agains)
-    (in_plan c)
+    has_flag c.args.plan.now c.args.again.now (c.loop-i.i - 1) (c.requires.0.sound, c.requires.0.agains) (in_plan c)
 
 -- ---- past a job without lasting takes
 
-of-job : (c : tie.After-job invariant-loop decreases-loop) → c.job.result ≤ max_job
-of-job c =
-    let in-loop = c.before.before in
-    let s = entry in-loop in
-    rw c.job.ensures (in_range s.pre.0 s.pre.1 (rw (back in-loop) at in-loop.before.loop.invariant))
+of_job : (c : tie.After-job-j invariant-loop decreases-loop) → c.job-j.result ≤ max_job
+of_job c =
+    rw c.job-j.ensures
+    (in_range c.requires.0 c.requires.1 (rw (back c.before.before) at c.loop-i.invariant))
 
-element-copy-out-i : tie.Need-element-copy-out-i invariant-loop decreases-loop
-element-copy-out-i c = omega (arith, of-job c.before.before)
+bounds-first-j : tie.Need-bounds-first-j invariant-loop decreases-loop
+bounds-first-j c = omega (arith, of_job c.before.before.before)
 
-sub-i : tie.Need-overflow-sub-i invariant-loop decreases-loop
+sub-i : tie.Need-overflow_sub-i invariant-loop decreases-loop
 sub-i c =
-    let at-job = c.before.before.before in
-    let in-loop = at-job.before.before in
-    let s = entry in-loop in
-    rw at-job.job.ensures
-    (has_first s.pre.0 s.pre.1 (rw (back in-loop) at in-loop.before.loop.invariant))
+    let turn = c.before.before.before.before.before.before in
+    rw c.job-j.ensures (has_first c.requires.0 c.requires.1 (rw (back turn) at c.loop-i.invariant))
 
 -- the job's first line is no further down
-less : (c : tie.After-job invariant-loop decreases-loop)
-    → get_or (entry c.before.before).args.first.now c.job.result 0 - 1 < c.before.before.before.loop.i
+less : (c : tie.After-job-j invariant-loop decreases-loop)
+    → get_or c.args.first.now c.job-j.result 0 - 1 < c.loop-i.i
 less c =
-    let in-loop = c.before.before in
-    let s = entry in-loop in
-    rw c.job.ensures
-    (rw (← back in-loop) at
-    (goes_back s.pre.0 s.pre.1 (rw (back in-loop) at in-loop.before.loop.invariant)))
+    let turn = c.before.before in
+    rw c.job-j.ensures
+    (rw (← back turn) at (goes_back c.requires.0 c.requires.1 (rw (back turn) at c.loop-i.invariant)))
 
-cast-i-2 : tie.Need-overflow-cast-i-2 invariant-loop decreases-loop
-cast-i-2 c =
-    let at-job = c.before.before.before in
-    record { fits = omega (arith, less at-job, flag at-job.before.before) }
+cast-i : tie.Need-overflow_cast-i-then-none_lasts invariant-loop decreases-loop
+cast-i c =
+    let turn = c.before.before.before.before.before.before in
+    record { fits = omega (arith, less c.before.before.before.before, flag turn) }
 
-loop-again : tie.Need-loop-preserved invariant-loop decreases-loop
+loop-again : tie.Need-loop-i-preserved-then-none_lasts invariant-loop decreases-loop
 loop-again c =
-    let at_test = c.before.before in
-    let at-job = at_test.before in
-    let in-loop = at-job.before.before in
-    let s = entry in-loop in
-    let j = at-job.job.result in
-    let t = and_split (not (eqb j s.args.moved)) (eqb (get_or s.args.holdings.now j 0) empty)
-    (sym at_test.none-lasts.ensures ∙ c.before.if1.true) in
-    let other = eqb-false j s.args.moved (not-true (eqb j s.args.moved) t.0) in
-    let nothing = eqb-true (get_or s.args.holdings.now j 0) empty t.1 in
-    rw at-job.job.ensures
-    (past_job s.pre.0 s.pre.1 (rw (back in-loop) at in-loop.before.loop.invariant)
-    (rw at-job.job.ensures at other) (rw at-job.job.ensures at nothing))
+    let a = c.args in
+    let turn = c.before.before.before.before.before.before in
+    let j = c.job-j.result in
+    let t = and_split (not (eqb j a.moved)) (eqb (get_or a.holdings.now j 0) empty)
+    (sym c.none_lasts.ensures ∙ c.if-none_lasts.true) in
+    let other = eqb-false j a.moved (not-true (eqb j a.moved) t.0) in
+    let nothing = eqb-true (get_or a.holdings.now j 0) empty t.1 in
+    rw c.job-j.ensures
+    (past_job c.requires.0 c.requires.1 (rw (back turn) at c.loop-i.invariant)
+    (rw c.job-j.ensures at other) (rw c.job-j.ensures at nothing))
 
 -- ---- one line further back
 
-shared-slice-read-behind : tie.Need-shared-slice-read-behind invariant-loop decreases-loop
-shared-slice-read-behind c =
-    let at_plain = c.before.before.before.before.before in
-    let in-loop = at_plain.before.before.before.before.before.before.before.before in
-    omega (arith, in_plan in-loop, (entry in-loop).requires.0.room)
+bounds-sets-i : tie.Need-bounds-sets-i invariant-loop decreases-loop
+bounds-sets-i c =
+    omega (arith, c.loop-i.invariant.found.counted.in_plan, c.loop-i-test.true, c.requires.0.room)
 
-loop-again-2 : tie.Need-loop-preserved-2 invariant-loop decreases-loop
+loop-again-2 : tie.Need-loop-i-preserved invariant-loop decreases-loop
 unfolding empty
 loop-again-2 c =
-    let at_join = c.before in
-    let at-pass = at_join.before.before.before in
-    let at_plain = at-pass.before in
-    let at_next = at_plain.before.before in
-    let at-job = at_next.before.before.before.before in
-    let in-loop = at-job.before.before in
-    let l = in-loop.before.loop in
-    let s = entry in-loop in
-    let p = s.args.plan.now in
-    let counts = at_plain.plain.ensures
-    ∙ counts_as p s.args.again.now (l.i - 1) (s.pre.0.sound, s.pre.0.agains) (in_plan in-loop) in
-    one_gathered s.pre.0 (rw (back in-loop) at l.invariant) (rw counts at at-pass.pass-line.ensures)
-    at_next.choose.result (rw at-job.job.ensures at at_next.choose.ensures) _ at_join.join-row.ensures
+    let l = c.loop-i in
+    let one_back : l.i ≡ suc (l.i - 1) = omega (arith, c.loop-i-test.true) in
+    let inside : l.i - 1 < length c.args.plan.now =
+    omega (arith, l.invariant.found.counted.in_plan, c.loop-i-test.true) in
+    let counts = c.plain.ensures
+    ∙ counts_as c.args.plan.now c.args.again.now (l.i - 1) (c.requires.0.sound, c.requires.0.agains) inside in
+    one_gathered c.requires.0 (rw one_back at l.invariant) (rw counts at c.pass_line-passed.ensures)
+    c.choose-next.result (rw c.job-j.ensures at c.choose-next.ensures) _ c.join_row.ensures
 
 returns : tie.Need-returns invariant-loop decreases-loop
 returns c =
-    let l = c.before.loop in
-    let front : l.i ≡ 0 = omega (arith, c.loop-test.false) in
-    all_gathered c.before.before.before.before.before.before.requires.0 (rw front at l.invariant)
+    let l = c.loop-i in
+    let front : l.i ≡ 0 = omega (arith, c.loop-i-test.false) in
+    all_gathered c.requires.0 (rw front at l.invariant)
 
 pub gather_spec : {M : Type 1} → statement M
 gather_spec =
@@ -134,24 +114,24 @@ gather_spec =
     (λ c. search rules)
     (λ c. in_plan c.before)
     (λ c κs. search rules)
-    (λ c κs. of-job c)
+    (λ c κs. of_job c)
     (λ c. search rules)
     (λ c. search rules)
-    element-copy-out-i
+    bounds-first-j
     sub-i
-    cast-i-2
-    (λ c. less c.before.before.before)
+    cast-i
+    (λ c. less c.before.before.before.before)
     loop-again
     (λ c. search rules)
     (λ c κs. search rules)
-    (λ c. flag c.before.before.before.before.before.before)
+    (λ c. flag c.before.before.before.before.before.before.before)
     (λ c κs. search rules)
     (λ c κs. search rules)
     (λ c. search rules)
-    (λ c. flag c.before.before.before.before.before.before.before.before.before.before)
+    (λ c. flag c.before.before.before.before.before.before.before.before.before.before.before.before)
     (λ c κs. search rules)
     (λ c. search rules)
-    shared-slice-read-behind
+    bounds-sets-i
     (λ c. search rules)
     loop-again-2
     returns)

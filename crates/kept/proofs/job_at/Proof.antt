@@ -7,9 +7,9 @@ use Rattle.model.specs.Line.{job}
 use Rattle.kept.proofs.job_at.Statement.{statement}
 use Rattle.kept.proofs.job_at.Tie as tie
 
-returns-2 : tie.Need-returns-2
+returns-2 : tie.Need-returns
 unfolding job
-returns-2 c = sym (ap job (get_or-eq_default c.before.before.args.plan.now 0 (omega (arith, c.if1.false))))
+returns-2 c = sym (ap job (get_or-eq_default c.args.plan.now 0 (omega (arith, c.if-i-plan.false))))
 
 pub job_at_spec : {M : Type 1} → statement M
 job_at_spec =

@@ -16,31 +16,24 @@ use Rattle.kept.specs.Keeping.{rows_over, held_with, concerned_by, KeepsAs}
 use Rattle.kept.proofs.keep.Statement.{statement}
 use Rattle.kept.proofs.keep.Tie as tie
 
-gather-requires : tie.Need-gather-requires
-gather-requires c κs =
-    let at-job = c.before.before in
-    let s = at-job.before.before.before.before.before in (s.requires.0, rw at-job.job_at.ensures s.requires.1)
+gather-requires : tie.Need-gather-to_end-requires
+gather-requires c κs = (c.requires.0, rw c.job_at-moved.ensures c.requires.1)
 
-slice-aggregate-flagged-devices : tie.Need-slice-aggregate-flagged-devices
-slice-aggregate-flagged-devices c = sym (ap length c.before.before.gather.ensures.flags_are ∙ length_flags _)
+flags_whole : tie.Need-slice_bounds-flagged_devices-end-2
+flags_whole c = sym (ap length c.gather-to_end.ensures.flags_are ∙ length_flags _)
 
--- the held set has its place: the function's entry, from where it is read; it is written two calls later
-abbrev entry : tie.After-slice-known4 → tie.Start
-entry c =
-    let at-put = c.before.before.before in
-    let at-gather = at-put.before.before.before.before.before.before.before.before.before.before in
-    at-gather.before.before.before.before.before.before.before.before
+-- the held set has its place, where it is read and where it is written
+bounds-held-0 : tie.Need-bounds-held-0
+bounds-held-0 c = omega (arith, c.requires.3)
 
-slice-read-with-device : tie.Need-slice-read-with-device
-slice-read-with-device c = omega (arith, (entry c).requires.3)
-
-slice-write-held : tie.Need-slice-write-held
-slice-write-held c = omega (arith, (entry c.before.before).requires.3)
+bounds-held-0-2 : tie.Need-bounds-held-0-2
+bounds-held-0-2 c = omega (arith, c.requires.3)
 
 -- the calls, one after the other
 kept : (p starter t : List ℕ) (last old device : ℕ) (rs held : List ℕ) {to_end way one other both concerned : ℕ}
     {made flags rs' : List ℕ} {without with : ℕ} → GathersAs p t to_end made flags
-    → way ≡ flagged_by p flags (way_by p t starter last) empty → one ≡ only_of devices old → other ≡ only_of devices device
+    → way ≡ flagged_by p flags (way_by p t starter last) empty → one ≡ only_of devices old
+    → other ≡ only_of devices device
     → both ≡ union other way → concerned ≡ union one both → rs' ≡ rows_over concerned made rs
     → without ≡ held_with (get_or held 0 0) to_end old → with ≡ held_with without to_end device
     → KeepsAs p starter t last old device rs held rs' (set held 0 with)
@@ -52,20 +45,11 @@ kept p starter t last old device rs held g e1 e2 e3 e4 e5 e6 e7 e8 = record {
 
 returns : tie.Need-returns
 returns c =
-    let at_one = c.before in
-    let at-put = at_one.before.before.before.before in
-    let at_all = at-put.before.before.before in
-    let at_both = at_all.before in
-    let at_other = at_both.before in
-    let at_old = at_other.before in
-    let at-way = at_old.before in
-    let at-gather = at-way.before.before.before in
-    let s = at-gather.before.before.before.before.before.before.before.before in
-    let a = s.args in
+    let a = c.args in
     kept a.plan.now a.starter.now a.sets.now a.last a.old a.device a.rows.now a.held.now
-    at-gather.gather.ensures at-way.flagged-devices.ensures at_old.only.ensures at_other.only2.ensures
-    at_both.union.ensures at_all.union2.ensures at-put.put-rows.ensures at_one.with-device.ensures
-    c.with-device2.ensures
+    c.gather-to_end.ensures c.flagged_devices-on_way.ensures c.only.ensures c.only-2.ensures
+    c.union.ensures c.union-concerned.ensures c.put_rows.ensures c.with_device.ensures
+    c.with_device-2.ensures
 
 pub keep_spec : {M : Type 1} → statement M
 keep_spec =
@@ -73,17 +57,17 @@ keep_spec =
     (tie.spec
     (λ c κs. search rules)
     gather-requires
-    slice-aggregate-flagged-devices
+    flags_whole
     (λ c κs. search rules)
     (λ c κs. search rules)
     (λ c κs. search rules)
     (λ c κs. search rules)
     (λ c κs. search rules)
     (λ c κs. search rules)
-    slice-read-with-device
+    bounds-held-0
     (λ c κs. search rules)
     (λ c κs. search rules)
-    slice-write-held
+    bounds-held-0-2
     (λ c. search rules)
     (λ c. search rules)
     returns)

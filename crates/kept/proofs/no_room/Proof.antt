@@ -12,54 +12,45 @@ use Rattle.plan.proofs.Answers.{told, untold}
 use Rattle.kept.proofs.no_room.Statement.{statement}
 use Rattle.kept.proofs.no_room.Tie as tie
 
-abbrev entry : tie.After-enum-told → tie.Start
-entry c = c.before.before.before.before.before.before
-
-no-fault : (c : tie.After-enum-told) → fault board (entry c).args.plan.now ≡ none
-no-fault c =
-    untold (fault board (entry c).args.plan.now) (sym c.enum_told.given.1 ∙ c.before.before.fault.ensures)
+-- where the scan does not refuse
+no_fault_lem : (c : tie.In_default) → fault board c.args.plan.now ≡ none
+no_fault_lem c = untold (fault board c.args.plan.now) (sym c.in_default.is ∙ c.fault.ensures)
 
 -- 2 to 7
-returns : tie.Need-returns
+returns : tie.Need-returns-in-Refused
 returns c =
-    let at-fault = c.before.before.before in
-    let p = at-fault.before.before.before.before.args.plan.now in
-    let r = c.before.r.given.0.0 in
-    rw (told (fault board p) r (sym c.before.r.given.1 ∙ at-fault.fault.ensures))
+    let p = c.args.plan.now in
+    rw (told (fault board p) c.in-Refused.r (sym c.in-Refused.is ∙ c.fault.ensures))
 
-length-fits : tie.Need-overflow-cast-t9
-length-fits c =
-    let told = c.before in
-    omega (arith, ((no_fault_exactly board (entry told).args.plan.now).0 (no-fault told)).few)
+length_fits : tie.Need-overflow_cast-result
+length_fits c = omega (arith, ((no_fault_exactly board c.args.plan.now).0 (no_fault_lem c.before)).few)
 
 -- 11
-returns-2 : tie.Need-returns-2
+returns-2 : tie.Need-returns-then-sets-n
 returns-2 c =
-    let a = (entry c.before).args in
-    rw (no-fault c.before, lt-ltb (length a.sets.now) (length a.plan.now) c.if1.true)
+    let a = c.args in
+    rw (no_fault_lem c.before, lt-ltb (length a.sets.now) (length a.plan.now) c.if-sets-n.true)
 
-returns-3 : tie.Need-returns-3
+returns-3 : tie.Need-returns-then-rows-lt-EACH_DEVICE
 returns-3 c =
-    let at_told = c.before.before in
-    let a = (entry at_told).args in
+    let a = c.args in
     rw (
-      no-fault at_told,
-      le-ltb (length a.sets.now) (length a.plan.now) c.before.if1.false,
-      lt-ltb (length a.rows.now) devices c.if2.true,
+      no_fault_lem c.before.before,
+      le-ltb (length a.sets.now) (length a.plan.now) c.if-sets-n.false,
+      lt-ltb (length a.rows.now) devices c.if-rows-lt-EACH_DEVICE.true,
     )
 
-returns-4 : tie.Need-returns-4
+returns-4 : tie.Need-returns
 returns-4 c =
-    let at_told = c.before.before in
-    let a = (entry at_told).args in
+    let a = c.args in
     rw (
-      no-fault at_told,
-      le-ltb (length a.sets.now) (length a.plan.now) c.before.if1.false,
-      le-ltb (length a.rows.now) devices c.if2.false,
+      no_fault_lem c.before.before,
+      le-ltb (length a.sets.now) (length a.plan.now) c.if-sets-n.false,
+      le-ltb (length a.rows.now) devices c.if-rows-lt-EACH_DEVICE.false,
     )
 
 pub no_room_spec : {M : Type 1} → statement M
 no_room_spec =
     tie.close
-    (tie.spec (λ c κs. search rules) (λ c. search rules) returns (λ c. search rules) length-fits returns-2 returns-3
+    (tie.spec (λ c κs. search rules) (λ c. search rules) returns (λ c. search rules) length_fits returns-2 returns-3
     returns-4)

@@ -13,14 +13,14 @@ use Rattle.kept.proofs.Lists.{PutTo, none_put, still_lent, one_put, all_put, all
 use Rattle.kept.proofs.put_rows.Statement.{statement}
 use Rattle.kept.proofs.put_rows.Tie as tie
 
-abbrev invariant-loop : tie.invariant-loop
+abbrev invariant-loop : tie.invariant-loop-d
 invariant-loop these made rows₀ d₀ rows d = PutTo (new_rows these made rows₀) rows₀ rows d
 
-abbrev decreases-loop : tie.decreases-loop
+abbrev decreases-loop : tie.decreases-loop-d
 decreases-loop these made rows₀ d₀ rows d = devices - d
 
-loop-holds : tie.Need-loop-init invariant-loop decreases-loop
-loop-holds c = let a = c.before.args in none_put (new_rows a.these a.made.now a.rows.now) a.rows.now
+loop-holds : tie.Need-loop-d-init invariant-loop decreases-loop
+loop-holds c = let a = c.args in none_put (new_rows a.these a.made.now a.rows.now) a.rows.now
 
 -- what the code puts is the new row
 put_on : (these : ℕ) (made lent : List ℕ) {out : List ℕ} {d r : ℕ} {b : Bool} → devices ≤ length lent
@@ -32,21 +32,18 @@ put_on these made lent {out} {d} room m h e q =
     let in_lent : d < length lent = omega arith in
     one_put m in_new in_lent (q ∙ rw (e, still_lent m in_new in_lent) (sym (new_row these made lent d h)))
 
-loop-again : tie.Need-loop-preserved invariant-loop decreases-loop
+loop-again : tie.Need-loop-d-preserved invariant-loop decreases-loop
 loop-again c =
-    let at-member = c.before.before.before in
-    let at-loop = at-member.before.before in
-    let start = at-loop.before.before in
-    let a = start.args in
-    put_on a.these a.made.now a.rows.now start.requires at-loop.loop.invariant
-    at-member.before.loop-test.true at-member.member.ensures c.choose.ensures
+    let a = c.args in
+    put_on a.these a.made.now a.rows.now c.requires c.loop-d.invariant
+    c.loop-d-test.true c.member.ensures c.choose.ensures
 
 returns : tie.Need-returns invariant-loop decreases-loop
 unfolding rows_over
 returns c =
-    let a = c.before.before.before.args in
-    all_put c.before.loop.invariant
-    (omega (arith, c.loop-test.false, all_new a.these a.made.now a.rows.now))
+    let a = c.args in
+    all_put c.loop-d.invariant
+    (omega (arith, c.loop-d-test.false, all_new a.these a.made.now a.rows.now))
 
 pub put_rows_spec : {M : Type 1} → statement M
 put_rows_spec =

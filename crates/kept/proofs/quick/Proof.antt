@@ -5,18 +5,15 @@ use Rattle.kept.proofs.Deciding.{quick_refused, quick_decided}
 use Rattle.kept.proofs.quick.Statement.{statement}
 use Rattle.kept.proofs.quick.Tie as tie
 
-returns : tie.Need-returns
+returns : tie.Need-returns-in-Refused
 returns c =
-    let at-walk = c.before.before.before in
-    let a = at-walk.before.before.before.args in
-    quick_refused a.plan.now a.rows.now (sym c.before.r.given.1 ∙ at-walk.held-to-end.ensures)
+    let a = c.args in
+    quick_refused a.plan.now a.rows.now (sym c.in-Refused.is ∙ c.held_to_end.ensures)
 
-returns-2 : tie.Need-returns-2
+returns-2 : tie.Need-returns-in-Made
 returns-2 c =
-    let found = c.before.before in
-    let at-walk = found.before.before in
-    let a = at-walk.before.before.before.args in
-    quick_decided a.plan.now a.rows.now (sym found.held.given.1 ∙ at-walk.held-to-end.ensures)
+    let a = c.args in
+    quick_decided a.plan.now a.rows.now (sym c.in-Made.is ∙ c.held_to_end.ensures)
     c.decide.ensures
 
 pub quick_spec : {M : Type 1} → statement M

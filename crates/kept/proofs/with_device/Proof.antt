@@ -9,9 +9,9 @@ unfolding held_with
 returns c =
     cc (
       c.union.ensures,
-      c.before.both.ensures,
-      c.before.before.without.ensures,
-      c.before.before.before.only.ensures,
+      c.both.ensures,
+      c.without.ensures,
+      c.only-one.ensures,
     )
 
 pub with_device_spec : {M : Type 1} → statement M

@@ -28,7 +28,8 @@ decreases-loop plan again₀ i device stop old fresh deep₀ k₀ again deep k =
 
 -- what tells that the old device is counted, as the code works it out
 fresh_is : (p again : List ℕ) (i device old : ℕ) → again ≡ again_flags p → i < max_lines → old ≡ device_at p i
-    → (not (eqb (get_or again i 0) 1) && not (eqb old device)) ≡ (not (again_at p i) && not (eqb (device_at p i) device))
+    → (not (eqb (get_or again i 0) 1) && not (eqb old device))
+    ≡ (not (again_at p i) && not (eqb (device_at p i) device))
 fresh_is p again i device old e h o = rw (o, again_is p again i e h)
 
 -- the operand of a take is its device

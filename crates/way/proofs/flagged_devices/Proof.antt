@@ -11,7 +11,8 @@ use Rattle.way.proofs.flagged_devices.Tie as tie
 
 abbrev invariant-loop : tie.invariant-loop-next
 invariant-loop plan sets i starter flags found₀ next₀ found next = Within plan sets next
-    × (flagged_by plan flags (way_by plan sets starter i) empty ≡ flagged_by plan flags (way_from plan starter next) found)
+    × (flagged_by plan flags (way_by plan sets starter i) empty
+    ≡ flagged_by plan flags (way_from plan starter next) found)
 
 abbrev decreases-loop : tie.decreases-loop-next
 decreases-loop plan sets i starter flags found₀ next₀ found next = next

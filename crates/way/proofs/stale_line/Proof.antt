@@ -12,7 +12,8 @@ use Rattle.way.proofs.stale_line.Tie as tie
 
 abbrev invariant-loop : tie.invariant-loop-next
 invariant-loop plan again sets i first starter next₀ next = Within plan sets next
-    × (stale_of plan again first sets starter i ≡ first_of (stale_by plan again first sets) (way_from plan starter next))
+    × (stale_of plan again first sets starter i
+    ≡ first_of (stale_by plan again first sets) (way_from plan starter next))
 
 abbrev decreases-loop : tie.decreases-loop-next
 decreases-loop plan again sets i first starter next₀ next = next
