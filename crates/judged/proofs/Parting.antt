@@ -83,9 +83,9 @@ module _ (s l : List ℕ) (ls : List (List ℕ)) (e : lines_of s ≡ l ∷ ls) w
   short : length l ≤ length s
   short = omega (arith, ap length whole, length-append l (flatten ls))
 
-  parts_first : parts_first s ≡ same l parting_line
+  parts_first_lem : parts_first s ≡ same l parting_line
   unfolding parts_first parting_line same has head_d
-  parts_first = tests_agree (parts_first s) (same l parting_line) to from
+  parts_first_lem = tests_agree (parts_first s) (same l parting_line) to from
     where
       to : parts_first s ≡ true → same l parting_line ≡ true
       to h =
@@ -105,7 +105,7 @@ module _ (s l : List ℕ) (ls : List (List ℕ)) (e : lines_of s ≡ l ∷ ls) w
       → (plan_part (lines_of s) ≡ []) × (entry_part (lines_of s) ≡ lines_of (drop (length l) s))
   unfolding plan_part entry_part
   parted h =
-      let p : same l parting_line ≡ true = sym parts_first ∙ h in
+      let p : same l parting_line ≡ true = sym parts_first_lem ∙ h in
       (rw (e, p, plan_part), rw (e, p, entry_part) (sym (lines_past s l ls e)))
 
   -- it does not: it is the plan's, and what comes after it decides
@@ -114,7 +114,7 @@ module _ (s l : List ℕ) (ls : List (List ℕ)) (e : lines_of s ≡ l ∷ ls) w
       × (entry_part (lines_of s) ≡ entry_part (lines_of (drop (length l) s)))
   unfolding plan_part entry_part
   joined h =
-      let p : same l parting_line ≡ false = sym parts_first ∙ h in
+      let p : same l parting_line ≡ false = sym parts_first_lem ∙ h in
       let r = sym (lines_past s l ls e) in
       (rw (e, p, plan_part, ← r), rw (e, p, entry_part, ← r))
 

@@ -1,5 +1,7 @@
 // Judging a text (02, request 1): a plan, the line --, and an order from elsewhere, one entry a line. What is printed
 // for it goes into a lent buffer: the line `legal`, or the line of the refusal.
+#![tactic(auto)]
+
 ghost use Rattle.std.specs.Prelude.{◌≤◌, ◌<◌, ◌≡◌, length, drop};
 ghost use Rattle.model.specs.Board.{board};
 ghost use Rattle.model.specs.Line.{max_lines};
