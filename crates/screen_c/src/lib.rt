@@ -1,5 +1,5 @@
-// The screens' entry for callers in C and Rust (01, "Plans with their verdicts", its last part). It stands apart from the
-// library `screen`, which prints, since a crate is a library for other crates or an archive for C, and not both.
+// The screens' entry for callers in C and Rust (01, "Plans with their verdicts", its last part). It stands apart from
+// the library `screen`, which prints, since a crate is a library for other crates or an archive for C, and not both.
 #![tactic(auto)]
 
 ghost use Rattle.model.specs.Board.{board};
