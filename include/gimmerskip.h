@@ -4,8 +4,8 @@
  *
  * The archives are for x86-64 Linux, with the calls of the System V ABI. Link libscreen.a for gimmerskip_order,
  * libreader.a for gimmerskip_line and libport.a for the other nine; each stands by itself. The command
- * `./make-archives` leaves them in target/staticlib, and `install-archives PREFIX` puts them with this header and a file
- * for pkg-config under a prefix. Of other libraries they need `memcpy` and `memset` alone, and the only names they
+ * `./make-archives` leaves them in target/staticlib, and `install-archives PREFIX` puts them with this header and a
+ * file for pkg-config under a prefix. Of other libraries they need `memcpy` and `memset` alone, and the only names they
  * define for others are those declared here. No entry keeps anything of what it is lent, and none has a memory of its
  * own, so that calls on several threads meet only in what they are lent.
  *
