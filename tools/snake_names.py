@@ -132,7 +132,10 @@ class Turner:
 
     def turn_code(self, code, local, other):
         out, last = [], 0
+        quoted = [it.span() for it in re.finditer(r'"(?:[^"\\\\]|\\\\.)*"', code)]
         for m in WORD.finditer(code):
+            if any(a <= m.start() < b for a, b in quoted):
+                continue
             w = m.group(0)
             before = code[m.start() - 1] if m.start() else ""
             new = self.turn_word(w, before, local, other)

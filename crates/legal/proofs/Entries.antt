@@ -10,7 +10,7 @@ use native.Mathlib.Numerals.{add-one}
 use native.Mathlib.Omega.{arith}
 use lib.Dec.{eqb, ltb}
 use lib.ListN.{length, get_or, set}
-use borrow.Author.Tests.{eqb-true, eqb-false, ltb-false}
+use borrow.Author.Tests.{eqb-true, eqb-false, ltb-false, not-true, not-false}
 use Rattle.model.specs.Sets.{empty, member}
 use Rattle.model.specs.Line.{Settings, job, kind, operand, is_take, is_give, is_start, starts, is_line, at}
 use Rattle.model.specs.Line.{max_job, max_lines}
@@ -103,6 +103,12 @@ module _ (p : List ℕ) (i : ℕ) where
   passed_counted next first n =
       rw (plain_job (again_at p i) (at p i), plain_start p i, plain_operand (again_at p i) (at p i))
 
+pub test_passed : (r t : Bool) → r ≡ t → not r ≡ false → t ≡ true
+test_passed r t e n = sym e ∙ not-false r n
+
+pub test_failed : (r t : Bool) → r ≡ t → not r ≡ true → t ≡ false
+test_failed r t e n = sym e ∙ not-true r n
+
 -- ---- the places that a line changes
 
 -- it is the one that the code chooses
@@ -131,6 +137,7 @@ starts_no_other l j a h q = go (is_start l) refl q
 
 -- ---- the set of the device that a line takes or gives
 
-pub handled : (l : ℕ) (t g : Bool) (o s : ℕ) → s ≡ cond (t || g) (only_of devices o) empty → t ≡ is_take l → g ≡ is_give l
+pub handled : (l : ℕ) (t g : Bool) (o s : ℕ) → s ≡ cond (t || g) (only_of devices o) empty → t ≡ is_take l
+    → g ≡ is_give l
     → o ≡ operand l → s ≡ cond (is_take l || is_give l) (only_of devices (operand l)) empty
 handled l t g o s e a b c = e ∙ rw (a, b, c)

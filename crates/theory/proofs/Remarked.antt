@@ -523,7 +523,8 @@ module _ (p : List ℕ) (rules : Rules p) (i n : ℕ) (taken : is_take (at p i) 
         rw (eqb-true (operand l) (device_at p i) v.1) at (gives_last g) in
         omega (arith, opened.counts u.0, times_some (device_at p i) (since p i n) o)
 
-module _ (p : List ℕ) (i e n : ℕ) (taken : is_take (at p i) ≡ true) (small : e < held_from) (w : Within p i (suc n)) where
+module _ (p : List ℕ) (i e n : ℕ) (taken : is_take (at p i) ≡ true) (small : e < held_from)
+    (w : Within p i (suc n)) where
   -- the lines under the take are as they were
   same_under : (k : ℕ) → i < k → k ≤ suc i + n → at (edited p i e) k ≡ at p k
   same_under k a b = (edits p i e taken small).elsewhere k (omega arith) (λ h. omega (arith, w.unmated k h))
@@ -546,7 +547,8 @@ module _ (p : List ℕ) (i e n : ℕ) (taken : is_take (at p i) ≡ true) (small
         held_at_take p i e taken small,
       )
 
-module _ (p : List ℕ) (rules : Rules p) (i e : ℕ) (taken : is_take (at p i) ≡ true) (small : e < held_from) (fresh : Bool)
+module _ (p : List ℕ) (rules : Rules p) (i e : ℕ) (taken : is_take (at p i) ≡ true) (small : e < held_from)
+    (fresh : Bool)
     (is_fresh : fresh ≡ (not (again_at p i) && not (eqb (device_at p i) e))) (n deep : ℕ) (w : Within p i (suc n))
     (opened : Opened p i fresh n deep) where
   is_fresh' : fresh ≡ (not (has (device_at p i) (held_there p i)) && not (eqb (device_at p i) e))
@@ -677,7 +679,8 @@ unfolding has
 has_over x y ys h = go (test (eqb x y))
   where
     go : (eqb x y ≡ true) ⊎ (eqb x y ≡ false) → has x (y ∷ ys) ≡ has x ys
-    go (inl e) = let z = eqb-true x y e in subst (λ (v : ℕ). has v (y ∷ ys) ≡ has v ys) (sym z) (has_head y ys ∙ sym (h (sym z)))
+    go (inl e) = let z = eqb-true x y e in
+        subst (λ (v : ℕ). has v (y ∷ ys) ≡ has v ys) (sym z) (has_head y ys ∙ sym (h (sym z)))
     go (inr e) = rw e
 
 module _ (p : List ℕ) (rules : Rules p) (j x n : ℕ) (of_job : job (at p n) ≡ j)

@@ -1,4 +1,4 @@
--- `line::is_line` meets its contract: at each return the tests that led there pick the case of `isStep`.
+-- `line::is_line` meets its contract: at each return the tests that led there pick the case of `is_line`.
 use Prim.Native.Nat.{◌+◌, ◌*◌, ◌%◌}
 use mathlib.Core.Path.{◌≡◌, sym, ◌∙◌}
 use native.Mathlib.Omega.{arith}
