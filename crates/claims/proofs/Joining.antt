@@ -9,7 +9,8 @@ use lib.Dec.{eqb}
 use lib.ListN.{get_or, drop}
 use Rattle.model.specs.Sets.{empty, only, union, union_of}
 use Rattle.sets.specs.Only.{only_of}
-use Rattle.model.specs.Line.{Settings, job, operand, opens, is_take, is_give, is_start, device_of, is_line, at, first_line}
+use Rattle.model.specs.Line.{Settings, job, operand, opens, is_take, is_give, is_start, device_of, is_line, at}
+use Rattle.model.specs.Line.{first_line}
 use Rattle.model.specs.Mate.{takes_at, device_at}
 use Rattle.model.specs.Claims.{successors, own, joined, beyond}
 use Rattle.theory.specs.Outer.{again_at, plain_at}

@@ -31,7 +31,8 @@ module _ (f : ℕ → List ℕ) where
       unfolding flat_map
       pieces_more =
           rw (add-one i, take-suc xs i 0 h)
-          (flat_append (take i xs) (get_or xs i 0 ∷ []) ∙ ap (λ (l : List ℕ). pieces ++ l) (append-nil (f (get_or xs i 0))))
+          (flat_append (take i xs) (get_or xs i 0 ∷ [])
+          ∙ ap (λ (l : List ℕ). pieces ++ l) (append-nil (f (get_or xs i 0))))
 
       pieces_length : length pieces + length (f (get_or xs i 0)) ≤ length (flat_map f xs)
       pieces_length =

@@ -131,6 +131,7 @@ starts_no_other l j a h q = go (is_start l) refl q
 
 -- ---- the set of the device that a line takes or gives
 
-pub handled : (l : ℕ) (t g : Bool) (o s : ℕ) → s ≡ cond (t || g) (only_of devices o) empty → t ≡ is_take l → g ≡ is_give l
+pub handled : (l : ℕ) (t g : Bool) (o s : ℕ) → s ≡ cond (t || g) (only_of devices o) empty → t ≡ is_take l
+    → g ≡ is_give l
     → o ≡ operand l → s ≡ cond (is_take l || is_give l) (only_of devices (operand l)) empty
 handled l t g o s e a b c = e ∙ rw (a, b, c)

@@ -158,7 +158,8 @@ module _ {S : Settings} {p : List ℕ} (w : WellFormed S p) where
               clash (has k done) (after k (omega arith) (earlier_precedes p k x below same))
               (undone k (omega arith) (omega (arith, f.2, same_stand k x same)))
 
-          go : (stands_at x ≤ x) ⊎ (x < stands_at x) → (stands_at x ≤ suc x) ⊎ (suc x < stands_at x) → stands_at x ≡ suc x
+          go : (stands_at x ≤ x) ⊎ (x < stands_at x) → (stands_at x ≤ suc x) ⊎ (suc x < stands_at x)
+              → stands_at x ≡ suc x
           go (inl l) m = absurd (higher l)
           go (inr l) (inl m) = omega arith
           go (inr l) (inr m) = clash (has x done) (is_done_lem x line m) un
@@ -274,7 +275,8 @@ module _ {S : Settings} {p : List ℕ} (w : WellFormed S p) where
             go (inr l) m = clash (starts (at p x) (job (at p i))) a (w.rules.start_once k x (job (at p i)) l b)
             go (inl l) (inr m) = clash (starts (at p k) (job (at p i))) b (w.rules.start_once x k (job (at p i)) m a)
 
-        started_on : (i k : ℕ) → i < length p → 1 ≤ get_or after (job (at p i)) 0 → starts (at p k) (job (at p i)) ≡ true
+        started_on : (i k : ℕ) → i < length p → 1 ≤ get_or after (job (at p i)) 0
+            → starts (at p k) (job (at p i)) ≡ true
             → Now i → has k more ≡ true
         started_on i k h l b (begins a e) = rw (one_start i k a b) (more_new x done)
         started_on i k h l b (goes_on q e) = more_old k x done (s.started x k line (omega arith) (rw q at b))

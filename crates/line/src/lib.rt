@@ -4,7 +4,8 @@
 #![tactic(auto)]
 
 ghost use Rattle.std.specs.Prelude.{◌≡◌, cond, ◌&&◌, ◌+◌, ◌*◌, ◌%◌, ◌^◌, ◌≤◌, ◌<◌};
-ghost use Rattle.model.specs.Line.{pack, job, kind, operand, opens, is_held, is_take, is_give, is_start, device_of, is_line};
+ghost use Rattle.model.specs.Line.{pack, job, kind, operand, opens, is_held, is_take, is_give, is_start, device_of};
+ghost use Rattle.model.specs.Line.{is_line};
 ghost use Rattle.model.specs.Line.{verb_of, pack_verb, line_fits};
 ghost use Rattle.model.specs.Board.{board_at};
 ghost use Rattle.theory.specs.Outer.{plain};

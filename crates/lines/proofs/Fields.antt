@@ -172,7 +172,8 @@ digits_valued end v i (b ∷ s) h =
     go true d u p q ih = let e : suc i ≡ i + 1 = omega arith in rw (le-leb v 255 h, e)
     go false false u p q ih = sym (valued_wrong v i b (before_end end s) p)
     go false true false p q ih =
-        rw q (sym (valued_more v i b (before_end end s) p ∙ valued_over w (suc i) (before_end end s) (leb-false w 255 q)))
+        rw q (sym (valued_more v i b (before_end end s) p
+        ∙ valued_over w (suc i) (before_end end s) (leb-false w 255 q)))
     go false true true p q ih = rw q (ih (leb-true w 255 q) ∙ sym (valued_more v i b (before_end end s) p))
 
 -- ---- the field by its first byte

@@ -100,7 +100,8 @@ module _ (s : List ℕ) (bytes : (i : ℕ) → get_or s i 0 < 256) where
       begins_byte x a w s (leb-true 1 x q.0)
       ∙ rw (
         begins_number w n (suc a) r.1 (omega arith),
-        parts_same (as_number (take n (drop (suc a) s)) % reach (length w)) (as_number w % reach (length w)) b x (bytes a)
+        parts_same (as_number (take n (drop (suc a) s)) % reach (length w)) (as_number w % reach (length w)) b x
+            (bytes a)
             (ltb-true x 256 q.1),
         number_front n a s,
         reach_mod (length w) (as_number (take n (drop (suc a) s))) b (bytes a),

@@ -175,7 +175,8 @@ pub record Starred : Type 0 where
   pub n_table : tabled plan_n ≡ (0 ∷ 7 ∷ []) ∷ (41 ∷ 41 ∷ 9 ∷ 1 ∷ 1 ∷ 0 ∷ 8 ∷ 99 ∷ []) ∷ []
 
 pub starred : Starred
-unfolding tabled verdict_on moved accepted refused lent plan_a plan_b plan_c plan_d plan_e plan_f plan_g plan_h plan_i plan_j plan_k
+unfolding tabled verdict_on moved accepted refused lent plan_a plan_b plan_c plan_d plan_e plan_f plan_g plan_h plan_i
+    plan_j plan_k
     plan_l plan_m plan_m' plan_n
 starred =
     record {

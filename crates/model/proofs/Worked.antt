@@ -303,7 +303,8 @@ pub record Worked : Type 0 where
   pub d_judged : map (judged_of plan_d)
       ((1 ∷ 2 ∷ 3 ∷ 4 ∷ 5 ∷ 6 ∷ 7 ∷ 8 ∷ 9 ∷ []) ∷ (1 ∷ 6 ∷ 7 ∷ 8 ∷ 9 ∷ 2 ∷ 3 ∷ 4 ∷ 5 ∷ [])
       ∷ (1 ∷ 6 ∷ 7 ∷ 8 ∷ 2 ∷ 9 ∷ 3 ∷ 4 ∷ 5 ∷ []) ∷ []) ≡ replicate 3 (0 ∷ [])
-  pub nothing_judged : map (judged_of []) ([] ∷ (1 ∷ []) ∷ (0 ∷ []) ∷ []) ≡ (0 ∷ []) ∷ (15 ∷ 1 ∷ []) ∷ (15 ∷ 1 ∷ []) ∷ []
+  pub nothing_judged : map (judged_of []) ([] ∷ (1 ∷ []) ∷ (0 ∷ []) ∷ [])
+      ≡ (0 ∷ []) ∷ (15 ∷ 1 ∷ []) ∷ (15 ∷ 1 ∷ []) ∷ []
   -- a device taken while it is held: for good, until its give, or crosswise, where nothing can follow any more. This
   -- excludes a judge that asks for starts and the order of each job's lines alone.
   pub held_judged : map (judged_of plan_a) ((1 ∷ 2 ∷ 3 ∷ 4 ∷ 5 ∷ 6 ∷ []) ∷ (1 ∷ 4 ∷ 5 ∷ 2 ∷ 3 ∷ 6 ∷ []) ∷ [])
@@ -374,8 +375,10 @@ pub record Worked : Type 0 where
   pub broken_plan : judged_text "1\ttake\t3\n1\tgive\t2\n--\n0\n" ≡ bytes "refused\t7\t2\n"
 
 pub worked : Worked
-unfolding bytes values_of fault_of fault_after read_into written_into tabled_into ordered_into order_of shown_in next_at moved_with
-    judged_of judged_text judged_after judge_printed line_from text_a print_a table_a wide wide_text not_lines plan_ring plan_four
+unfolding bytes values_of fault_of fault_after read_into written_into tabled_into ordered_into order_of shown_in next_at
+    moved_with
+    judged_of judged_text judged_after judge_printed line_from text_a print_a table_a wide wide_text not_lines plan_ring
+    plan_four
     plan_waits plan_twice plan_under plan_a plan_d plan_f plan_j plan_k plan_m moved held
 worked =
     record {

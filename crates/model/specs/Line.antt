@@ -1,7 +1,8 @@
 -- 01, "The plan as text" (its table and limits) and "Packed", and the held lines of 02, request 5: a line as its packed
 -- number. A plan is the list of its packed numbers. Positions count from 0; the number of a line is its position plus
 -- one.
-use Rattle.std.specs.Prelude.{ℕ, suc, ◌+◌, ◌-◌, ◌*◌, ◌/◌, ◌%◌, Bool, true, false, cond, not, ◌&&◌, ◌||◌, List, [], ◌∷◌, map, eqb, leb, ltb, get_or}
+use Rattle.std.specs.Prelude.{ℕ, suc, ◌+◌, ◌-◌, ◌*◌, ◌/◌, ◌%◌, Bool, true, false, cond, not, ◌&&◌, ◌||◌, List, [], ◌∷◌}
+use Rattle.std.specs.Prelude.{map, eqb, leb, ltb, get_or}
 use Rattle.model.specs.Lists.{any}
 
 -- the limits

@@ -2,7 +2,8 @@
 -- of held lines (02, request 5). The rule that jobs are started is the morning's alone, and stands in `WellFormed`.
 -- Then "Refusal numbers", 2 to 7, 16 and 17: each fault of a plan with its place, in the order of the tests. (That a
 -- plan has no fault exactly if it is WellFormed is shown in `theory`.)
-use Rattle.std.specs.Prelude.{ℕ, zero, suc, ◌<◌, ◌≤◌, Bool, true, false, cond, not, ◌&&◌, ◌||◌, ◌⊎◌, ◌≢◌, ◌≡◌, eqb, leb, length}
+use Rattle.std.specs.Prelude.{ℕ, zero, suc, ◌<◌, ◌≤◌, Bool, true, false, cond, not, ◌&&◌, ◌||◌, ◌⊎◌, ◌≢◌, ◌≡◌, eqb, leb}
+use Rattle.std.specs.Prelude.{length}
 use mathlib.Core.List.{List, [], ◌∷◌, tail, head_d}
 use Rattle.std.proofs.Math.Option.{Option, none, some}
 use Rattle.model.specs.Lists.{up_from, positions, any, first_of}
@@ -79,7 +80,8 @@ late b l = any (λ q. (eqb (job q) (job l) && not (is_held q)) || starts q (job 
 
 -- the verb's own rule: 5, as far as the lines before tell; 7; 16, then 17
 unfoldable pub verb_fault : List ℕ → ℕ → Option Refusal
-unfolding first_refusal refuse_if line_number is_start is_give is_held operand device_of job any starts held_by is_last holds
+unfolding first_refusal refuse_if line_number is_start is_give is_held operand device_of job any starts held_by is_last
+    holds
     late
 verb_fault b l =
     let n : ℕ = line_number (length b) in

@@ -17,7 +17,8 @@ unfolding again_flags
 again_flag_lem p k h = get_or_up_from (again_flag p) 0 max_lines k h ∙ ap (again_flag p) (omega arith)
 
 -- a flag is 1 exactly at a line that takes again or gives such a take back
-pub again_is : (p again : List ℕ) (k : ℕ) → again ≡ again_flags p → k < max_lines → eqb (get_or again k 0) 1 ≡ again_at p k
+pub again_is : (p again : List ℕ) (k : ℕ) → again ≡ again_flags p → k < max_lines
+    → eqb (get_or again k 0) 1 ≡ again_at p k
 unfolding again_flag
 again_is p again k e h = rw (e, again_flag_lem p k h) (go (again_at p k))
   where

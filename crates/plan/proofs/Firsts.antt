@@ -1,6 +1,7 @@
 -- What the list of first lines says of a job that has a line: the number of its lowest. The order handed out and the
 -- judge of an order both read off it where a started job begins.
-use Rattle.std.proofs.Common.{◌≡◌, ℕ, suc, ◌<◌, ◌≤◌, Bool, true, false, eqb, ◌⊎◌, List, [], ◌∷◌, map, length, get_or, ap, ◌∙◌, inl, inr, arith}
+use Rattle.std.proofs.Common.{◌≡◌, ℕ, suc, ◌<◌, ◌≤◌, Bool, true, false, eqb, ◌⊎◌, List, [], ◌∷◌, map, length, get_or}
+use Rattle.std.proofs.Common.{ap, ◌∙◌, inl, inr, arith}
 use Rattle.model.specs.Lists.{has}
 use Rattle.model.specs.Line.{job, at, first_line, line_number, max_job}
 use Rattle.theory.proofs.Lists.{has_none, has_cases, has_suc}

@@ -1,5 +1,6 @@
 -- The flags of the lines that take again, line by line (02, request 2).
-use Rattle.std.proofs.Common.{◌≡◌, ℕ, suc, ◌<◌, ◌≤◌, Bool, true, false, cond, ◌⊎◌, List, map, length, get_or, set, sym, refl, ap, ◌∙◌, inl, inr, arith, length-set, get_or-set_other, get_or-set_same, ext_get_or}
+use Rattle.std.proofs.Common.{◌≡◌, ℕ, suc, ◌<◌, ◌≤◌, Bool, true, false, cond, ◌⊎◌, List, map, length, get_or, set, sym}
+use Rattle.std.proofs.Common.{refl, ap, ◌∙◌, inl, inr, arith, length-set, get_or-set_other, get_or-set_same, ext_get_or}
 use lib.ListN.{length-map, length-replicate, get_or-replicate}
 use lib.ListN.{get_or-eq_default}
 use mir.Val.{bool_byte}
@@ -28,7 +29,8 @@ none_flagged p = record {
     zeros k (inl h) = get_or-eq_default none_again 0 {n = k} (omega (arith, length-replicate {A = ℕ} max_lines 0))
     zeros k (inr h) = get_or-replicate {A = ℕ} max_lines k 0 0 h
 
-pub one_flagged : (p : List ℕ) (i : ℕ) (again : List ℕ) (b : Bool) → i < max_lines → b ≡ again_at p i → Flagged p i again
+pub one_flagged : (p : List ℕ) (i : ℕ) (again : List ℕ) (b : Bool) → i < max_lines → b ≡ again_at p i
+    → Flagged p i again
     → Flagged p (suc i) (set again i (bool_byte b))
 unfolding again_flag
 one_flagged p i again b few e f = record {

@@ -1,5 +1,6 @@
 -- What each job holds after the lines so far, as the walk stores it, and after the last line.
-use Rattle.std.proofs.Common.{◌≡◌, ℕ, suc, ◌^◌, ◌<◌, ◌≤◌, true, false, eqb, ◌⊎◌, List, length, get_or, set, sym, ap, ◌∙◌, inl, inr, arith, length-set, get_or-set_other, get_or-set_same, eqb-true}
+use Rattle.std.proofs.Common.{◌≡◌, ℕ, suc, ◌^◌, ◌<◌, ◌≤◌, true, false, eqb, ◌⊎◌, List, length, get_or, set, sym, ap}
+use Rattle.std.proofs.Common.{◌∙◌, inl, inr, arith, length-set, get_or-set_other, get_or-set_same, eqb-true}
 use lib.ListN.{length-map, length-replicate, get_or-replicate}
 use borrow.Author.Tests.{eqb-false}
 use Rattle.model.specs.Board.{devices}

@@ -1,11 +1,13 @@
 -- The tests after the last line find 5 and 6 of `model`: the tables tell which jobs have lines and which start.
-use Rattle.std.proofs.Common.{◌≡◌, ℕ, suc, ◌<◌, ◌≤◌, true, false, cond, not, ◌&&◌, eqb, ◌⊎◌, List, [], ◌∷◌, length, get_or, sym, refl, ap, ◌∙◌, inl, inr, arith, ne_eqb, eqb-true}
+use Rattle.std.proofs.Common.{◌≡◌, ℕ, suc, ◌<◌, ◌≤◌, true, false, cond, not, ◌&&◌, eqb, ◌⊎◌, List, [], ◌∷◌, length}
+use Rattle.std.proofs.Common.{get_or, sym, refl, ap, ◌∙◌, inl, inr, arith, ne_eqb, eqb-true}
 use mathlib.Core.List.{head_d}
 use mathlib.Core.Option.{Option, none, some}
 use borrow.Author.Tests.{eqb-false, not-true, not-false}
 use Rattle.model.specs.Answers.{refuse_at, first_refusal}
 use Rattle.model.specs.Lists.{positions, any}
-use Rattle.model.specs.Line.{Settings, job, kind, operand, is_start, starts, is_line, at, line_number, has_lines, first_line}
+use Rattle.model.specs.Line.{Settings, job, kind, operand, is_start, starts, is_line, at, line_number, has_lines}
+use Rattle.model.specs.Line.{first_line}
 use Rattle.model.specs.Line.{max_job}
 use Rattle.model.specs.WellFormed.{empty_start, never_started, first_fault, fault}
 use Rattle.model.specs.declared.Refusal.{Refusal}

@@ -1,5 +1,6 @@
 -- How the tests after the last line go from job to job, and what they find.
-use Rattle.std.proofs.Common.{◌≡◌, ℕ, suc, ◌+◌, ◌<◌, ◌≤◌, Bool, true, false, not, ◌&&◌, ◌||◌, eqb, ltb, ◌⊎◌, List, get_or, sym, refl, ◌∙◌, inl, inr, add-one, arith, ltb-false, ltb-true, ne_eqb, eqb-true}
+use Rattle.std.proofs.Common.{◌≡◌, ℕ, suc, ◌+◌, ◌<◌, ◌≤◌, Bool, true, false, not, ◌&&◌, ◌||◌, eqb, ltb, ◌⊎◌, List}
+use Rattle.std.proofs.Common.{get_or, sym, refl, ◌∙◌, inl, inr, add-one, arith, ltb-false, ltb-true, ne_eqb, eqb-true}
 use borrow.Author.Tests.{eqb-false, not-true, not-false}
 use Rattle.model.specs.Line.{max_job}
 use Rattle.theory.proofs.Tests.{test, and_split, and_true, or_split, or_neither}

@@ -1,6 +1,8 @@
 -- The walk that notes, from line to line: beside the state of the walk there are its notes of the devices held, the
 -- flags of the lines so far (02, request 2), and what each job holds after them.
-use Rattle.std.proofs.Common.{◌≡◌, ℕ, zero, suc, ◌+◌, ◌^◌, ◌<◌, Bool, true, false, cond, not, ◌&&◌, ◌||◌, eqb, ◌⊎◌, List, [], ◌∷◌, length, get_or, set, sym, refl, ap, ◌∙◌, inl, inr, add-one, arith, eq-eqb, eqb-true}
+use Rattle.std.proofs.Common.{◌≡◌, ℕ, zero, suc, ◌+◌, ◌^◌, ◌<◌, Bool, true, false, cond, not, ◌&&◌, ◌||◌, eqb, ◌⊎◌}
+use Rattle.std.proofs.Common.{List, [], ◌∷◌, length, get_or, set, sym, refl, ap, ◌∙◌, inl, inr, add-one, arith, eq-eqb}
+use Rattle.std.proofs.Common.{eqb-true}
 use mathlib.Core.List.{tail}
 use mathlib.Core.Option.{none}
 use borrow.Author.Tests.{eqb-false}
@@ -174,7 +176,8 @@ module _ (midday : Bool) (p : List ℕ) (i prev named : ℕ) (early : Bool) (dep
     (led : next_by x stack' first' starter'
     ≡ step_of (board_at midday) (at p i) i prev named early (held_in depth stack) first starter)
     (d : ℕ) (e : x ≡ After.On d)
-    (then : At (board_at midday) p (i + 1) (job (at p i)) (named_after devices (at p i) named) (is_held (at p i)) d stack'
+    (then : At (board_at midday) p (i + 1) (job (at p i)) (named_after devices (at p i) named) (is_held (at p i)) d
+    stack'
     first' starter') where
   abbrev n : ℕ
   n = at p i

@@ -1,6 +1,8 @@
 -- The walk's notes tell which lines take again, or give such a take back (02, request 2): a line changes less than its
 -- verb says exactly there; and what is noted of the devices held goes on from line to line.
-use Rattle.std.proofs.Common.{◌≡◌, ℕ, suc, ◌^◌, ◌<◌, ◌≤◌, Bool, true, false, cond, not, ◌&&◌, ◌||◌, eqb, ltb, ◌⊎◌, List, [], ◌∷◌, length, get_or, set, sym, refl, ap, ◌∙◌, inl, inr, arith, length-set, get_or-set_other, get_or-set_same, eq-eqb, ne_eqb, eqb-true}
+use Rattle.std.proofs.Common.{◌≡◌, ℕ, suc, ◌^◌, ◌<◌, ◌≤◌, Bool, true, false, cond, not, ◌&&◌, ◌||◌, eqb, ltb, ◌⊎◌, List}
+use Rattle.std.proofs.Common.{[], ◌∷◌, length, get_or, set, sym, refl, ap, ◌∙◌, inl, inr, arith, length-set}
+use Rattle.std.proofs.Common.{get_or-set_other, get_or-set_same, eq-eqb, ne_eqb, eqb-true}
 use mathlib.Core.List.{tail}
 use mathlib.Core.Option.{Option, none, some}
 use borrow.Author.Tests.{eqb-false}
@@ -251,9 +253,11 @@ module _ (midday : Bool) (n : ℕ) (ds : List ℕ) (held : ℕ) (added : List �
             rw (f, t, g, q, (or_nothing (only_of devices (device_bits n)) (only_of_below devices (device_bits n))).1)
                 (told (has (device_bits n) xs) (device_bits n) b),
             rw (f, t, g, q) (record {
-              long = length-set added (suc (length (x ∷ xs))) (added_by (has (device_bits n) xs) (device_bits n)) ∙ w.long;
+              long = length-set added (suc (length (x ∷ xs))) (added_by (has (device_bits n) xs) (device_bits n))
+                  ∙ w.long;
               same = λ d h. given held (device_bits n) d xs h (rw u at (same d h));
-              adds = above added (added_by (has (device_bits n) xs) (device_bits n)) (suc (length xs)) xs (omega arith) a;
+              adds = above added (added_by (has (device_bits n) xs) (device_bits n)) (suc (length xs)) xs (omega arith)
+                  a;
             }),
           )
 

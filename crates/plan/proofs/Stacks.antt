@@ -1,6 +1,8 @@
 -- The stack of the devices held: what a do, a take and a give leave of it, and which case of `rule_of` the code's one
 -- test picks.
-use Rattle.std.proofs.Common.{◌≡◌, ℕ, zero, suc, ◌+◌, ◌-◌, ◌^◌, ◌<◌, ◌≤◌, Bool, true, false, cond, not, ◌&&◌, eqb, ◌⊎◌, List, ◌∷◌, length, get_or, set, sym, refl, ap, ◌∙◌, inl, inr, add-one, arith, length-set, get_or-set_other, get_or-set_same, eq-eqb, ne_eqb, eqb-true}
+use Rattle.std.proofs.Common.{◌≡◌, ℕ, zero, suc, ◌+◌, ◌-◌, ◌^◌, ◌<◌, ◌≤◌, Bool, true, false, cond, not, ◌&&◌, eqb, ◌⊎◌}
+use Rattle.std.proofs.Common.{List, ◌∷◌, length, get_or, set, sym, refl, ap, ◌∙◌, inl, inr, add-one, arith, length-set}
+use Rattle.std.proofs.Common.{get_or-set_other, get_or-set_same, eq-eqb, ne_eqb, eqb-true}
 use mathlib.Core.List.{tail}
 use borrow.Author.Tests.{not-true, not-false}
 use Rattle.model.specs.Board.{devices, board_at}

@@ -1,6 +1,8 @@
 -- The walk finds the fault of `model`: its state is that of the lines before, and where a line has no fault the step
 -- goes on to the state after it.
-use Rattle.std.proofs.Common.{◌≡◌, ℕ, zero, suc, ◌<◌, ◌≤◌, Bool, true, false, cond, not, ◌&&◌, ◌||◌, eqb, ltb, leb, ◌⊎◌, List, [], ◌∷◌, length, get_or, set, sym, refl, ap, ◌∙◌, inl, inr, arith, length-set, ltb-false, ltb-true, eq-eqb, ne_eqb, eqb-true, le-leb}
+use Rattle.std.proofs.Common.{◌≡◌, ℕ, zero, suc, ◌<◌, ◌≤◌, Bool, true, false, cond, not, ◌&&◌, ◌||◌, eqb, ltb, leb, ◌⊎◌}
+use Rattle.std.proofs.Common.{List, [], ◌∷◌, length, get_or, set, sym, refl, ap, ◌∙◌, inl, inr, arith, length-set}
+use Rattle.std.proofs.Common.{ltb-false, ltb-true, eq-eqb, ne_eqb, eqb-true, le-leb}
 use mathlib.Core.List.{tail}
 use mathlib.Core.Option.{Option, none, some, none-ne-some}
 use lib.ListN.{get_or-replicate}
@@ -413,7 +415,8 @@ module _ (S : Settings) (small : S.devices ≤ held_from) (p : List ℕ) (i prev
     verb_tests : verb_fault (before p i) l ≡ first_refusal (held_tested ∷ tested ∷ [])
     verb_tests = go (test (is_held l))
       where
-        go : (is_held l ≡ true) ⊎ (is_held l ≡ false) → verb_fault (before p i) l ≡ first_refusal (held_tested ∷ tested ∷ [])
+        go : (is_held l ≡ true) ⊎ (is_held l ≡ false)
+            → verb_fault (before p i) l ≡ first_refusal (held_tested ∷ tested ∷ [])
         go (inl h) =
             verb_held h ∙ sym (first_alone held_tested)
             ∙ ap {B = Option Refusal} (λ x. first_refusal (held_tested ∷ x ∷ [])) (sym (none_else h))

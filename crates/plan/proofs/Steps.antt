@@ -1,5 +1,6 @@
 -- One step of the walk, by the code's tests: `step_of` from what its parts found.
-use Rattle.std.proofs.Common.{◌≡◌, ℕ, suc, ◌+◌, ◌<◌, Bool, true, false, cond, ◌||◌, eqb, leb, List, [], length, get_or, set, sym, refl, ◌∙◌, add-one, length-set, leb-false}
+use Rattle.std.proofs.Common.{◌≡◌, ℕ, suc, ◌+◌, ◌<◌, Bool, true, false, cond, ◌||◌, eqb, leb, List, [], length, get_or}
+use Rattle.std.proofs.Common.{set, sym, refl, ◌∙◌, add-one, length-set, leb-false}
 use mathlib.Core.Option.{none, some, none-ne-some}
 use Rattle.model.specs.Answers.{refuse_if, first_refusal}
 use Rattle.model.specs.Board.{devices, board, board_at}

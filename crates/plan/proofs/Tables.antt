@@ -1,5 +1,7 @@
 -- The tables of first lines and starters, entry by entry: one line more changes an entry only where there was none.
-use Rattle.std.proofs.Common.{◌≡◌, ℕ, zero, suc, ◌+◌, ◌<◌, ◌≤◌, Bool, true, false, not, eqb, ◌⊎◌, List, [], ◌∷◌, map, length, get_or, set, sym, refl, ap, ◌∙◌, inl, inr, arith, get_or-set_other, get_or-set_same, ext_get_or, ne_eqb, eqb-true}
+use Rattle.std.proofs.Common.{◌≡◌, ℕ, zero, suc, ◌+◌, ◌<◌, ◌≤◌, Bool, true, false, not, eqb, ◌⊎◌, List, [], ◌∷◌, map}
+use Rattle.std.proofs.Common.{length, get_or, set, sym, refl, ap, ◌∙◌, inl, inr, arith, get_or-set_other}
+use Rattle.std.proofs.Common.{get_or-set_same, ext_get_or, ne_eqb, eqb-true}
 use mathlib.Core.List.{head_d}
 use lib.ListN.{length-map}
 use borrow.Author.Tests.{eqb-false}
@@ -76,7 +78,8 @@ any_in f p m (nothing h) =
 any_in f p m (found k b t low) = rw (ne_eqb (suc k) 0 (λ q. omega arith)) (line_any f p k b t)
 
 -- a search that finds nothing
-pub first_none : (f : ℕ → Bool) (a n : ℕ) → ((k : ℕ) → a ≤ k → k < a + n → f k ≡ false) → first_of f (up_from a n) ≡ none
+pub first_none : (f : ℕ → Bool) (a n : ℕ) → ((k : ℕ) → a ≤ k → k < a + n → f k ≡ false)
+    → first_of f (up_from a n) ≡ none
 first_none f a n h = go (first_of f (up_from a n)) (first_answer f (up_from a n))
   where
     go : (o : Option ℕ) → Answer f (up_from a n) o → o ≡ none
@@ -128,7 +131,8 @@ unfolding positions number_of_found line_number
 first_found f p m (nothing h) =
     ap number_of_found (first_none (λ i. f (at p i)) 0 (length p) (λ k a b. h k (omega arith)))
 first_found f p m (found k b t low) =
-    ap number_of_found (first_is_lowest (λ i. f (at p i)) 0 (length p) k (omega arith) (omega arith) t (λ i a c. low i c))
+    ap number_of_found (first_is_lowest (λ i. f (at p i)) 0 (length p) k (omega arith) (omega arith) t
+    (λ i a c. low i c))
 
 -- entry by entry, a table is the one that a map over the jobs makes
 pub table_is_lem : (g : ℕ → ℕ) (t : List ℕ) → length t ≡ suc max_job → ((j : ℕ) → j ≤ max_job → g j ≡ get_or t j 0)

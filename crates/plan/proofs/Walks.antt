@@ -1,5 +1,6 @@
 -- The whole walk, from line to line: the fault of the lines not yet passed is that of all of them.
-use Rattle.std.proofs.Common.{◌≡◌, ℕ, suc, ◌+◌, ◌<◌, ◌≤◌, Bool, false, List, [], length, drop, sym, refl, ap, ◌∙◌, add-one, arith, drop_of_length-le, drop-cons, le-leb}
+use Rattle.std.proofs.Common.{◌≡◌, ℕ, suc, ◌+◌, ◌<◌, ◌≤◌, Bool, false, List, [], length, drop, sym, refl, ap, ◌∙◌}
+use Rattle.std.proofs.Common.{add-one, arith, drop_of_length-le, drop-cons, le-leb}
 use mathlib.Core.Option.{Option, none, some}
 use Rattle.model.specs.Answers.{first_refusal, refuse_if}
 use Rattle.model.specs.Line.{Settings, job, is_held, at, held_from, max_lines, max_job}
@@ -73,7 +74,8 @@ module _ (S : Settings) (small : S.devices ≤ held_from) (p : List ℕ) (i prev
           pub at_clear : (d : ℕ) → x ≡ After.On d → line_fault S (before p i) (at p i) ≡ none
           at_clear d e = go (rw e at step)
             where
-              go : Stepped S p i named (on (held_in d stack') first' starter') → line_fault S (before p i) (at p i) ≡ none
+              go : Stepped S p i named (on (held_in d stack') first' starter')
+                  → line_fault S (before p i) (at p i) ≡ none
               go (goes held f t z few stands) = z
 
           -- it is within the limit, and so is its job

@@ -1,6 +1,7 @@
 -- The tests after the last line as the code makes them, over the jobs: of the tables of first lines and of starters.
 -- That they find 5 and 6 of `model` is shown in proofs/. Then the outcome of a scan of the whole plan.
-use Rattle.std.specs.Prelude.{◌≡◌, ℕ, ◌<◌, ◌≤◌, Bool, false, cond, not, ◌&&◌, ◌||◌, List, ◌==◌, nat_lt, slice_index, slice_index_or}
+use Rattle.std.specs.Prelude.{◌≡◌, ℕ, ◌<◌, ◌≤◌, Bool, false, cond, not, ◌&&◌, ◌||◌, List, ◌==◌, nat_lt, slice_index}
+use Rattle.std.specs.Prelude.{slice_index_or}
 use Rattle.std.proofs.Math.Option.{Option, none, some}
 use Rattle.model.specs.Line.{Settings, max_job}
 use Rattle.model.specs.WellFormed.{fault}
@@ -37,7 +38,8 @@ earlier_of low first starter = cond (low == 0 && starter == 0) first low
 
 -- 5 at the lowest such line, 6 at the first line of the lowest such job, or neither; 6 is not given at midday
 pub data EndsAs (midday : Bool) (first starter : List ℕ) : Checked → Type 0 where
-  empty : (j : ℕ) → Empty first starter j → ((k : ℕ) → Empty first starter k → slice_index starter j ≤ slice_index starter k)
+  empty : (j : ℕ) → Empty first starter j
+      → ((k : ℕ) → Empty first starter k → slice_index starter j ≤ slice_index starter k)
       → EndsAs midday first starter (Checked.Refused (BadStart (slice_index starter j)))
   never : midday ≡ false → ((k : ℕ) → Empty first starter k → ⊥) → (j : ℕ) → Unstarted first starter j
       → ((k : ℕ) → k < j → Unstarted first starter k → ⊥)

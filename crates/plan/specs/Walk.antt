@@ -2,7 +2,8 @@
 -- of the devices of held lines (02, request 5), whether the line before is one, the devices that its job holds (the
 -- latest first), and for each job the number of its first line and of the line that starts it. That it finds the fault
 -- of `model` is shown in proofs/.
-use Rattle.std.specs.Prelude.{◌≡◌, ℕ, zero, suc, ◌+◌, ◌-◌, ◌≤◌, Bool, cond, not, ◌&&◌, ◌||◌, List, [], ◌∷◌, length, ◌==◌, nat_le, nat_lt, slice_index, slice_index_or, slice_set}
+use Rattle.std.specs.Prelude.{◌≡◌, ℕ, zero, suc, ◌+◌, ◌-◌, ◌≤◌, Bool, cond, not, ◌&&◌, ◌||◌, List, [], ◌∷◌, length}
+use Rattle.std.specs.Prelude.{◌==◌, nat_le, nat_lt, slice_index, slice_index_or, slice_set}
 use mathlib.Core.List.{tail}
 use Rattle.std.proofs.Math.Option.{Option, none, some}
 use Rattle.model.specs.Answers.{refuse_if, first_refusal}

@@ -5,7 +5,8 @@
 // morning or one taken up at midday, which may have held lines: the caller says which.
 #![tactic(auto)]
 
-ghost use Rattle.std.specs.Prelude.{◌≡◌, ℕ, suc, ◌+◌, ◌-◌, ◌<◌, ◌≤◌, min, true, false, not, List, [], length, if◌then◌else◌, ◌==◌, slice_index};
+ghost use Rattle.std.specs.Prelude.{◌≡◌, ℕ, suc, ◌+◌, ◌-◌, ◌<◌, ◌≤◌, min, true, false, not, List, [], length};
+ghost use Rattle.std.specs.Prelude.{if◌then◌else◌, ◌==◌, slice_index};
 ghost use Rattle.model.specs.Line.{job, operand, is_start, is_line, max_lines, max_job};
 ghost use Rattle.model.specs.Sets.{empty};
 ghost use Rattle.model.specs.WellFormed.{fault, first_fault};

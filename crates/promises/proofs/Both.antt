@@ -60,7 +60,8 @@ module _ (D : ℕ) where
   both_pack (some j) none o n e = e
   both_pack none v o n e = e
 
-  both_fields : (fs : List (List ℕ)) (n : ℕ) → from_fields (morning D) fs ≡ some n → from_fields (at_midday D) fs ≡ some n
+  both_fields : (fs : List (List ℕ)) (n : ℕ) → from_fields (morning D) fs ≡ some n
+      → from_fields (at_midday D) fs ≡ some n
   unfolding from_fields
   both_fields [] n e = e
   both_fields (j ∷ []) n e = e

@@ -14,7 +14,8 @@ use lib.Dec.{lit≤, eqb}
 use lib.ListN.{length, get_or, take}
 use Rattle.model.specs.Board.{devices, board}
 use Rattle.model.specs.Lists.{up_from, positions}
-use Rattle.model.specs.Answers.{number_of, place_of, line_values, read_values, write_values, table_values, verdict_values}
+use Rattle.model.specs.Answers.{number_of, place_of, line_values, read_values, write_values, table_values}
+use Rattle.model.specs.Answers.{verdict_values}
 use Rattle.model.specs.Answers.{move_values, judge_values}
 use Rattle.model.specs.Line.{Settings, job, is_line, line_number, held_from}
 use Rattle.model.specs.Text.{spelt, cursor_after, cursor_from, line_from}
@@ -346,7 +347,8 @@ module _ (S : Settings) (small : S.devices ≤ held_from) (text : List ℕ) (off
   asked_so = record {
     begins = asked.begins;
     answers = λ k. refl;
-    goes_on = λ k. go k (line_from S text (offset k)) (line_number_lem S small text (offset k) (number k) (asked.answers k))
+    goes_on = λ k. go k (line_from S text (offset k))
+        (line_number_lem S small text (offset k) (number k) (asked.answers k))
         (from_stands S text (offset k));
   }
     where

@@ -62,7 +62,8 @@ use Rattle.promises.proofs.Move as move
 -- one more list that is lent, and what is tested after it
 module _ (room needed : ℕ) (tests : List (Option Refusal)) (Further : Refusal → Type 0)
     (cases : (r : Refusal) → (first_refusal tests ≡ some r) ↔ Further r) where
-  also_exactly : (r : Refusal) → (first_refusal (too_short room needed ∷ tests) ≡ some r) ↔ AlsoLent room needed Further r
+  also_exactly : (r : Refusal)
+      → (first_refusal (too_short room needed ∷ tests) ≡ some r) ↔ AlsoLent room needed Further r
   unfolding first_refusal too_short refuse_if
   also_exactly r = (to (ltb room needed) refl, from r)
     where
@@ -232,7 +233,8 @@ module _ (plan rs : List ℕ) where
     where
       go : (x : Option Refusal)
           → quick_by x (held_number devices plan)
-          ≡ (outcome {L = Unit {0}} VerdictAnswer.Refused x (VerdictAnswer.Held (held_number devices plan)) tt tt).answer
+          ≡ (outcome {L = Unit {0}} VerdictAnswer.Refused x (VerdictAnswer.Held (held_number devices plan)) tt
+          tt).answer
       go none = refl
       go (some r) = refl
 

@@ -23,7 +23,8 @@ use Rattle.lines.specs.Gathered.{handed_out, stops_with, gathered, GathersAs}
 use Rattle.lines.specs.declared.Gathered.{Gathered}
 use Rattle.lines.proofs.Gathering.{all_room, gathers_over}
 
-fault_many : (S : Settings) (b : List ℕ) (l : ℕ) → leb max_lines (length b) ≡ true → line_fault S b l ≡ some TooManyLines
+fault_many : (S : Settings) (b : List ℕ) (l : ℕ) → leb max_lines (length b) ≡ true
+    → line_fault S b l ≡ some TooManyLines
 unfolding line_fault
 fault_many S b l e = rw e
 
@@ -43,7 +44,8 @@ first_found S b (l ∷ ls) =
   where
     go : (t : Bool) → leb max_lines (length b) ≡ t → (o : Option ℕ) → packed_line S l ≡ o
         → ((m : ℕ) → first_fault S (m ∷ b) (map (number_in S) ls)
-        ≡ first_refusal (first_fault S (m ∷ b) (handed_out S (suc (length b)) ls) ∷ stops_with S (suc (length b)) ls ∷ []))
+        ≡ first_refusal (first_fault S (m ∷ b) (handed_out S (suc (length b)) ls) ∷ stops_with S (suc (length b)) ls
+        ∷ []))
         → first_fault S b (get_or o 0 ∷ map (number_in S) ls)
         ≡ first_refusal
         (first_fault S b (cond t [] (elim o [ none ↦ [] | some m ↦ m ∷ handed_out S (suc (length b)) ls ]))
@@ -58,7 +60,8 @@ first_found S b (l ∷ ls) =
         rest = first_fault S (m ∷ b) (handed_out S (suc (length b)) ls)
 
         own : (f : Option Refusal)
-            → first_fault S (m ∷ b) (map (number_in S) ls) ≡ first_refusal (rest ∷ stops_with S (suc (length b)) ls ∷ [])
+            → first_fault S (m ∷ b) (map (number_in S) ls)
+            ≡ first_refusal (rest ∷ stops_with S (suc (length b)) ls ∷ [])
             → elim f [ some r ↦ some r | none ↦ first_fault S (m ∷ b) (map (number_in S) ls) ]
             ≡ first_refusal (elim f [ some r ↦ some r | none ↦ rest ] ∷ stops_with S (suc (length b)) ls ∷ [])
         own none ih = ih

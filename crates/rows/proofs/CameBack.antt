@@ -1,6 +1,7 @@
 -- A walk along the rows (02, request 3): all that it passed lead to where it is, so that a device that comes again
 -- leads back. Over any number of devices.
-use Rattle.std.proofs.Common.{◌≡◌, ℕ, ◌^◌, ◌<◌, true, false, not, ◌⊎◌, List, length, sym, refl, ◌∙◌, inl, inr, arith, eq-eqb}
+use Rattle.std.proofs.Common.{◌≡◌, ℕ, ◌^◌, ◌<◌, true, false, not, ◌⊎◌, List, length, sym, refl, ◌∙◌, inl, inr, arith}
+use Rattle.std.proofs.Common.{eq-eqb}
 use Rattle.model.specs.Sets.{member, lowest_of}
 use Rattle.model.specs.Rows.{Leads, once}
 use Rattle.theory.proofs.Tests.{clash, test, and_split, falsely}

@@ -1,5 +1,7 @@
 -- The sets of the devices held to the end and held twice, by counting lasting takes going back (01, "Claims and rows").
-use Rattle.std.proofs.Common.{◌≡◌, ℕ, zero, suc, ◌-◌, ◌%◌, ◌^◌, ◌<◌, ◌≤◌, Bool, true, false, cond, ◌&&◌, ◌||◌, eqb, leb, List, [], ◌∷◌, length, get_or, drop, sym, refl, ap, ◌∙◌, arith, length-drop, drop_of_length-le, drop-cons, le-leb}
+use Rattle.std.proofs.Common.{◌≡◌, ℕ, zero, suc, ◌-◌, ◌%◌, ◌^◌, ◌<◌, ◌≤◌, Bool, true, false, cond, ◌&&◌, ◌||◌, eqb, leb}
+use Rattle.std.proofs.Common.{List, [], ◌∷◌, length, get_or, drop, sym, refl, ap, ◌∙◌, arith, length-drop}
+use Rattle.std.proofs.Common.{drop_of_length-le, drop-cons, le-leb}
 use mathlib.Core.Option.{none}
 use Rattle.model.specs.Board.{devices, board}
 use Rattle.model.specs.Lists.{up_from, positions, any, those}

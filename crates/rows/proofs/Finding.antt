@@ -1,6 +1,7 @@
 -- The search under way (02, request 3): what it takes away leads nowhere back, what it takes out is found with its
 -- circle, and when nothing is left what is found are the devices that lead back. Over any number of devices.
-use Rattle.std.proofs.Common.{◌≡◌, ℕ, ◌^◌, ◌<◌, true, false, not, eqb, ◌⊎◌, List, length, sym, ◌∙◌, inl, inr, arith, eqb-true}
+use Rattle.std.proofs.Common.{◌≡◌, ℕ, ◌^◌, ◌<◌, true, false, not, eqb, ◌⊎◌, List, length, sym, ◌∙◌, inl, inr, arith}
+use Rattle.std.proofs.Common.{eqb-true}
 use borrow.Author.Tests.{eqb-false, not-true}
 use Rattle.model.specs.Sets.{empty, union, member}
 use Rattle.model.specs.Rows.{Leads, leads_back}

@@ -1,6 +1,7 @@
 -- One look at the rows (02, request 3): what a device adds to the devices that lead into a set and to those that a
 -- set's devices lead to, and the members of both. Over any number of devices, as many as there are rows.
-use Rattle.std.proofs.Common.{◌≡◌, ℕ, ◌^◌, ◌<◌, ◌≤◌, true, false, cond, not, eqb, ◌⊎◌, List, length, sym, ap, ◌∙◌, inl, inr, lt_of_le_of_lt, arith, eqb-true}
+use Rattle.std.proofs.Common.{◌≡◌, ℕ, ◌^◌, ◌<◌, ◌≤◌, true, false, cond, not, eqb, ◌⊎◌, List, length, sym, ap, ◌∙◌, inl}
+use Rattle.std.proofs.Common.{inr, lt_of_le_of_lt, arith, eqb-true}
 use lib.Bits.{and_le_r, and_zero_l}
 use borrow.Author.Tests.{eqb-false, not-true}
 use Rattle.model.specs.Lists.{up_from}

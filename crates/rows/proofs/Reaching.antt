@@ -1,6 +1,7 @@
 -- What leads to a set of devices, and what a device leads to (02, request 3): sets that grow along the rows until
 -- nothing is new. Over any number of devices.
-use Rattle.std.proofs.Common.{◌≡◌, ℕ, ◌+◌, ◌-◌, ◌*◌, ◌^◌, ◌<◌, Bool, true, false, cond, not, ◌&&◌, eqb, ◌⊎◌, List, length, sym, refl, ◌∙◌, subst, inl, inr, arith, eq-eqb, eqb-true}
+use Rattle.std.proofs.Common.{◌≡◌, ℕ, ◌+◌, ◌-◌, ◌*◌, ◌^◌, ◌<◌, Bool, true, false, cond, not, ◌&&◌, eqb, ◌⊎◌, List}
+use Rattle.std.proofs.Common.{length, sym, refl, ◌∙◌, subst, inl, inr, arith, eq-eqb, eqb-true}
 use borrow.Author.Tests.{eqb-false, not-true}
 use Rattle.model.specs.Sets.{empty, union, member, lowest_of}
 use Rattle.model.specs.Rows.{Leads, once, more}

@@ -1,6 +1,8 @@
 -- The rows by going back (01, "Claims and rows"): what a line's job claims after it lies beyond a take, so at a lasting
 -- take it is joined to the row of its device. Lines are joined as they count (02, request 2).
-use Rattle.std.proofs.Common.{◌≡◌, ℕ, suc, ◌<◌, Bool, true, false, cond, eqb, ◌⊎◌, List, map, length, get_or, set, replicate, sym, refl, ap, ◌∙◌, inl, inr, arith, length-set, get_or-set_other, get_or-set_same, ext_get_or, eqb-true}
+use Rattle.std.proofs.Common.{◌≡◌, ℕ, suc, ◌<◌, Bool, true, false, cond, eqb, ◌⊎◌, List, map, length, get_or, set}
+use Rattle.std.proofs.Common.{replicate, sym, refl, ap, ◌∙◌, inl, inr, arith, length-set, get_or-set_other}
+use Rattle.std.proofs.Common.{get_or-set_same, ext_get_or, eqb-true}
 use lib.ListN.{get_or-replicate}
 use borrow.Author.Tests.{eqb-false}
 use Rattle.model.specs.Board.{devices, board}
@@ -37,7 +39,8 @@ pub none_by : (p t : List ℕ) → RowsBy p t (replicate devices 0) (length p)
 unfolding row_from union_of empty
 none_by p t = record {
   long = refl;
-  are = λ d h. get_or-replicate {A = ℕ} devices d 0 0 h ∙ sym (ap (λ xs. union_of (map (beyond p t) xs)) (takes_past p d));
+  are = λ d h. get_or-replicate {A = ℕ} devices d 0 0 h
+      ∙ sym (ap (λ xs. union_of (map (beyond p t) xs)) (takes_past p d));
 }
 
 -- one line further back, with what lies beyond it if it is a take
@@ -111,23 +114,24 @@ module _ (p rs claimed : List ℕ) (k : ℕ) (m : RowsFrom p rs claimed (suc k))
       next_is_lem p claimed k m.claims h ok
       ∙ sym (beyond_is p (table p) k ∙ rw (take_no_start l t) (union_none (claim_from p (suc k) (job l))))
 
-  module _ (rs' claimed' : List ℕ) (s : ℕ) (n : JoinedOn (plain_at p k) (lasting_at p k) rs claimed s rs' claimed') where
-    -- a line is of its job, and names its device, also as it counts
-    same_job_lem : job (plain_at p k) ≡ job l
-    same_job_lem = plain_job (again_at p k) l
+  module _ (rs' claimed' : List ℕ) (s : ℕ) (n : JoinedOn (plain_at p k) (lasting_at p k) rs claimed s rs' claimed')
+    where
+      -- a line is of its job, and names its device, also as it counts
+      same_job_lem : job (plain_at p k) ≡ job l
+      same_job_lem = plain_job (again_at p k) l
 
-    pub set_made : s ≡ claim p k
-    set_made = (rw same_job_lem at n.set_is) ∙ claim_made p claimed k m.claims h ok
+      pub set_made : s ≡ claim p k
+      set_made = (rw same_job_lem at n.set_is) ∙ claim_made p claimed k m.claims h ok
 
-    rows_made : rs' ≡ row_joined l (lasting_at p k) next rs
-    unfolding row_joined
-    rows_made = rw (same_job_lem, plain_operand (again_at p k) l) at n.rows_are
+      rows_made : rs' ≡ row_joined l (lasting_at p k) next rs
+      unfolding row_joined
+      rows_made = rw (same_job_lem, plain_operand (again_at p k) l) at n.rows_are
 
-    pub from_on : RowsFrom p rs' claimed' k
-    from_on = record {
-      by = by_on p (table p) rs k next m.by h beyond_take rs' rows_made;
-      claims = rw (n.claimed_is, same_job_lem, set_made) (claimed_on p claimed k m.claims h ok);
-    }
+      pub from_on : RowsFrom p rs' claimed' k
+      from_on = record {
+        by = by_on p (table p) rs k next m.by h beyond_take rs' rows_made;
+        claims = rw (n.claimed_is, same_job_lem, set_made) (claimed_on p claimed k m.claims h ok);
+      }
 
 -- at the front the rows are the plan's
 pub all_from : (p rs claimed : List ℕ) → RowsFrom p rs claimed 0 → rs ≡ rows devices p

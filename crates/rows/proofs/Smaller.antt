@@ -1,5 +1,6 @@
 -- Sets by their size as numbers, so that a search that takes devices out of a set, or puts devices in, is seen to end.
-use Rattle.std.proofs.Common.{◌≡◌, ℕ, ◌+◌, ◌-◌, ◌*◌, ◌^◌, ◌<◌, ◌≤◌, Bool, true, false, cond, not, ◌&&◌, eqb, ◌⊎◌, sym, refl, ap, ◌∙◌, inl, inr, arith, eq-eqb, eqb-true}
+use Rattle.std.proofs.Common.{◌≡◌, ℕ, ◌+◌, ◌-◌, ◌*◌, ◌^◌, ◌<◌, ◌≤◌, Bool, true, false, cond, not, ◌&&◌, eqb, ◌⊎◌, sym}
+use Rattle.std.proofs.Common.{refl, ap, ◌∙◌, inl, inr, arith, eq-eqb, eqb-true}
 use lib.Bits.{and_le_l, or_add_and}
 use borrow.Author.Tests.{eqb-false, not-true}
 use Rattle.model.specs.Sets.{union, member}

@@ -1,7 +1,8 @@
 -- Taking away (02, request 3), over any number of devices: a device goes as long as its row has none of those left, or
 -- it stands in no row of theirs. What leads back is linked and so does not go, and what stays, if anything does, has a
 -- device that leads back.
-use Rattle.std.proofs.Common.{◌≡◌, ℕ, zero, suc, ◌+◌, ◌*◌, ◌^◌, ◌<◌, ◌≤◌, Bool, true, false, cond, not, ◌&&◌, eqb, ◌⊎◌, List, length, refl, inl, inr, arith}
+use Rattle.std.proofs.Common.{◌≡◌, ℕ, zero, suc, ◌+◌, ◌*◌, ◌^◌, ◌<◌, ◌≤◌, Bool, true, false, cond, not, ◌&&◌, eqb, ◌⊎◌}
+use Rattle.std.proofs.Common.{List, length, refl, inl, inr, arith}
 use borrow.Author.Tests.{not-true}
 use Rattle.model.specs.Sets.{empty, member, lowest_of}
 use Rattle.model.specs.Rows.{Leads, once, more, leads_back, onward}

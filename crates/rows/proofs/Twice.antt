@@ -1,6 +1,7 @@
 -- What the jobs hold after their last lines tells which devices are held to the end, and which have two lasting takes
 -- (02, request 4): a job has one lasting take of a device at most.
-use Rattle.std.proofs.Common.{◌≡◌, ℕ, zero, suc, ◌^◌, ◌<◌, true, false, leb, ◌≢◌, ◌⊎◌, List, [], ◌∷◌, map, length, sym, ap, ◌∙◌, inl, inr, arith}
+use Rattle.std.proofs.Common.{◌≡◌, ℕ, zero, suc, ◌^◌, ◌<◌, true, false, leb, ◌≢◌, ◌⊎◌, List, [], ◌∷◌, map, length, sym}
+use Rattle.std.proofs.Common.{ap, ◌∙◌, inl, inr, arith}
 use Rattle.model.specs.Board.{devices, board}
 use Rattle.model.specs.Lists.{up_from, positions, has}
 use Rattle.model.specs.Line.{job, is_held, at, max_job}
@@ -10,7 +11,8 @@ use Rattle.model.specs.Verdict.{keepers}
 use Rattle.model.specs.WellFormed.{before, held_by, WellFormed}
 use Rattle.model.specs.Kept.{lasts_among, lasts_in, held_to_end}
 use Rattle.theory.proofs.Tests.{clash, and_split, and_both, tests_agree}
-use Rattle.theory.proofs.Lists.{has_head, has_tail, has_cases, has_up_from, up_from_has, position_has, any_found, any_at}
+use Rattle.theory.proofs.Lists.{has_head, has_tail, has_cases, has_up_from, up_from_has, position_has, any_found}
+use Rattle.theory.proofs.Lists.{any_at}
 use Rattle.theory.proofs.Sets.{member_empty, in_union, in_left_lem, in_right, in_union_of, union_of_in, empty_below}
 use Rattle.theory.proofs.Sets.{union_below}
 use Rattle.sets.specs.Both.{both}

@@ -1,6 +1,7 @@
 -- The walk back over a plan without a fault (01, "Claims and rows"): where it stands the two sets, the rows, the flags
 -- and the table are those of the lines from there on.
-use Rattle.std.proofs.Common.{◌≡◌, ℕ, suc, ◌<◌, ◌≤◌, Bool, true, false, cond, List, length, set, replicate, sym, refl, ◌∙◌, arith, length-set}
+use Rattle.std.proofs.Common.{◌≡◌, ℕ, suc, ◌<◌, ◌≤◌, Bool, true, false, cond, List, length, set, replicate, sym, refl}
+use Rattle.std.proofs.Common.{◌∙◌, arith, length-set}
 use mathlib.Core.Option.{none}
 use lib.ListN.{length-replicate, get_or-replicate}
 use mir.Val.{bool_byte}

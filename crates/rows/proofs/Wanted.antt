@@ -1,6 +1,8 @@
 -- Lasting takes by going back (01, "Rules of a well-formed plan"): gives match the take made last, so a take is lasting
 -- exactly if it is outermost (02, request 2) and no give of its job after it still wants a take. For any plan.
-use Rattle.std.proofs.Common.{◌≡◌, ℕ, zero, suc, ◌-◌, ◌<◌, ◌≤◌, Bool, true, false, cond, ◌&&◌, eqb, leb, ◌⊎◌, List, [], ◌∷◌, length, get_or, drop, sym, refl, ap, ◌∙◌, inl, inr, arith, eq-eqb, ne_eqb, eqb-true, le-leb}
+use Rattle.std.proofs.Common.{◌≡◌, ℕ, zero, suc, ◌-◌, ◌<◌, ◌≤◌, Bool, true, false, cond, ◌&&◌, eqb, leb, ◌⊎◌, List, []}
+use Rattle.std.proofs.Common.{◌∷◌, length, get_or, drop, sym, refl, ap, ◌∙◌, inl, inr, arith, eq-eqb, ne_eqb, eqb-true}
+use Rattle.std.proofs.Common.{le-leb}
 use mathlib.Core.Option.{none, some}
 use borrow.Author.Tests.{eqb-false, lt-leb}
 use Rattle.model.specs.Line.{job, opens, is_take, is_give, at, max_lines}

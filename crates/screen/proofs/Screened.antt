@@ -56,7 +56,11 @@ pub prints_none : {text plan order lent : List ℕ} → length lent < screen_roo
     → PrintsAs board text plan order lent 0 plan order lent
 unfolding screening screen_by
 prints_none {lent} h = record {
-  screens = record { counts = rw (lt-ltb (length lent) screen_room h); leaves = rw (lt-ltb (length lent) screen_room h) };
+  screens = record {
+    counts = rw (lt-ltb (length lent) screen_room h);
+    leaves =
+        rw (lt-ltb (length lent) screen_room h);
+  };
   idle = λ g. (refl, refl);
   reads = λ g. absurd (omega arith);
   orders = λ g. absurd (omega arith);
@@ -108,7 +112,8 @@ module _ (text plan order lent : List ℕ) (long : (length plan ≡ max_lines) �
             absurd (none-ne-some s (sym (well_formed_read board text plan x q) ∙ f))
         go r (short s h) = absurd (omega (arith, s.few, long.1, steps_few (spells text)))
         go r (further s w h b) =
-            by_tests text (some s) (rw (no_fault_read board text plan x q) ((order_refused board (spells text) w s).1 b))
+            by_tests text (some s) (rw (no_fault_read board text plan x q)
+            ((order_refused board (spells text) w s).1 b))
 
     -- an order
     pub prints_order : {held : ℕ} → v ≡ VerdictAnswer.Held held

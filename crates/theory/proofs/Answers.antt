@@ -10,8 +10,10 @@ use native.Mathlib.Omega.{arith}
 use lib.Dec.{ltb}
 use lib.ListN.{get_or}
 use borrow.Author.Tests.{ltb-false}
-use Rattle.model.specs.Answers.{number_of, place_of, refusal_values, line_values, read_values, write_values, table_values}
-use Rattle.model.specs.Answers.{verdict_values, move_values, judge_values, refuse_if, refuse_at, first_refusal, too_short}
+use Rattle.model.specs.Answers.{number_of, place_of, refusal_values, line_values, read_values, write_values}
+use Rattle.model.specs.Answers.{table_values}
+use Rattle.model.specs.Answers.{verdict_values, move_values, judge_values, refuse_if, refuse_at, first_refusal}
+use Rattle.model.specs.Answers.{too_short}
 use Rattle.model.specs.declared.Refusal.{Refusal}
 use Rattle.model.specs.declared.Refusal.TheVariants.{TextTooLong, Malformed, TooManyLines, JobOutOfSequence}
 use Rattle.model.specs.declared.Refusal.TheVariants.{BadStart, NeverStarted, GiveWithoutTake}

@@ -71,7 +71,8 @@ module _ (p : List ℕ) (rules : Rules p) (done : List ℕ) (inv : Opened p done
       (first_undone can p done m chosen n lt u)
 
   -- no lower job has a segment that can be done
-  pub lower_hindered : (n : ℕ) → n < length p → has n done ≡ false → closes_held p n ≡ true → job (at p n) < job (at p m)
+  pub lower_hindered : (n : ℕ) → n < length p → has n done ≡ false → closes_held p n ≡ true
+      → job (at p n) < job (at p m)
       → unhindered p done (segment p (undone p done) n) ≡ false
   lower_hindered n nn u c lt = go (le_or_lt m n)
     where

@@ -65,7 +65,8 @@ pub claim_is : (p : List ℕ) (i : ℕ) → i < length p → claim p i ≡ union
 unfolding table beyond owns positions
 claim_is p i h =
     entry (owns p) p i (omega (arith, length_owns p)) (length_owns p)
-    ∙ ap (λ (o : ℕ). union o (beyond p (table p) i)) (get_or_up_from (own p) 0 (length p) i h ∙ ap (own p) (omega arith))
+    ∙ ap (λ (o : ℕ). union o (beyond p (table p) i))
+    (get_or_up_from (own p) 0 (length p) i h ∙ ap (own p) (omega arith))
 
 pub claim_past : (p : List ℕ) (i : ℕ) → length p ≤ i → claim p i ≡ empty
 unfolding empty

@@ -61,8 +61,11 @@ grips_opens p i d g = go (gripping p i d g)
 
 pub grips_parts : (p : List ℕ) (i d : ℕ) → grips p i d ≡ true → (opens (at p i) ≡ true) × (device_at p i ≡ d)
 unfolding grips
-grips_parts p i d g =
-    (grips_opens p i d g, eqb-true (device_at p i) d (and_split (takes_at p i || held_at p i) (eqb (device_at p i) d) g).1)
+grips_parts p i d g = (
+  grips_opens p i d g,
+  eqb-true (device_at p i) d
+      (and_split (takes_at p i || held_at p i) (eqb (device_at p i) d) g).1,
+)
 
 -- they are lines of the plan
 pub grips_line : (p : List ℕ) (i d : ℕ) → grips p i d ≡ true → i < length p

@@ -194,7 +194,8 @@ held_alike p q j zero f g = refl
 held_alike p q j (suc n) f g =
     go (test (eqb (job (at p n)) j)) (held_alike p q j n (λ k h. f k (omega arith)) (λ k h. g k (omega arith)))
   where
-    go : (eqb (job (at p n)) j ≡ true) ⊎ (eqb (job (at p n)) j ≡ false) → held_by j (before p n) ≡ held_by j (before q n)
+    go : (eqb (job (at p n)) j ≡ true) ⊎ (eqb (job (at p n)) j ≡ false)
+        → held_by j (before p n) ≡ held_by j (before q n)
         → held_by j (at p n ∷ before p n) ≡ held_by j (at q n ∷ before q n)
     go (inl e) ih =
         line_more j (at p n) (before p n) (before q n) ih

@@ -28,7 +28,8 @@ use Rattle.model.specs.Handed.{handed}
 use Rattle.model.specs.Verdict.{two_lasting, circle_of, circle, hindered, no_order, held_at_end}
 use Rattle.model.specs.Move.{edited, from_last, rewritten, changed, asked_at, is_take_of, move_refusal}
 use Rattle.model.specs.Entries.{Outcome, Lent, outcome, moving, ordering}
-use Rattle.model.specs.Kept.{lasts_among, lasts_in, held_to_end, held_number, Beside, beside_of, over_all, room_for, building}
+use Rattle.model.specs.Kept.{lasts_among, lasts_in, held_to_end, held_number, Beside, beside_of, over_all, room_for}
+use Rattle.model.specs.Kept.{building}
 use Rattle.model.specs.Kept.{concerned, kept_rows, kept_held, kept_refusal, beside_after, LentBeside, moving_kept}
 use Rattle.model.specs.Kept.{quick_refusal, quick_by, quick}
 use Rattle.model.specs.declared.Refusal.{Refusal}
@@ -293,7 +294,8 @@ module _ (D : ℕ) (p : List ℕ) (lent : Beside) (line device : ℕ) where
       long = length_kept_rows D q u (concerned p i device) lent.rows
 
   -- What is written is by the edited plan and the table as it has become, whatever was lent.
-  pub made_after : MadeBy D p line device (edited p (asked_at line) device) (beside_after D p lent (asked_at line) device)
+  pub made_after : MadeBy D p line device (edited p (asked_at line) device)
+      (beside_after D p lent (asked_at line) device)
   unfolding over
   made_after = record {
     rows_made = λ d h c. over_front_entry d h ∙ row_made D q u (concerned p i device) lent.rows d c h;
@@ -455,7 +457,8 @@ quick_exactly D p rs f long =
 -- ---- building, and any list of moves
 
 -- What is built is the plan's own.
-pub built_own : (D : ℕ) (p : List ℕ) (lent : Beside) → first_refusal (fault (morning D) p ∷ room_for D p lent ∷ []) ≡ none
+pub built_own : (D : ℕ) (p : List ℕ) (lent : Beside)
+    → first_refusal (fault (morning D) p ∷ room_for D p lent ∷ []) ≡ none
     → Own D p (building D p lent).left
 unfolding building outcome
 built_own D p lent h = rw h (own_written D p lent)
@@ -504,7 +507,8 @@ module _ (D : ℕ) (small : D ≤ held_from) where
 -- The theorem, from building on.
 pub build_and_move : (D : ℕ) → D ≤ held_from → (p : List ℕ) (lent : Beside) (asks : List Ask)
     → first_refusal (fault (morning D) p ∷ room_for D p lent ∷ []) ≡ none
-    → let s : LentBeside = record { plan = p; beside = (building D p lent).left } in StillOwn D s (moved_kept_by D s asks)
+    → let s : LentBeside = record { plan = p; beside = (building D p lent).left }
+    in StillOwn D s (moved_kept_by D s asks)
 build_and_move D small p lent asks h =
     moves_keep_own D small (record { plan = p; beside = (building D p lent).left }) asks
     (none_refuses (fault (morning D) p ∷ room_for D p lent ∷ []) h 0) (built_own D p lent h)

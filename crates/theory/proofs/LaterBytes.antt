@@ -1,4 +1,5 @@
--- 02, request 1: of a text with a plan and an order, what is past `judge_room` bytes changes nothing. The lines of a cut
+-- 02, request 1: of a text with a plan and an order, what is past `judge_room` bytes changes nothing. The lines of a
+-- cut
 -- text are those of the text, but for the last, which may be cut and then has no newline. So either the plan's part is
 -- too long in both, or it is the same; and each entry that may follow has five bytes at most and does a line, so that
 -- the room left for the entries lasts until an entry is refused, or no line is left to do.
@@ -17,7 +18,8 @@ use Rattle.model.specs.Line.{Settings, max_lines, max_bytes}
 use Rattle.model.specs.Text.{newline, number, in_front, lines_of, spelt}
 use Rattle.model.specs.Entries.{text_fault}
 use Rattle.model.specs.Mate.{held_lines}
-use Rattle.model.specs.Judged.{may_follow, stray_after, stray, parting_line, plan_part, entry_part, entry_of, entries_of}
+use Rattle.model.specs.Judged.{may_follow, stray_after, stray, parting_line, plan_part, entry_part, entry_of}
+use Rattle.model.specs.Judged.{entries_of}
 use Rattle.model.specs.Judged.{judged_by, judge_text_refusal, judge_line, judge_printed, judge_room}
 use Rattle.model.specs.declared.Refusal.{Refusal}
 use Rattle.model.specs.declared.Refusal.TheVariants.{TextTooLong, IllegalStep}
@@ -116,7 +118,8 @@ some_parting = omega arith
 data Parts (r : ℕ) (ls ks : List (List ℕ)) : Type 0 where
   parted : (q : ℕ) → plan_part ks ≡ plan_part ls → Kept q (entry_part ls) (entry_part ks)
       → r ≤ length (plan_part ls) + length parting_line + q → Parts r ls ks
-  filled : r < length (plan_part ks) + length parting_line → r < length (plan_part ls) + length parting_line → Parts r ls ks
+  filled : r < length (plan_part ks) + length parting_line → r < length (plan_part ls) + length parting_line
+      → Parts r ls ks
 
 parts : (r : ℕ) (ls ks : List (List ℕ)) → Kept r ls ks → Parts r ls ks
 unfolding plan_part entry_part
@@ -185,7 +188,8 @@ kept_entries p done n r ls ks few (fits m q l ms js e c) h =
 kept_entries p done n r ls ks few (short m l k ms e g z) h =
     ap (λ (x : ℕ). stray_after p done n (x ∷ [])) (no_newline_no_entry k z)
     ∙ entry_refused p done n 0 [] (λ i y t. omega arith)
-    ∙ sym (entry_refused p done n (entry_of l) (map entry_of ms) (λ i y t. omega (arith, entry_room p done l i few y t)))
+    ∙ sym (entry_refused p done n (entry_of l) (map entry_of ms)
+    (λ i y t. omega (arith, entry_room p done l i few y t)))
 kept_entries p done n r ls ks few (gone m l ms e g) h = absurd (omega arith)
 
 -- ---- the whole text
@@ -221,7 +225,8 @@ same_strays S plan es fs f = go (text_fault S plan) refl
         (f s.0 ((no_fault_exactly S (spelt S plan)).0 s.1).few)
 
 kept_refusal_lem : (S : Settings) (ls ks : List (List ℕ)) → Kept judge_room ls ks
-    → refusal_of S (plan_part ks) (map entry_of (entry_part ks)) ≡ refusal_of S (plan_part ls) (map entry_of (entry_part ls))
+    → refusal_of S (plan_part ks) (map entry_of (entry_part ks))
+    ≡ refusal_of S (plan_part ls) (map entry_of (entry_part ls))
 unfolding stray
 kept_refusal_lem S ls ks c = go (parts judge_room ls ks c)
   where

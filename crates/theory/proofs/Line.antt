@@ -13,7 +13,8 @@ use lib.Dec.{eqb, leb, ltb}
 use lib.ListN.{length, get_or-eq_default}
 use borrow.Author.Tests.{eqb-true, eq-eqb, ne_eqb, leb-true, le-leb, lt-leb, ltb-true, lt-ltb, not-true}
 use Rattle.model.specs.Line.{Settings, pack, job, kind, operand, opens, is_held, is_take, is_give, is_start, device_of}
-use Rattle.model.specs.Line.{morning, starts, pack_verb, verb_of, operand_fits, line_fits, is_line, at, max_job, held_from}
+use Rattle.model.specs.Line.{morning, starts, pack_verb, verb_of, operand_fits, line_fits, is_line, at, max_job}
+use Rattle.model.specs.Line.{held_from}
 use Rattle.model.specs.Line.{held_verb}
 use Rattle.theory.specs.Line.{Fits, of_do, of_device, of_held, of_start}
 use Rattle.theory.proofs.Tests.{clash, test, or_split, or_left, or_right, and_split, and_both, and_left}

@@ -15,7 +15,8 @@ use Rattle.model.specs.Lists.{up_from, positions, any, has, those, first_of, or_
 use Rattle.model.specs.Mate.{takes_at, device_at, mate, is_none, lasting_at}
 use Rattle.model.specs.WellFormed.{Rules}
 use Rattle.model.specs.Legal.{precedes, MayFollow, Follow}
-use Rattle.model.specs.Handed.{undone, standing, going_on, alone, lasting_next, last_of, run, run_from, turn, handed_after}
+use Rattle.model.specs.Handed.{undone, standing, going_on, alone, lasting_next, last_of, run, run_from, turn}
+use Rattle.model.specs.Handed.{handed_after}
 use Rattle.theory.proofs.Tests.{clash, no_some, test, and_split, le_or_lt}
 use Rattle.theory.proofs.Lists.{has_none, has_head, has_cases, has_left, has_right, has_append, any_none}
 use Rattle.theory.proofs.Lists.{none_any, has_those, Answer, first_answer, first_lowest, first_is_lowest, Least}

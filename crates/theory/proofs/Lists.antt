@@ -309,7 +309,8 @@ first_append f (x ∷ xs) ys = go (f x) (first_append f xs ys)
     go false ih = ih
 
 -- the first of ascending numbers is the lowest
-pub first_lowest : (f : ℕ → Bool) (i n m : ℕ) → first_of f (up_from i n) ≡ some m → (k : ℕ) → i ≤ k → k < m → f k ≡ false
+pub first_lowest : (f : ℕ → Bool) (i n m : ℕ) → first_of f (up_from i n) ≡ some m → (k : ℕ) → i ≤ k → k < m
+    → f k ≡ false
 unfolding first_of up_from
 first_lowest f i zero m e k h g = no_some e
 first_lowest f i (suc n) m e k h g = go (f i) refl e (test (eqb k i)) (λ q a. first_lowest f (suc i) n m q k a g)

@@ -158,7 +158,8 @@ may_follow_lem i h = record {
     before_it k (starter s) = absurd (no_start_lem k (job (at plan i)) s)
 
     free : (d : ℕ) → takes plan i d ≡ true
-        → (k : ℕ) × (has k (up_from 0 i) ≡ true) × ((grips plan k d && not (given_back plan (up_from 0 i) k)) ≡ true) → ⊥
+        → (k : ℕ) × (has k (up_from 0 i) ≡ true) × ((grips plan k d && not (given_back plan (up_from 0 i) k)) ≡ true)
+        → ⊥
     free d t r =
         let b = and_split (grips plan r.0 d) (not (given_back plan (up_from 0 i) r.0)) r.2 in
         let g = gripped r.0 d b.0 in

@@ -522,7 +522,8 @@ module _ (p : List ℕ) (rules : Rules p) where
       ok : (is_take (at p k) ≡ true) × (holds_already p k ≡ false)
       ok = outermost p k sk.0
 
-      go : ((m : ℕ) × (mate p i ≡ some m) × (m < k)) ⊎ ((o : ℕ) × (get_elem? (open_takes p (job (at p k)) k) o ≡ some i))
+      go : ((m : ℕ) × (mate p i ≡ some m) × (m < k))
+          ⊎ ((o : ℕ) × (get_elem? (open_takes p (job (at p k)) k) o ≡ some i))
           → (m : ℕ) × (mate p i ≡ some m) × (m < k)
       go (inl r) = r
       go (inr r) =

@@ -14,7 +14,8 @@ use Rattle.model.specs.Mate.{takes_at, held_at, device_at, held_lines, steps, la
 use Rattle.model.specs.WellFormed.{Rules}
 use Rattle.model.specs.Legal.{Follow, Legal}
 use Rattle.model.specs.Rows.{lasting_takes}
-use Rattle.model.specs.Handed.{undone, closes_held, segment, unhindered, closing, segments_after, segments, handed_after}
+use Rattle.model.specs.Handed.{undone, closes_held, segment, unhindered, closing, segments_after, segments}
+use Rattle.model.specs.Handed.{handed_after}
 use Rattle.model.specs.Handed.{handed}
 use Rattle.model.specs.Verdict.{keepers, takes_kept, stays_open, hindered}
 use Rattle.theory.proofs.Tests.{clash, and_split, tests_agree}
@@ -115,7 +116,8 @@ module _ (p : List ℕ) (unheld : (i : ℕ) → is_held (at p i) ≡ false) wher
   unfolding hindered takes_kept stays_open any
   none_hindered D =
       rw (
-        none_any (λ i. takes_at p i && any (λ h. keeps p h (device_at p i)) (held_lines p)) (positions p) (λ i m. free i),
+        none_any (λ i. takes_at p i && any (λ h. keeps p h (device_at p i)) (held_lines p)) (positions p)
+            (λ i m. free i),
         none_any (closes_held p) (undone p (held_lines p ++ segments p)) (λ m h. none_closes m),
       )
     where

@@ -400,7 +400,10 @@ counted f (x ∷ xs) (y ∷ ys) a e h = go (eqb x y) first (counted f xs ys (suc
 
     go : (b : Bool) → f a ≡ not b → length (those f (up_from (suc a) (length xs))) ≡ differing xs ys
         → length {A = ℕ}
-        (elim (f a) [ true ↦ a ∷ those f (up_from (suc a) (length xs)) | false ↦ those f (up_from (suc a) (length xs)) ])
+        (elim (f a) [
+          | true ↦ a ∷ those f (up_from (suc a) (length xs))
+          | false ↦ those f (up_from (suc a) (length xs))
+        ])
         ≡ cond b (differing xs ys) (suc (differing xs ys))
     go true z ih = rw z ih
     go false z ih = rw z (ap suc ih)
@@ -494,7 +497,8 @@ rewritten_same p t (i ∷ is) h =
     ∙ rewritten_same p t is (λ k m. h k (has_tail k i is m))
   where
     fresh : get_or t i 0 ≡ rejoined p t i
-    fresh = eqb-true (get_or t i 0) (rejoined p t i) (not-false (eqb (get_or t i 0) (rejoined p t i)) (h i (has_head i is)))
+    fresh = eqb-true (get_or t i 0) (rejoined p t i)
+        (not-false (eqb (get_or t i 0) (rejoined p t i)) (h i (has_head i is)))
 
 none_changed : (p t : List ℕ) → changed p t t ≡ 0
 unfolding changed those

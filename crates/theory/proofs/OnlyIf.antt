@@ -55,7 +55,8 @@ in_row D p d e m =
     let r = in_union_of (beyond p (table p)) (lasting_takes p d) e (rw (row_is D p d (row_device D p d e m)) at m) in
     record { i = r.0; lasts = (has_those (λ i. lasting p i d) (positions p) r.0 r.1).1; claims = r.2 }
 
-pub row_in_lem : (D : ℕ) (p : List ℕ) (d e i : ℕ) → d < D → lasting p i d ≡ true → member (beyond p (table p) i) e ≡ true
+pub row_in_lem : (D : ℕ) (p : List ℕ) (d e i : ℕ) → d < D → lasting p i d ≡ true
+    → member (beyond p (table p) i) e ≡ true
     → member (get_or (rows D p) d 0) e ≡ true
 unfolding row_of lasting_takes
 row_in_lem D p d e i h l m =

@@ -103,7 +103,8 @@ module _ (p : List ℕ) (rules : Rules p) where
           → ((is_take (at p t) && not (holds_already p t)) || is_held (at p t)) ≡ not (holds_already p t)
       go (inl k) = by_take_lem (is_take (at p t)) (is_held (at p t)) (holds_already p t) k (take_no_held (at p t) k)
       go (inr h) =
-          by_held_lem (is_take (at p t)) (is_held (at p t)) (holds_already p t) (held_no_take (at p t) h) h (held_new t h)
+          by_held_lem (is_take (at p t)) (is_held (at p t)) (holds_already p t) (held_no_take (at p t) h) h
+          (held_new t h)
 
   -- The theorem: a give is outermost exactly if its take is, and always if it is the give of a held line.
   pub outer_together : (t m : ℕ) → opens (at p t) ≡ true → mate p t ≡ some m

@@ -22,7 +22,8 @@ use Rattle.model.specs.Legal.{held, MayFollow, Follow, Legal}
 use Rattle.model.specs.Handed.{handed}
 use Rattle.model.specs.Verdict.{two_lasting, circle_of, circle, takes_kept, stays_open, hindered, no_order, held_at_end}
 use Rattle.model.specs.Entries.{text_fault}
-use Rattle.model.specs.Printed.{order_word, refused_word, printed_line, printed_refusal, printed_order, printed_by, printed}
+use Rattle.model.specs.Printed.{order_word, refused_word, printed_line, printed_refusal, printed_order, printed_by}
+use Rattle.model.specs.Printed.{printed}
 use Rattle.model.specs.Printed.{screen_room}
 use Rattle.model.specs.declared.Refusal.{Refusal}
 use Rattle.model.specs.declared.Refusal.TheVariants.{TextTooLong, TwoLasting, LeadsBack}

@@ -139,10 +139,12 @@ module _ (S : Settings) (text : List ℕ) (short : length text ≤ max_bytes) (n
       let lt = line_there_lem S text n h in
       rw (past_one_more text n lt, spelt_at S text n)
       (next_past lt
-      ∙ handed_line_lem S (past text n) (text_line text n) (drop (suc n) (lines_of text)) (number_in S (text_line text n)) few
+      ∙ handed_line_lem S (past text n) (text_line text n) (drop (suc n) (lines_of text))
+      (number_in S (text_line text n)) few
       (was_spelt S (text_line text n) (rw spelt_at at h)))
 
-pub cursor_past : (S : Settings) (text : List ℕ) → length text ≤ max_bytes → (n : ℕ) → n ≤ max_lines → FirstLines S text n
+pub cursor_past : (S : Settings) (text : List ℕ) → length text ≤ max_bytes → (n : ℕ) → n ≤ max_lines
+    → FirstLines S text n
     → cursor_at S text n ≡ past text n
 unfolding begin cursor_after flatten
 cursor_past S text short zero few lines = cursor_zero S text
@@ -230,7 +232,8 @@ next_right S d text c = long (ltb max_bytes (length text)) (lines_of (drop c.off
     line l false e none q = (omega arith, omega (arith, leb-false max_lines c.lines e))
     line l false e (some n) q = (text_packed S d l n q).1
 
-    long : (b : Bool) (ls : List (List ℕ)) → RightAnswer S (cond b (LineAnswer.Refused TextTooLong) (handed_line S c ls))
+    long : (b : Bool) (ls : List (List ℕ))
+        → RightAnswer S (cond b (LineAnswer.Refused TextTooLong) (handed_line S c ls))
     long true ls = (omega arith, omega arith)
     long false [] = tt
     long false (l ∷ ls) = line l (leb max_lines c.lines) refl (packed_line S l) refl

@@ -523,30 +523,32 @@ module _ (p : List ℕ) (rules : Rules p) (i n : ℕ) (taken : is_take (at p i) 
         rw (eqb-true (operand l) (device_at p i) v.1) at (gives_last g) in
         omega (arith, opened.counts u.0, times_some (device_at p i) (since p i n) o)
 
-module _ (p : List ℕ) (i e n : ℕ) (taken : is_take (at p i) ≡ true) (small : e < held_from) (w : Within p i (suc n)) where
-  -- the lines under the take are as they were
-  same_under : (k : ℕ) → i < k → k ≤ suc i + n → at (edited p i e) k ≡ at p k
-  same_under k a b = (edits p i e taken small).elsewhere k (omega arith) (λ h. omega (arith, w.unmated k h))
+module _ (p : List ℕ) (i e n : ℕ) (taken : is_take (at p i) ≡ true) (small : e < held_from) (w : Within p i (suc n))
+  where
+    -- the lines under the take are as they were
+    same_under : (k : ℕ) → i < k → k ≤ suc i + n → at (edited p i e) k ≡ at p k
+    same_under k a b = (edits p i e taken small).elsewhere k (omega arith) (λ h. omega (arith, w.unmated k h))
 
-  within_edited : Within (edited p i e) i (suc n)
-  within_edited =
-      let a = (edits p i e taken small).alike in
-      record {
-        same_job = λ k x y. a.jobs k ∙ w.same_job k x y ∙ sym (a.jobs i);
-        unmated = λ m h. w.unmated m (sym (same_mate p (edited p i e) a i) ∙ h);
-      }
+    within_edited : Within (edited p i e) i (suc n)
+    within_edited =
+        let a = (edits p i e taken small).alike in
+        record {
+          same_job = λ k x y. a.jobs k ∙ w.same_job k x y ∙ sym (a.jobs i);
+          unmated = λ m h. w.unmated m (sym (same_mate p (edited p i e) a i) ∙ h);
+        }
 
-  -- and the stack before them has the new device in the place of the old one
-  stack_edited : held_there (edited p i e) (suc i + n) ≡ since p i n ++ (e ∷ held_there p i)
-  stack_edited =
-      stack_under (edited p i e) i n (takes_still p i e taken small) within_edited
-      ∙ rw (
-        since_same p (edited p i e) i n (λ k a b. same_under k a (omega arith)),
-        new_device p (edited p i e) i e taken (edits p i e taken small),
-        held_at_take p i e taken small,
-      )
+    -- and the stack before them has the new device in the place of the old one
+    stack_edited : held_there (edited p i e) (suc i + n) ≡ since p i n ++ (e ∷ held_there p i)
+    stack_edited =
+        stack_under (edited p i e) i n (takes_still p i e taken small) within_edited
+        ∙ rw (
+          since_same p (edited p i e) i n (λ k a b. same_under k a (omega arith)),
+          new_device p (edited p i e) i e taken (edits p i e taken small),
+          held_at_take p i e taken small,
+        )
 
-module _ (p : List ℕ) (rules : Rules p) (i e : ℕ) (taken : is_take (at p i) ≡ true) (small : e < held_from) (fresh : Bool)
+module _ (p : List ℕ) (rules : Rules p) (i e : ℕ) (taken : is_take (at p i) ≡ true) (small : e < held_from)
+    (fresh : Bool)
     (is_fresh : fresh ≡ (not (again_at p i) && not (eqb (device_at p i) e))) (n deep : ℕ) (w : Within p i (suc n))
     (opened : Opened p i fresh n deep) where
   is_fresh' : fresh ≡ (not (has (device_at p i) (held_there p i)) && not (eqb (device_at p i) e))
@@ -677,7 +679,8 @@ unfolding has
 has_over x y ys h = go (test (eqb x y))
   where
     go : (eqb x y ≡ true) ⊎ (eqb x y ≡ false) → has x (y ∷ ys) ≡ has x ys
-    go (inl e) = let z = eqb-true x y e in subst (λ (v : ℕ). has v (y ∷ ys) ≡ has v ys) (sym z) (has_head y ys ∙ sym (h (sym z)))
+    go (inl e) = let z = eqb-true x y e
+        in subst (λ (v : ℕ). has v (y ∷ ys) ≡ has v ys) (sym z) (has_head y ys ∙ sym (h (sym z)))
     go (inr e) = rw e
 
 module _ (p : List ℕ) (rules : Rules p) (j x n : ℕ) (of_job : job (at p n) ≡ j)

@@ -113,7 +113,8 @@ module _ (rs : List ℕ) where
       stable : any new (up_from 0 (length rs)) ≡ false → Stable n d
       stable q e h m = split (test (member (led_to n rs d) e))
         where
-          split : (member (led_to n rs d) e ≡ true) ⊎ (member (led_to n rs d) e ≡ false) → member (led_to n rs d) e ≡ true
+          split : (member (led_to n rs d) e ≡ true) ⊎ (member (led_to n rs d) e ≡ false)
+              → member (led_to n rs d) e ≡ true
           split (inl y) = y
           split (inr y) =
               clash (any new (up_from 0 (length rs)))

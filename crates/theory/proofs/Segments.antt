@@ -18,7 +18,8 @@ use Rattle.model.specs.Line.{job, starts, opens, at}
 use Rattle.model.specs.Mate.{takes_at, held_at, device_at, takes, grips, held_lines, mate, keeps}
 use Rattle.model.specs.WellFormed.{Rules}
 use Rattle.model.specs.Legal.{precedes, given_back, held, Follow, Legal}
-use Rattle.model.specs.Handed.{is_at, undone, closes_held, next_of, segment, unhindered, closing, segments_after, segments}
+use Rattle.model.specs.Handed.{is_at, undone, closes_held, next_of, segment, unhindered, closing, segments_after}
+use Rattle.model.specs.Handed.{segments}
 use Rattle.model.specs.Verdict.{takes_kept, stays_open}
 use Rattle.theory.specs.Verdict.{TakesKept}
 use Rattle.theory.proofs.Tests.{clash, test, and_split, and_both, and_second, le_or_lt}

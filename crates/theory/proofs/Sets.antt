@@ -216,7 +216,8 @@ lowest_from : (D e s : ℕ) → get_or (first_of (member s) (up_from e D)) (e + 
 unfolding first_of up_from count_trailing_zeros
 lowest_from zero e s = refl
 lowest_from (suc D) e s =
-    go (member s e) refl (lowest_from D (suc e) s ∙ ap (λ (x : ℕ). suc e + count_trailing_zeros D x) (sym (half_shift s e)))
+    go (member s e) refl (lowest_from D (suc e) s
+    ∙ ap (λ (x : ℕ). suc e + count_trailing_zeros D x) (sym (half_shift s e)))
   where
     go : (b : Bool) → member s e ≡ b
         → get_or (first_of (member s) (up_from (suc e) D)) (suc e + D) ≡ suc e + count_trailing_zeros D (s / 2 ^ e / 2)

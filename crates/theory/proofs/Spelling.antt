@@ -51,7 +51,8 @@ pub verb_of_number : (s : List ℕ) (v : ℕ) → verb_number s ≡ some v → (
 unfolding verb_number
 verb_of_number s v e =
     let test : ℕ → Bool = λ v. same s (verb v) in
-    let a : Answer test (up_from 0 5) (some v) = subst (Answer test (up_from 0 5)) e (first_answer test (up_from 0 5)) in
+    let a : Answer test (up_from 0 5) (some v) =
+    subst (Answer test (up_from 0 5)) e (first_answer test (up_from 0 5)) in
     (same_list s (verb v) a.1, omega (arith, (has_up_from 0 5 v a.0).1))
 
 -- ---- a line and its three fields

@@ -280,7 +280,8 @@ held_at_end_exactly p o legal d = (to, from)
 
     never_given : (k : ℕ) → given_back p all k ≡ false → (m : Option ℕ) → mate p k ≡ m → is_none m ≡ true
     never_given k n none e = refl
-    never_given k n (some m) e = clash (given_back p all k) (given_back_lem p all k m e (every m (pair p k m e).in_plan)) n
+    never_given k n (some m) e =
+        clash (given_back p all k) (given_back_lem p all k m e (every m (pair p k m e).in_plan)) n
 
     to : held p all d ≡ true → (i : ℕ) × (keeps p i d ≡ true)
     to h =

@@ -207,7 +207,8 @@ module _ (p : List ℕ) (rules : Rules p) where
       go (inr m) ih = rw (way_past p j n m) (past (ih j x))
         where
           past : (((k : ℕ) → k < n → onto p j k ≡ false) × (way_in p j n ≡ [])) ⊎ Running p (last_or x (way_in p j n))
-              → (((k : ℕ) → k < suc n → onto p j k ≡ false) × (way_in p j n ≡ [])) ⊎ Running p (last_or x (way_in p j n))
+              → (((k : ℕ) → k < suc n → onto p j k ≡ false) × (way_in p j n ≡ []))
+              ⊎ Running p (last_or x (way_in p j n))
           past (inr r) = inr r
           past (inl r) = inl (λ k lt. each k lt (test (eqb k n)), r.1)
             where

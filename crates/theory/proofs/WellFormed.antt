@@ -85,7 +85,8 @@ fault_by n b3 b2 b4 b5 b7 b16 b17 =
     ∷ refuse_if b2 (Malformed n)
     ∷ refuse_if b4 (JobOutOfSequence n)
     ∷ first_refusal
-    (refuse_if b5 (BadStart n) ∷ refuse_if b7 (GiveWithoutTake n) ∷ refuse_if b16 (HeldTwice n) ∷ refuse_if b17 (HeldLate n)
+    (refuse_if b5 (BadStart n) ∷ refuse_if b7 (GiveWithoutTake n) ∷ refuse_if b16 (HeldTwice n)
+    ∷ refuse_if b17 (HeldLate n)
     ∷ [])
     ∷ [])
 
@@ -294,7 +295,12 @@ module _ (S : Settings) (p : List ℕ) (i : ℕ) where
   broken_found r (too_many h) = fault_is ∙ rw (le-leb max_lines i h)
   broken_found r (malformed f h) = fault_is ∙ rw (lt-leb max_lines i f, h)
   broken_found r (out_of_sequence f h n) =
-      fault_is ∙ rw (lt-leb max_lines i f, h, falsely (in_sequence (before p i) (at p i)) (λ e. n ((follows_on_lem p i).0 e)))
+      fault_is ∙ rw (
+        lt-leb max_lines i f,
+        h,
+        falsely (in_sequence (before p i) (at p i))
+            (λ e. n ((follows_on_lem p i).0 e)),
+      )
   broken_found r (bad_start f h s t e) = opened f h s ∙ rw (t, broken_start e)
   broken_found r (bad_give f h s t e) = opened f h s ∙ rw (give_no_start (at p i) t, t, e)
   broken_found r (held_twice f h s t e) = opened_held f h s t ∙ rw (found_twice e.0 e.1 e.2)

@@ -11,7 +11,8 @@ use Rattle.model.specs.Claims.{table}
 use Rattle.model.specs.Rows.{row_of, rows}
 use Rattle.model.specs.Move.{asked_at}
 use Rattle.model.specs.Entries.{Outcome, Lent, ordering}
-use Rattle.model.specs.Kept.{lasts_in, held_to_end, Beside, beside_of, over_all, concerned, LentBeside, moving_kept, quick}
+use Rattle.model.specs.Kept.{lasts_in, held_to_end, Beside, beside_of, over_all, concerned, LentBeside, moving_kept}
+use Rattle.model.specs.Kept.{quick}
 use Rattle.model.specs.declared.MoveAnswer.{MoveAnswer}
 use Rattle.theory.specs.Move.{Accepted, Unmoved, Ask}
 

@@ -1,7 +1,8 @@
 -- The words in which theory says what moves do (01, "Moving a claim"; 02, requests 2 and 5): where the way ends, why a
 -- move is refused, what it leaves, and the same of any list of moves. What is claimed of moves is claimed in these
 -- words, so they are read like those of `model`.
-use Rattle.std.specs.Prelude.{ℕ, suc, ◌<◌, ◌≤◌, true, false, cond, List, [], ◌∷◌, ◌++◌, ◌≢◌, ◌≡◌, eqb, length, get_or, drop}
+use Rattle.std.specs.Prelude.{ℕ, suc, ◌<◌, ◌≤◌, true, false, cond, List, [], ◌∷◌, ◌++◌, ◌≢◌, ◌≡◌, eqb, length, get_or}
+use Rattle.std.specs.Prelude.{drop}
 use Rattle.std.proofs.Math.Option.{none}
 use Rattle.model.specs.Lists.{has}
 use Rattle.model.specs.Line.{Settings, job, starts, at}

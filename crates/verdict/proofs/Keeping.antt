@@ -21,7 +21,8 @@ use Rattle.theory.proofs.Tests.{clash}
 use Rattle.theory.proofs.Lists.{has_none, left, left_one, left_every, among}
 use Rattle.theory.proofs.Sets.{member_empty}
 use Rattle.theory.proofs.Progress.{undone_has, Picked, stuck, goes, picked, never_stuck}
-use Rattle.theory.proofs.LineByLine.{chosen, lines_after, lines_step, Stands, has_stands, goes_on_lem, more_new, has_other}
+use Rattle.theory.proofs.LineByLine.{chosen, lines_after, lines_step, Stands, has_stands, goes_on_lem, more_new}
+use Rattle.theory.proofs.LineByLine.{has_other}
 use Rattle.theory.proofs.WellFormed.{no_held_in_morning}
 use Rattle.theory.proofs.Morning.{handed_line_by_line}
 use Rattle.verdict.specs.declared.waiting.Waiting.{Waiting}

@@ -177,7 +177,8 @@ module _ {p : List ℕ} (w : WellFormed board p) where
       one q (inl l) (inr m) = absurd (not_above s t q m)
       one q (inl l) (inl m) = omega arith
 
-      go : (lasting_at p i ≡ true) ⊎ (lasting_at p i ≡ false) → (lasting_at p k ≡ true) ⊎ (lasting_at p k ≡ false) → i ≡ k
+      go : (lasting_at p i ≡ true) ⊎ (lasting_at p i ≡ false) → (lasting_at p k ≡ true) ⊎ (lasting_at p k ≡ false)
+          → i ≡ k
       go (inl a) (inl b) = two a b (test (eqb i k))
       go (inl a) (inr b) = absurd (omega (arith, e, place_lasting p i a, place_job p k b, fits_k.1, fits_k.0))
       go (inr a) (inl b) = absurd (omega (arith, e, place_job p i a, place_lasting p k b, fits.1, fits.0))

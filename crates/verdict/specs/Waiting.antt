@@ -3,7 +3,8 @@
 -- of its job. The places taken are two sets, of jobs and of devices, so the lowest is read off a word; a list says
 -- which line waits at each place. Takes still to do are counted by device, and a third set has the devices that at most
 -- one of them takes; lines are counted as they count, so that a take of what its job holds is none (02, request 2).
-use Rattle.std.specs.Prelude.{ℕ, zero, suc, ◌+◌, ◌-◌, ◌%◌, ◌≤◌, Bool, cond, not, ◌&&◌, List, ◌≡◌, eqb, leb, ltb, length, get_or, set, replicate}
+use Rattle.std.specs.Prelude.{ℕ, zero, suc, ◌+◌, ◌-◌, ◌%◌, ◌≤◌, Bool, cond, not, ◌&&◌, List, ◌≡◌, eqb, leb, ltb, length}
+use Rattle.std.specs.Prelude.{get_or, set, replicate}
 use Rattle.std.proofs.Math.Option.{none}
 use mir.Val.{bool_byte}
 use Rattle.model.specs.Sets.{empty, union, member, lowest_of}

@@ -71,7 +71,8 @@ loop-again c =
     let l = c.loop-i in
     let back : l.i ≡ suc (l.i - 1) = omega arith in
     one_done a.plan.now a.sets.now l.sets l.claimed (l.i - 1) c.job-j.result c.claim-s.result
-    (rw back at l.invariant) (line_at c.before.before) (job_is_lem c.before.before) (rw (counts c.before.before) at c.claim-s.ensures)
+    (rw back at l.invariant) (line_at c.before.before) (job_is_lem c.before.before)
+    (rw (counts c.before.before) at c.claim-s.ensures)
 
 returns : tie.Need-returns invariant-loop decreases-loop
 returns c =

@@ -26,4 +26,5 @@ returns c = omega (arith, digits_one c.before.loop-rest.rest (omega (arith, c.lo
 pub digits_spec : {M : Type 1} → statement M
 digits_spec =
     tie.close
-    (tie.spec invariant-loop decreases-loop (λ c. search rules) (λ c. search rules) (λ c. search rules) loop-again returns)
+    (tie.spec invariant-loop decreases-loop (λ c. search rules) (λ c. search rules) (λ c. search rules) loop-again
+    returns)

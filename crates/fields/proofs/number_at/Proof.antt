@@ -50,6 +50,7 @@ returns-4 c = no_end c.before.loop-at.invariant c.loop-at-test.false
 pub number_at_spec : {M : Type 1} → statement M
 number_at_spec =
     tie.close
-    (tie.spec invariant-loop decreases-loop loop-holds (λ c. search rules) returns (λ c. search rules) (λ c. search rules)
+    (tie.spec invariant-loop decreases-loop loop-holds (λ c. search rules) returns (λ c. search rules)
+    (λ c. search rules)
     returns-2 (λ c κs. at_most_lem c.before.before.before.loop-at.invariant) returns-3 (λ c. search rules)
     (λ c. search rules) loop-again returns-4)

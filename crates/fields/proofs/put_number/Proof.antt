@@ -43,6 +43,7 @@ returns-2 c = let at_loop = c.before.loop-i in rw at_loop.invariant.0 (last_all 
 pub put_number_spec : {M : Type 1} → statement M
 put_number_spec =
     tie.close
-    (tie.spec invariant-loop decreases-loop (λ c κs. search rules) (λ c κs. search rules) returns loop-holds (λ c. search rules)
+    (tie.spec invariant-loop decreases-loop (λ c κs. search rules) (λ c κs. search rules) returns loop-holds
+    (λ c. search rules)
     (λ c. search rules) (λ c. search rules) (λ c. search rules) (λ c. search rules) loop-again (λ c. search rules)
     returns-2)

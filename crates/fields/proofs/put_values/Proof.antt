@@ -69,6 +69,7 @@ returns-2 c =
 pub put_values_spec : {M : Type 1} → statement M
 put_values_spec =
     tie.close
-    (tie.spec invariant-loop decreases-loop (λ c κs. search rules) returns loop-holds (λ c. search rules) (λ c. search rules)
+    (tie.spec invariant-loop decreases-loop (λ c κs. search rules) returns loop-holds (λ c. search rules)
+    (λ c. search rules)
     put-value-requires (λ c. search rules) (λ c. search rules) loop-again (λ c κs. search rules) same_length
     returns-2)

@@ -60,5 +60,6 @@ returns-2 c =
 pub put_word_spec : {M : Type 1} → statement M
 put_word_spec =
     tie.close
-    (tie.spec invariant-loop decreases-loop (λ c κs. search rules) returns loop-holds (λ c. search rules) (λ c. search rules)
+    (tie.spec invariant-loop decreases-loop (λ c κs. search rules) returns loop-holds (λ c. search rules)
+    (λ c. search rules)
     (λ c. search rules) (λ c. search rules) (λ c. search rules) loop-again (λ c. search rules) returns-2)

@@ -8,7 +8,8 @@ use Rattle.line.proofs.Ranges.{held_device}
 use Rattle.line.proofs.tested.Statement.{statement}
 use Rattle.line.proofs.tested.Tie as tie
 
-picked : (l : ℕ) (m : Bool) → cond (is_held l && m) (l % 128) (operand l) ≡ cond (is_held l && m) (device_of l) (operand l)
+picked : (l : ℕ) (m : Bool)
+    → cond (is_held l && m) (l % 128) (operand l) ≡ cond (is_held l && m) (device_of l) (operand l)
 picked l m = go (is_held l) refl m
   where
     go : (h : Bool) → is_held l ≡ h → (m : Bool)

@@ -106,7 +106,8 @@ returns-3 c =
       goes_on_lem (board_at a.midday) a.n a.i a.prev a.named a.early a.first.now a.starter.now
           (next_by f.result f.new.stack first f.new.starter) a.depth
           c.choose-d.result c.job-j.result c.choose.result a.stack.now
-          (placed t) (unheld c.before.before.before.before.before.before.before) c.job-j.ensures c.choose.ensures c.choose-d.ensures
+          (placed t) (unheld c.before.before.before.before.before.before.before) c.job-j.ensures c.choose.ensures
+          c.choose-d.ensures
           (f.ensures.0 first),
       walking a.i f.result f.new.stack a.first.now f.new.starter c.job-j.result
           c.choose.result f.ensures.1.0 t.requires.1.first_long f.ensures.1.1,

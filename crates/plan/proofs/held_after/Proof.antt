@@ -47,7 +47,8 @@ returns c =
       c.opens.ensures,
       c.device.ensures,
     ) (
-      λ first starter. left_held a.n a.depth a.stack.now c.requires.4 c.requires.2 (room c.before.before.before.before.before) c.requires.5 a.i
+      λ first starter. left_held a.n a.depth a.stack.now c.requires.4 c.requires.2
+          (room c.before.before.before.before.before) c.requires.5 a.i
           c.requires.3 first starter,
       (
         deep_after a.n a.depth a.i c.requires.1,

@@ -1,5 +1,6 @@
 -- `plan::misplaced` meets its contract: the tests pick the case of `place_fault`.
-use Rattle.std.proofs.Common.{◌≡◌, ℕ, suc, ◌+◌, ◌%◌, ◌^◌, ◌<◌, ◌≤◌, Bool, true, false, not, ◌||◌, eqb, ◌⊎◌, [], ◌∷◌, sym, refl, ap, ◌∙◌, inl, inr, add-one, arith, rules, eq-eqb, ne_eqb, le-leb}
+use Rattle.std.proofs.Common.{◌≡◌, ℕ, suc, ◌+◌, ◌%◌, ◌^◌, ◌<◌, ◌≤◌, Bool, true, false, not, ◌||◌, eqb, ◌⊎◌, [], ◌∷◌}
+use Rattle.std.proofs.Common.{sym, refl, ap, ◌∙◌, inl, inr, add-one, arith, rules, eq-eqb, ne_eqb, le-leb}
 use borrow.Author.Tests.{lt-leb, eqb-false}
 use Rattle.model.specs.Answers.{first_refusal, refuse_if}
 use Rattle.model.specs.Board.{board_at}

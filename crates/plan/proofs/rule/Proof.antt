@@ -1,5 +1,6 @@
 -- `plan::rule` meets its contract: a give by `misgives`, a start by its own test, what is left by `held_after`.
-use Rattle.std.proofs.Common.{◌≡◌, ℕ, ◌+◌, true, false, ◌&&◌, eqb, ltb, List, get_or, set, sym, ◌∙◌, add-one, arith, length-set, rules, eqb-true}
+use Rattle.std.proofs.Common.{◌≡◌, ℕ, ◌+◌, true, false, ◌&&◌, eqb, ltb, List, get_or, set, sym, ◌∙◌, add-one, arith}
+use Rattle.std.proofs.Common.{length-set, rules, eqb-true}
 use Rattle.model.specs.Board.{board_at}
 use Rattle.model.specs.Line.{job, kind, operand, opens, is_give, is_start, line_number}
 use Rattle.model.specs.declared.Refusal.TheVariants.{BadStart}

@@ -8,13 +8,15 @@ use Rattle.plan.proofs.walk.Statement.{statement}
 use Rattle.plan.proofs.walk.Tie as tie
 
 abbrev invariant-loop : tie.invariant-loop-i
-invariant-loop plan midday noting first₀ starter₀ again₀ holdings₀ stack₀ added₀ depth₀ held₀ named₀ early₀ prev₀ i₀ stop
+invariant-loop plan midday noting first₀ starter₀ again₀ holdings₀ stack₀ added₀ depth₀ held₀ named₀ early₀ prev₀ i₀
+    stop
     first starter again holdings stack added depth held named early prev i =
     At (board_at midday) plan i prev named early depth stack first starter
     × (noting ≡ true → Notes plan i depth held stack added again holdings) × (i ≤ stop)
 
 abbrev decreases-loop : tie.decreases-loop-i
-decreases-loop plan midday noting first₀ starter₀ again₀ holdings₀ stack₀ added₀ depth₀ held₀ named₀ early₀ prev₀ i₀ stop
+decreases-loop plan midday noting first₀ starter₀ again₀ holdings₀ stack₀ added₀ depth₀ held₀ named₀ early₀ prev₀ i₀
+    stop
     first starter again holdings stack added depth held named early prev i =
     stop - i
 
@@ -77,7 +79,8 @@ loop-again c =
           rw (g.keeps, g.holds, g.adds, g.flags)
           (notes_next b.midday p c.loop-i.i c.loop-i.prev c.loop-i.named c.loop-i.early c.loop-i.depth
           c.loop-i.held c.loop-i.stack c.loop-i.first c.loop-i.starter c.loop-i.added c.loop-i.again
-          c.loop-i.holdings c.loop-i.invariant.0 (c.loop-i.invariant.1 t) (search rules) f.result f.new.stack f.new.first
+          c.loop-i.holdings c.loop-i.invariant.0 (c.loop-i.invariant.1 t) (search rules) f.result f.new.stack
+          f.new.first
           f.new.starter f.ensures.0 c.in-On.d c.in-On.is a),
       search rules,
     )

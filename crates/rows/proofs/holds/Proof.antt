@@ -34,7 +34,8 @@ returns-2 c =
     let scanned = c.scan.ensures in
     let a = (entry c.before.before.before.before.before).args in
     made a.plan.now a.first.now _ a.again.now _ a.rows.now a.lasting.now scanned.firsts
-    scanned.agains _ _ _ _ c.walk_back-made.result (no_fault_lem c.before.before.before.before.before) c.walk_back-made.ensures
+    scanned.agains _ _ _ _ c.walk_back-made.result (no_fault_lem c.before.before.before.before.before)
+    c.walk_back-made.ensures
 
 pub holds_spec : {M : Type 1} → statement M
 holds_spec =

@@ -41,5 +41,6 @@ returns c =
 pub join_line_spec : {M : Type 1} → statement M
 join_line_spec =
     tie.close
-    (tie.spec (λ c κs. search rules) (λ c. search rules) (λ c. search rules) (λ c. has_place c.before) (λ c κs. search rules)
+    (tie.spec (λ c κs. search rules) (λ c. search rules) (λ c. search rules) (λ c. has_place c.before)
+    (λ c κs. search rules)
     (λ c κs. search rules) (λ c. search rules) (λ c. has_place c.before.before.before.before.before.before) returns)

@@ -1,5 +1,6 @@
 -- `rows::join_row` meets its contract: a device of the board has its row.
-use Rattle.std.proofs.Common.{◌≡◌, ℕ, ◌<◌, Bool, true, false, ◌&&◌, ltb, List, get_or, set, sym, ap, ◌∙◌, rules, ltb-true}
+use Rattle.std.proofs.Common.{◌≡◌, ℕ, ◌<◌, Bool, true, false, ◌&&◌, ltb, List, get_or, set, sym, ap, ◌∙◌, rules}
+use Rattle.std.proofs.Common.{ltb-true}
 use Rattle.model.specs.Board.{devices}
 use Rattle.model.specs.Sets.{union}
 use Rattle.model.specs.Line.{operand}
@@ -42,5 +43,6 @@ returns-2 c =
 pub join_row_spec : {M : Type 1} → statement M
 join_row_spec =
     tie.close
-    (tie.spec (λ c κs. search rules) (λ c. search rules) (λ c. search rules) (λ c. has_row c.before) (λ c κs. search rules)
+    (tie.spec (λ c κs. search rules) (λ c. search rules) (λ c. search rules) (λ c. has_row c.before)
+    (λ c κs. search rules)
     (λ c. search rules) (λ c. has_row c.before.before.before) returns returns-2)

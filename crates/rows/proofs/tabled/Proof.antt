@@ -24,14 +24,18 @@ returns c =
 
 -- the flags are the plan's
 walk-back-requires : tie.Need-walk_back-made-requires
-walk-back-requires c κs =
-    (no_fault_lem c.before.before.before.before, rw (no_fault_lem c.before.before.before.before) at c.scan.ensures.agains)
+walk-back-requires c κs = (
+  no_fault_lem c.before.before.before.before,
+  rw (no_fault_lem c.before.before.before.before) at
+      c.scan.ensures.agains,
+)
 
 -- rows and table
 returns-2 : tie.Need-returns
 returns-2 c =
     let a = (entry c.before.before.before.before.before.before.before).args in
-    is_tabled a.plan.now a.rows.now a.table.now _ _ _ c.walk_back-made.result (no_fault_lem c.before.before.before.before.before.before.before)
+    is_tabled a.plan.now a.rows.now a.table.now _ _ _ c.walk_back-made.result
+    (no_fault_lem c.before.before.before.before.before.before.before)
     c.walk_back-made.ensures
 
 pub tabled_spec : {M : Type 1} → statement M

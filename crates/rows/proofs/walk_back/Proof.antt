@@ -55,14 +55,19 @@ join-line-requires c κs =
     let fine = (s c.before.before.before.before).requires.0 in
     let back : l.i ≡ suc (l.i - 1) = omega arith in
     let m = rw back at l.invariant in
-    rw (counts c.before.before.before.before) (counts_line fine m (passed_on c.before.before.before.before), is_take_lem fine m (passed_on c.before.before.before.before))
+    rw (counts c.before.before.before.before) (
+      counts_line fine m (passed_on c.before.before.before.before),
+      is_take_lem fine m
+          (passed_on c.before.before.before.before),
+    )
 
 loop-again : tie.Need-loop-i-preserved invariant-loop decreases-loop
 loop-again c =
     let l = c.loop-i in
     let back : l.i ≡ suc (l.i - 1) = omega arith in
     rw c.store.ensures
-    (one_walked (s c.before.before.before.before.before.before.before.before.before).requires.0 (rw back at l.invariant) (passed_on c.before.before.before.before.before.before.before.before.before)
+    (one_walked (s c.before.before.before.before.before.before.before.before.before).requires.0 (rw back at l.invariant)
+    (passed_on c.before.before.before.before.before.before.before.before.before)
     (rw (counts c.before.before.before.before.before.before.before.before.before) at c.join_line-s.ensures))
 
 returns : tie.Need-returns invariant-loop decreases-loop

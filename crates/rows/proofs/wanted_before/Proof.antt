@@ -1,5 +1,6 @@
 -- `rows::wanted_before` meets its contract: a take serves one, where one is wanted.
-use Rattle.std.proofs.Common.{◌≡◌, ℕ, zero, suc, ◌+◌, ◌-◌, ◌%◌, ◌^◌, ◌<◌, ◌≤◌, Bool, true, false, cond, ltb, refl, arith, rules, lt-ltb}
+use Rattle.std.proofs.Common.{◌≡◌, ℕ, zero, suc, ◌+◌, ◌-◌, ◌%◌, ◌^◌, ◌<◌, ◌≤◌, Bool, true, false, cond, ltb, refl}
+use Rattle.std.proofs.Common.{arith, rules, lt-ltb}
 use mir.Val.{bool_byte}
 use Rattle.model.specs.Line.{opens, is_give}
 use Rattle.rows.specs.Lasting.{wanted_before}

@@ -45,13 +45,15 @@ returns-3 : tie.Need-returns-then-e-lt-DEVICES
 returns-3 c =
     let a = (start c.before).args in
     without_order a.plan.now a.order.now (start c.before).requires.marked.sound (room c.before).if-order-n.false _
-    (leads_back_lem (start c.before).requires (no_9 c.before).lowest-d.ensures (no_9 c.before).if-d-lt-DEVICES.false (back c.before)
+    (leads_back_lem (start c.before).requires (no_9 c.before).lowest-d.ensures (no_9 c.before).if-d-lt-DEVICES.false
+    (back c.before)
     c.if-e-lt-DEVICES.true)
 
 -- neither
 orderly : (c : tie.Else-e-lt-DEVICES) → no_order devices (start c.before).args.plan.now ≡ none
 orderly c =
-    has_order (start c.before).requires (no_9 c.before).lowest-d.ensures (no_9 c.before).if-d-lt-DEVICES.false (back c.before) c.if-e-lt-DEVICES.false
+    has_order (start c.before).requires (no_9 c.before).lowest-d.ensures (no_9 c.before).if-d-lt-DEVICES.false
+    (back c.before) c.if-e-lt-DEVICES.false
 
 hand-out-requires : tie.Need-hand_out-requires
 hand-out-requires c κs =
@@ -62,8 +64,10 @@ returns-4 : tie.Need-returns
 returns-4 c =
     let a = (start c.before.before.before.before.before.before).args in
     let pre = (start c.before.before.before.before.before.before).requires in
-    ordered a.plan.now a.order.now pre.marked.sound (room c.before.before.before.before.before.before).if-order-n.false c.count.result _
-    (orderly c.before.before.before.before.before) (c.count.ensures ∙ count_held pre (orderly c.before.before.before.before.before)) c.hand_out.ensures
+    ordered a.plan.now a.order.now pre.marked.sound (room c.before.before.before.before.before.before).if-order-n.false
+    c.count.result _
+    (orderly c.before.before.before.before.before)
+    (c.count.ensures ∙ count_held pre (orderly c.before.before.before.before.before)) c.hand_out.ensures
 
 pub decide_spec : {M : Type 1} → statement M
 decide_spec =

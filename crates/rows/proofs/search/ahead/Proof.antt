@@ -58,7 +58,8 @@ loop-less c =
       c.only.ensures,
       sym (start c.before.before.before.before.before).requires.0,
     )
-    (following_less (rows c.before.before.before.before.before) a.within a.from l.reached l.done l.invariant c.lowest-d.result
+    (following_less (rows c.before.before.before.before.before) a.within a.from l.reached l.done l.invariant
+    c.lowest-d.result
     (chosen c.before.before.before.before.before))
 
 loop-again : tie.Need-loop-reached-preserved invariant-loop decreases-loop
@@ -72,8 +73,11 @@ loop-again c =
       c.only.ensures,
       sym (start c.before.before.before.before.before).requires.0,
     )
-    (following_on (rows c.before.before.before.before.before) a.within a.from l.reached l.done l.invariant c.lowest-d.result
-    (chosen c.before.before.before.before.before) (rw (start c.before.before.before.before.before).requires.0 (start c.before.before.before.before.before).ranges.within.fits))
+    (following_on (rows c.before.before.before.before.before) a.within a.from l.reached l.done l.invariant
+    c.lowest-d.result
+    (chosen c.before.before.before.before.before)
+    (rw (start c.before.before.before.before.before).requires.0
+    (start c.before.before.before.before.before).ranges.within.fits))
 
 returns : tie.Need-returns invariant-loop decreases-loop
 returns c =
@@ -85,6 +89,7 @@ returns c =
 pub ahead_spec : {M : Type 1} → statement M
 ahead_spec =
     tie.close
-    (tie.spec invariant-loop decreases-loop (λ c κs. search rules) loop-holds (λ c κs. search rules) (λ c κs. search rules)
+    (tie.spec invariant-loop decreases-loop (λ c κs. search rules) loop-holds (λ c κs. search rules)
+    (λ c κs. search rules)
     (λ c κs. search rules) (λ c κs. search rules) (λ c κs. search rules) cast-both mul-both shared-slice-read-both
     (λ c κs. search rules) (λ c κs. search rules) loop-less loop-again returns)

@@ -42,5 +42,6 @@ returns c =
 pub behind_spec : {M : Type 1} → statement M
 behind_spec =
     tie.close
-    (tie.spec invariant-loop decreases-loop loop-holds (λ c κs. search rules) (λ c κs. search rules) (λ c κs. search rules) loop-less
+    (tie.spec invariant-loop decreases-loop loop-holds (λ c κs. search rules) (λ c κs. search rules)
+    (λ c κs. search rules) loop-less
     loop-again returns)

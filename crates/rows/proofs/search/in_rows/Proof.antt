@@ -32,7 +32,8 @@ returns c =
     let l = c.loop-d in
     let rs = c.args.rows.now in
     rw c.requires
-    (l.invariant.1 ∙ joined_whole devices l.d (row_at rs) l.invariant.0 (λ k h. absurd (omega (arith, c.loop-d-test.false))))
+    (l.invariant.1 ∙ joined_whole devices l.d (row_at rs) l.invariant.0
+    (λ k h. absurd (omega (arith, c.loop-d-test.false))))
 
 pub in_rows_spec : {M : Type 1} → statement M
 in_rows_spec =

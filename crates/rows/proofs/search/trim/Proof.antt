@@ -40,4 +40,5 @@ returns c =
 pub trim_spec : {M : Type 1} → statement M
 trim_spec =
     tie.close
-    (tie.spec invariant-loop decreases-loop loop-holds (λ c κs. search rules) (λ c κs. search rules) loop-less loop-again returns)
+    (tie.spec invariant-loop decreases-loop loop-holds (λ c κs. search rules) (λ c κs. search rules) loop-less
+    loop-again returns)

@@ -47,7 +47,8 @@ loop-less c =
       c.only.ensures,
       sym (start c.before.before.before.before.before).requires.0,
     )
-    (walking_less (rows c.before.before.before.before.before) (start c.before.before.before.before.before).args.left l.at l.rest l.invariant (here c.before.before.before.before.before))
+    (walking_less (rows c.before.before.before.before.before) (start c.before.before.before.before.before).args.left
+    l.at l.rest l.invariant (here c.before.before.before.before.before))
 
 loop-again : tie.Need-loop-rest-preserved invariant-loop decreases-loop
 loop-again c =
@@ -59,7 +60,8 @@ loop-again c =
       c.only.ensures,
       sym (start c.before.before.before.before.before).requires.0,
     )
-    (walking_on (rows c.before.before.before.before.before) (start c.before.before.before.before.before).args.left l.at l.rest l.invariant (here c.before.before.before.before.before))
+    (walking_on (rows c.before.before.before.before.before) (start c.before.before.before.before.before).args.left l.at
+    l.rest l.invariant (here c.before.before.before.before.before))
 
 returns : tie.Need-returns invariant-loop decreases-loop
 returns c =
@@ -71,7 +73,8 @@ returns c =
 pub walk_spec : {M : Type 1} → statement M
 walk_spec =
     tie.close
-    (tie.spec invariant-loop decreases-loop (λ c κs. search rules) loop-holds (λ c κs. search rules) (λ c κs. search rules)
+    (tie.spec invariant-loop decreases-loop (λ c κs. search rules) loop-holds (λ c κs. search rules)
+    (λ c κs. search rules)
     (λ c κs. search rules) cast-both mul-both (λ c. board c.before.before.before) (λ c κs. search rules)
     (λ c κs. search rules)
     loop-less loop-again returns)

@@ -16,7 +16,8 @@ invariant-loop plan first again lasting order₀ places₀ counts₀ w₀ on₀ 
     Handing plan first again lasting order₀ order places counts w on i k
 
 abbrev decreases-loop : tie.decreases-loop-k
-decreases-loop plan first again lasting order₀ places₀ counts₀ w₀ on₀ i₀ k₀ order places counts w on i k = length plan - k
+decreases-loop plan first again lasting order₀ places₀ counts₀ w₀ on₀ i₀ k₀ order places counts w on i k =
+    length plan - k
 
 tally-requires : tie.Need-tally-counts-requires invariant-loop decreases-loop
 tally-requires c κs = let pre = c.requires in (pre.0.0.sound, pre.0.2)
@@ -49,7 +50,8 @@ slice-write-order c =
 
 pass-requires : tie.Need-pass-w-requires invariant-loop decreases-loop
 pass-requires c κs =
-    asks (in_loop c.before.before.before).loop-k.invariant (in_loop c.before.before.before).loop-k-test.true c.goes_next-c.ensures
+    asks (in_loop c.before.before.before).loop-k.invariant (in_loop c.before.before.before).loop-k-test.true
+    c.goes_next-c.ensures
 
 goes-on-requires : tie.Need-goes_on-on-requires invariant-loop decreases-loop
 goes-on-requires c κs =
@@ -59,7 +61,8 @@ goes-on-requires c κs =
 loop-again : tie.Need-loop-k-preserved invariant-loop decreases-loop
 loop-again c =
     let p = c.pass-w.ensures in
-    hands_on (in_loop c.before.before.before.before.before).loop-k.invariant (in_loop c.before.before.before.before.before).loop-k-test.true c.goes_next-c.ensures p.0
+    hands_on (in_loop c.before.before.before.before.before).loop-k.invariant
+    (in_loop c.before.before.before.before.before).loop-k-test.true c.goes_next-c.ensures p.0
     p.1.0 p.1.1 c.goes_on-on.ensures
 
 same_length : tie.Need-shape_of-order invariant-loop decreases-loop

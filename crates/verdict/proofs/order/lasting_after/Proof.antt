@@ -16,17 +16,20 @@ in_job : (c : tie.Then-job_follows) → followed (start c).args.plan.now (start 
 in_job c = sym c.job_follows.ensures ∙ c.if-job_follows.true
 
 mark-at : tie.Need-bounds-lasting-i
-mark-at c = let m = (start c.before).requires.0 in omega (arith, few m, next_line_lem m (start c.before).args.i (in_job c.before))
+mark-at c = let m = (start c.before).requires.0
+    in omega (arith, few m, next_line_lem m (start c.before).args.i (in_job c.before))
 
 -- it is a lasting take
 returns : tie.Need-returns-then-lasting-i-eq1
 returns c =
-    after_marked (start c.before.before.before).requires.0 (start c.before.before.before).args.i (in_job c.before.before.before) c.if-lasting-i-eq1.true
+    after_marked (start c.before.before.before).requires.0 (start c.before.before.before).args.i
+    (in_job c.before.before.before) c.if-lasting-i-eq1.true
 
 -- it is not
 returns-2 : tie.Need-returns-else-lasting-i-eq1
 returns-2 c =
-    after_unmarked (start c.before.before.before).requires.0 (start c.before.before.before).args.i (in_job c.before.before.before) c.if-lasting-i-eq1.false
+    after_unmarked (start c.before.before.before).requires.0 (start c.before.before.before).args.i
+    (in_job c.before.before.before) c.if-lasting-i-eq1.false
 
 -- the job's last line
 returns-3 : tie.Need-returns-else-job_follows
