@@ -132,7 +132,7 @@ class Turner:
 
     def turn_code(self, code, local, other):
         out, last = [], 0
-        quoted = [it.span() for it in re.finditer(r'"(?:[^"\\\\]|\\\\.)*"', code)]
+        quoted = [it.span() for it in re.finditer(r'"(?:[^"\\]|\\.)*"', code)]
         for m in WORD.finditer(code):
             if any(a <= m.start() < b for a, b in quoted):
                 continue
