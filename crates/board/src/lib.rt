@@ -1,7 +1,7 @@
 // The board and the limits of a plan, for all code (01, "The plan as text"). The definitions have them in
 // model/specs/Board.antt and model/specs/Line.antt; a proof that puts one for the other fails where they differ. No
-// other source has these numbers. DEVICES is the width of Set: a house with another number of devices changes both.
-// With a number that is no type's width, `member`, `count` and `lowest` of `sets` need a mask besides.
+// other source has these numbers. DEVICES is the width of Set, and LAST_JOB that of Jobs: a house with another number
+// of devices changes both. With a number that is no type's width, the words of `sets` need a mask besides.
 #![tactic(auto)]
 
 // How many devices there are, from 0 on.

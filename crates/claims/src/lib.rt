@@ -12,12 +12,14 @@ ghost use Rattle.plan.specs.Again.{again_flags};
 ghost use Rattle.claims.specs.Claim.{own_of, claim_with, begun_of, claim_of};
 ghost use Rattle.promises.specs.Table.{TablesAs};
 
-use board::{EACH_JOB, MOST_LINES, Set};
+use board::{MOST_LINES, Set};
+use choice::choose;
 use line::EACH_OPERAND;
-use model::{Refusal, TableAnswer};
-use plan::Checked;
+use model::Refusal;
+use plan::NO_NOTES;
 
 // A line's own claim: its device, if it is a take.
+#[tactic(auto, unfolding(crate::specs::Claim::own_of, model::specs::Sets::empty))]
 pub fn own(l: u32) -> Set
     ensures { result ≡ own_of l }
 {
@@ -25,6 +27,7 @@ pub fn own(l: u32) -> Set
 }
 
 // A line's claim set: its own claim, joined with what its job claims after it and with what a started job claims.
+#[tactic(auto, unfolding(crate::specs::Claim::claim_with))]
 pub fn joined(l: u32, next: Set, begun: Set) -> Set
     ensures { result ≡ claim_with l next begun }
 {
@@ -33,14 +36,16 @@ pub fn joined(l: u32, next: Set, begun: Set) -> Set
 
 // Of a start, what the started job claims: `claimed` has for each job the claim set of the first of its lines that
 // the pass from the end has met, and an entry for each operand, so that what a line starts is found without a test.
+#[tactic(auto, unfolding(crate::specs::Claim::begun_of, model::specs::Line::operand, model::specs::Sets::empty))]
 fn begun(l: u32, claimed: &[Set; EACH_OPERAND]) -> Set
     ensures { result ≡ begun_of l claimed.now }
 {
     let started = claimed[line::operand(l) as usize];
-    sets::choose(line::is_start(l), started, sets::NONE)
+    choose(line::is_start(l), started, sets::NONE)
 }
 
 // A line's claim set, by what each job claims, of the lines that the pass has met.
+#[tactic(auto, unfolding(crate::specs::Claim::claim_of))]
 pub fn claim(l: u32, next: Set, claimed: &[Set; EACH_OPERAND]) -> Set
     ensures { result ≡ claim_of l next claimed.now }
 {
@@ -49,14 +54,13 @@ pub fn claim(l: u32, next: Set, claimed: &[Set; EACH_OPERAND]) -> Set
 
 // The table, from the plan's end, into the front of the lent list. `again` has the flags of the lines that take again.
 fn fill(plan: &[u32], again: &[u8; MOST_LINES], sets: &mut [Set])
-    requires { (fault board plan.now ≡ none) × (again.now ≡ again_flags plan.now)
-        × (length plan.now ≤ length sets.old) }
+    requires sound { fault board plan.now ≡ none }
+    requires flags { again.now ≡ again_flags plan.now }
+    requires room { length plan.now ≤ length sets.old }
     ensures { sets.new ≡ over (table plan.now) sets.old }
 {
     let mut claimed = [sets::NONE; EACH_OPERAND];
-    let mut i = plan.len();
-    while 0 < i {
-        i -= 1;
+    for i in (0..plan.len()).rev() {
         let l = line::plain(plan[i], again[i] == 1);
         let j = line::job(l) as usize;
         let s = claim(l, claimed[j], &claimed);
@@ -66,19 +70,15 @@ fn fill(plan: &[u32], again: &[u8; MOST_LINES], sets: &mut [Set])
 }
 
 // The table of a plan's claims, into the front of the lent list; a refusal (2 to 7, 11) leaves the list as it was.
-pub fn table(plan: &[u32], sets: &mut [Set]) -> TableAnswer
+pub fn table(plan: &[u32], sets: &mut [Set]) -> Result<u32, Refusal>
     ensures { TablesAs board plan.now sets.old result sets.new }
 {
-    let mut first = [0u32; EACH_JOB];
-    let mut starter = [0u32; EACH_JOB];
-    let mut again = [0u8; MOST_LINES];
-    if let Checked::Refused(r) = plan::scan(plan, false, &mut first, &mut starter, &mut again) {
-        return TableAnswer::Refused(r);
-    }
+    let mut notes = NO_NOTES;
+    plan::scan(plan, false, &mut notes)?;
     let n = plan.len();
     if sets.len() < n {
-        return TableAnswer::Refused(Refusal::ListTooShort(n as u32));
+        return Err(Refusal::ListTooShort(n as u32));
     }
-    fill(plan, &again, sets);
-    TableAnswer::Lines(n as u32)
+    fill(plan, &notes.again, sets);
+    Ok(n as u32)
 }

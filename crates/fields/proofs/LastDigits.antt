@@ -1,9 +1,10 @@
 -- The digits of a number put from the last to the first (01, "The plan as text", its words on numbers): behind the
 -- place at hand stand the last digits, and what is left of the number has the others.
-use Prim.Native.Nat.{ℕ, suc, ◌+◌, ◌-◌, ◌/◌, ◌%◌, ◌≤◌, ◌<◌}
+use Prim.Native.Nat.{ℕ, zero, suc, ◌+◌, ◌-◌, ◌*◌, ◌/◌, ◌%◌, ◌^◌, ◌≤◌, ◌<◌}
 use mathlib.Core.List.{List, [], ◌∷◌, ◌++◌, append_assoc, append-nil}
 use mathlib.Core.Logic.{◌⊎◌, inl, inr}
 use mathlib.Core.Path.{◌≡◌, refl, sym, ◌∙◌, ap}
+use native.Mathlib.Nat.{pow-suc}
 use native.Mathlib.Omega.{arith}
 use lib.ListN.{length, get_or, take, drop, set, length-append, length-set, take-append-drop}
 use lib.Seq.{take-suc, set_at, length-take-le}
@@ -16,6 +17,22 @@ use Rattle.fields.proofs.Putting.{put}
 -- one digit more than its tenth
 pub digits_tenth : (n : ℕ) → 10 ≤ n → length (decimal n) ≡ length (decimal (n / 10)) + 1
 digits_tenth n h = rw (decimal_step n h, length-append) (omega arith)
+
+-- as many as its logarithm tells, and one more
+pub digits_log : (k n : ℕ) → 10 ^ k ≤ n → n < 10 * 10 ^ k → length (decimal n) ≡ k + 1
+digits_log zero n low high = digits_one n (omega arith)
+digits_log (suc k) n low high =
+    let e = pow-suc 10 k in
+    let p = pow_pos k in
+    omega (
+      arith,
+      digits_tenth n (omega arith),
+      digits_log k (n / 10) (omega arith) (omega arith),
+    )
+  where
+    pow_pos : (k : ℕ) → 1 ≤ 10 ^ k
+    pow_pos zero = omega arith
+    pow_pos (suc k) = omega (arith, pow-suc 10 k, pow_pos k)
 
 -- a store in front of what was stored
 store_front : (k : ℕ) (old t : List ℕ) (d : ℕ) → k < length old

@@ -4,7 +4,8 @@ use Prim.Native.Nat.{ℕ, zero, suc, ◌+◌, ◌-◌, ◌*◌, ◌/◌, ◌%◌
 use mathlib.Core.Bool.{Bool, true, false, cond}
 use mathlib.Core.List.{List, [], ◌∷◌, ◌++◌, append_assoc, append-nil}
 use mathlib.Core.Logic.{◌⊎◌, inl, inr}
-use mathlib.Core.Option.{Option, none, some, some-injective}
+use mathlib.Core.Option as Math
+use mathlib.Core.Option.{none, some, some-injective}
 use mathlib.Core.Path.{◌≡◌, refl, sym, ◌∙◌, ap}
 use native.Mathlib.Numerals.{add-one}
 use native.Mathlib.Omega.{arith}
@@ -16,7 +17,9 @@ use Rattle.model.specs.Text.{is_digit, is_number, number, decimal}
 use Rattle.theory.proofs.Tests.{clash, no_some, test, and_split, le_or_lt}
 use Rattle.theory.proofs.Lists.{has_head, has_right}
 use Rattle.theory.proofs.Numbers.{decimal_small, decimal_step, decimal_digits, no_digit, number_decimal, decimal_number}
-use Rattle.fields.specs.Number.{up_to, at_most, number_at, unspelt, longer_by}
+use Rattle.std.specs.Option.{option_map}
+use Rattle.std.specs.Prelude.{Option, Some, None}
+use Rattle.fields.specs.Number.{up_to, at_most, number_at, kept_below, longer_by}
 use Rattle.fields.specs.declared.Number.{Number}
 
 -- ---- digits with one byte more
@@ -47,7 +50,7 @@ digit_more v b h d =
 no_number : (front t : List ℕ) (b : ℕ) → is_digit b ≡ false → number (front ++ (b ∷ t)) ≡ none
 no_number front t b d = go (number (front ++ (b ∷ t))) refl
   where
-    go : (o : Option ℕ) → number (front ++ (b ∷ t)) ≡ o → o ≡ none
+    go : (o : Math.Option ℕ) → number (front ++ (b ∷ t)) ≡ o → o ≡ none
     go none e = refl
     go (some n) e =
         let s = decimal_number (front ++ (b ∷ t)) n e in
@@ -75,9 +78,9 @@ no_less (b ∷ t) v n e = go (test (is_digit b)) (le_or_lt 1 v) (no_less t (v * 
 
 module _ (end most : ℕ) where
   -- what the bytes from place i on make of a field that begins with some others
-  abbrev pub reads : List ℕ → ℕ → List ℕ → Number
+  abbrev pub reads : List ℕ → ℕ → List ℕ → Option Number
   reads front i s =
-      cond (has end s) (at_most most (i + length (up_to end s) + 1) (number (front ++ up_to end s))) Number.Wrong
+      cond (has end s) (at_most most (i + length (up_to end s) + 1) (number (front ++ up_to end s))) None
 
   reads_ends : (front : List ℕ) (i b : ℕ) (s : List ℕ) → b ≡ end
       → reads front i (b ∷ s) ≡ at_most most (i + 1) (number front)
@@ -95,82 +98,74 @@ module _ (end most : ℕ) where
 
   -- a field that spells no number that may be read, whatever follows
   reads_lost : (front : List ℕ)
-      → ((t : List ℕ) (past : ℕ) → at_most most past (number (front ++ t)) ≡ Number.Wrong)
-      → (i : ℕ) (s : List ℕ) → Number.Wrong ≡ reads front i s
+      → ((t : List ℕ) (past : ℕ) → at_most most past (number (front ++ t)) ≡ None)
+      → (i : ℕ) (s : List ℕ) → None ≡ reads front i s
   reads_lost front f i s = rw (f (up_to end s) (i + length (up_to end s) + 1)) (either (has end s))
     where
-      either : (t : Bool) → Number.Wrong ≡ cond t Number.Wrong Number.Wrong
+      either : (t : Bool) → let none : Option Number = None in none ≡ cond t none none
       either true = refl
       either false = refl
 
   -- the bytes of a field so far: none, or the digits of the value at hand
-  pub data Front : List ℕ → ℕ → Type 0 where
-    nothing : Front [] unspelt
-    spelt : (v : ℕ) → v ≤ most → Front (decimal v) v
+  pub data Front : List ℕ → Option ℕ → Type 0 where
+    nothing : Front [] None
+    spelt : (v : ℕ) → v ≤ most → Front (decimal v) (Some v)
 
-  module _ (small : most < unspelt) where
-    -- a byte more: at most `most` the digits of the value, and over it lost
-    record Longer (front : List ℕ) (w : ℕ) : Type 0 where
-      pub goes : w ≤ most → Front front w
-      pub stops : most < w → (i : ℕ) (s : List ℕ) → Number.Wrong ≡ reads front i s
+  -- with a byte more: the digits of the value, or, where there is none, a field that is lost
+  data Longer : List ℕ → Option ℕ → Type 0 where
+    goes : {front : List ℕ} {w : ℕ} → Front front (Some w) → Longer front (Some w)
+    stops : {front : List ℕ} → ((i : ℕ) (s : List ℕ) → None ≡ reads front i s) → Longer front None
 
-    none_spelt : (front : List ℕ) → ((t : List ℕ) → number (front ++ t) ≡ none) → Longer front unspelt
-    unfolding at_most
-    none_spelt front f = record {
-      goes = λ h. absurd (omega arith);
-      stops = λ g. reads_lost front (λ t past. rw (f t));
-    }
+  none_spelt : (front : List ℕ) → ((t : List ℕ) → number (front ++ t) ≡ none) → Longer front None
+  unfolding at_most
+  none_spelt front f = stops (reads_lost front (λ t past. rw (f t)))
 
-    some_spelt : (v : ℕ) → Longer (decimal v) v
-    unfolding at_most
-    some_spelt v = record {
-      goes = spelt v;
-      stops = λ g. reads_lost (decimal v)
-          (λ t past. over past (number (decimal v ++ t)) (λ n e. omega (arith, no_less t v n e)));
-    }
-      where
-        over : (past : ℕ) (o : Option ℕ) → ((n : ℕ) → o ≡ some n → most < n) → at_most most past o ≡ Number.Wrong
-        over past none f = refl
-        over past (some n) f = rw (lt-leb n most (f n refl))
+  some_spelt : (v : ℕ) → Longer (decimal v) (kept_below most (Some v))
+  unfolding at_most
+  some_spelt v = go (le_or_lt v most)
+    where
+      over : (past : ℕ) (o : Math.Option ℕ) → ((n : ℕ) → o ≡ some n → most < n) → at_most most past o ≡ None
+      over past none f = refl
+      over past (some n) f = rw (lt-leb n most (f n refl))
 
-    longer_front : {front : List ℕ} {v : ℕ} (b : ℕ) → Front front v → Longer (front ++ (b ∷ [])) (longer_by v b)
-    unfolding longer_by
-    longer_front b x = go (test (is_digit b)) x
-      where
-        go : (is_digit b ≡ true) ⊎ (is_digit b ≡ false) → {front : List ℕ} {v : ℕ} → Front front v
-            → Longer (front ++ (b ∷ [])) (longer_by v b)
-        go (inr d) {front} x =
-            rw d (none_spelt (front ++ (b ∷ [])) (λ t. rw (append_assoc front (b ∷ []) t) (no_number front t b d)))
-        go (inl d) nothing = rw (d, digit_first b d) (some_spelt (b - 48))
-        go (inl d) (spelt zero h) =
-            rw d (none_spelt (decimal 0 ++ (b ∷ [])) (λ t. rw (append_assoc (decimal 0) (b ∷ []) t) (after_nought b t)))
-        go (inl d) (spelt (suc v) h) =
-            rw (d, ne_eqb (suc v) unspelt (λ e. omega arith), ne_eqb (suc v) 0 (λ e. omega arith))
-            (rw (digit_more (suc v) b (omega arith) d) (some_spelt (suc v * 10 + (b - 48))))
+      go : (v ≤ most) ⊎ (most < v) → Longer (decimal v) (kept_below most (Some v))
+      go (inl h) = rw (le-leb v most h) (goes (spelt v h))
+      go (inr h) =
+          rw (lt-leb v most h)
+          (stops (reads_lost (decimal v)
+          (λ t past. over past (number (decimal v ++ t)) (λ n e. omega (arith, no_less t v n e)))))
+
+  longer_front : {front : List ℕ} {v : Option ℕ} (b : ℕ) → Front front v
+      → Longer (front ++ (b ∷ [])) (longer_by v b most)
+  unfolding longer_by
+  longer_front b x = go (test (is_digit b)) x
+    where
+      go : (is_digit b ≡ true) ⊎ (is_digit b ≡ false) → {front : List ℕ} {v : Option ℕ} → Front front v
+          → Longer (front ++ (b ∷ [])) (longer_by v b most)
+      go (inr d) {front} x =
+          rw d (none_spelt (front ++ (b ∷ [])) (λ t. rw (append_assoc front (b ∷ []) t) (no_number front t b d)))
+      go (inl d) nothing = rw (d, digit_first b d) (some_spelt (b - 48))
+      go (inl d) (spelt zero h) =
+          rw d (none_spelt (decimal 0 ++ (b ∷ [])) (λ t. rw (append_assoc (decimal 0) (b ∷ []) t) (after_nought b t)))
+      go (inl d) (spelt (suc v) h) =
+          rw (d, ne_eqb (suc v) 0 (λ e. omega arith))
+          (rw (digit_more (suc v) b (omega arith) d) (some_spelt (suc v * 10 + (b - 48))))
 
 -- ---- the loop
 
 -- the field so far, and the text from a place on, make the number
-pub record Reading (text : List ℕ) (from end most value at : ℕ) : Type 0 where
-  pub small : most < unspelt
+pub record Reading (text : List ℕ) (from end most : ℕ) (value : Option ℕ) (at : ℕ) : Type 0 where
   pub front : List ℕ
   pub state : Front end most front value
   pub same : reads end most front at (drop at text) ≡ number_at text from end most
 
-pub none_read : (text : List ℕ) (from end most : ℕ) → most < unspelt → Reading text from end most unspelt from
+pub none_read : (text : List ℕ) (from end most : ℕ) → Reading text from end most None from
 unfolding number_at
-none_read text from end most h = record { small = h; front = []; state = nothing; same = refl }
+none_read text from end most = record { front = []; state = nothing; same = refl }
 
-module _ {text : List ℕ} {from end most value at : ℕ} (x : Reading text from end most value at) where
-  pub at_most_lem : value ≤ unspelt
-  at_most_lem = go x.state
-    where
-      go : {front : List ℕ} {v : ℕ} → Front end most front v → v ≤ unspelt
-      go nothing = omega arith
-      go (spelt v h) = omega (arith, x.small)
-
+module _ {text : List ℕ} {from end most : ℕ} {value : Option ℕ} {at : ℕ} (x : Reading text from end most value at) where
   -- the text ends before the field
-  pub no_end : length text ≤ at → Number.Wrong ≡ number_at text from end most
+  pub no_end : length text ≤ at → None ≡ number_at text from end most
   unfolding has
   no_end h = (rw (drop_of_length-le text h)) ∙ x.same
 
@@ -182,27 +177,15 @@ module _ {text : List ℕ} {from end most value at : ℕ} (x : Reading text from
     here = rw (drop-cons text at 0 h) at x.same
 
     -- the byte ends the field
-    module _ (e : byte ≡ end) where
-      ended : at_most most (at + 1) (number x.front) ≡ number_at text from end most
-      ended = sym (reads_ends end most x.front at byte (drop (suc at) text) e) ∙ here
-
-      pub ended_wrong : most < value → Number.Wrong ≡ number_at text from end most
-      unfolding number is_number at_most
-      ended_wrong g = go x.state g ∙ ended
-        where
-          go : {front : List ℕ} {v : ℕ} → Front end most front v → most < v
-              → Number.Wrong ≡ at_most most (at + 1) (number front)
-          go nothing g = refl
-          go (spelt v k) g = absurd (omega arith)
-
-      pub ended_value : value ≤ most → Number.Value value (at + 1) ≡ number_at text from end most
-      unfolding at_most
-      ended_value g = go x.state g ∙ ended
-        where
-          go : {front : List ℕ} {v : ℕ} → Front end most front v → v ≤ most
-              → Number.Value v (at + 1) ≡ at_most most (at + 1) (number front)
-          go nothing g = absurd (omega (arith, x.small))
-          go (spelt v k) g = rw (number_decimal v, le-leb v most k)
+    pub ended : byte ≡ end
+        → option_map (λ v. record { value = v; past = at + 1 }) value ≡ number_at text from end most
+    unfolding number is_number at_most
+    ended e = go x.state ∙ (sym (reads_ends end most x.front at byte (drop (suc at) text) e) ∙ here)
+      where
+        go : {front : List ℕ} {o : Option ℕ} → Front end most front o
+            → option_map (λ v. record { value = v; past = at + 1 }) o ≡ at_most most (at + 1) (number front)
+        go nothing = refl
+        go (spelt v k) = rw (number_decimal v, le-leb v most k)
 
     -- it does not
     module _ (n : byte ≡ end → ⊥) where
@@ -211,13 +194,20 @@ module _ {text : List ℕ} {from end most value at : ℕ} (x : Reading text from
           ap (λ (k : ℕ). reads end most (x.front ++ (byte ∷ [])) (at + 1) (drop k text)) (add-one at)
           ∙ (sym (reads_on end most x.front at byte (drop (suc at) text) n) ∙ here)
 
-      pub stopped : most < longer_by value byte → Number.Wrong ≡ number_at text from end most
-      stopped g = (longer_front end most x.small byte x.state).stops g (at + 1) (drop (at + 1) text) ∙ passed
+      pub stopped : None ≡ longer_by value byte most → None ≡ number_at text from end most
+      stopped e = go (longer_front end most byte x.state) (sym e) passed
+        where
+          go : {front : List ℕ} {o : Option ℕ} → Longer end most front o → o ≡ None
+              → reads end most front (at + 1) (drop (at + 1) text) ≡ number_at text from end most
+              → None ≡ number_at text from end most
+          go (goes f) e p = cc
+          go (stops f) e p = f (at + 1) (drop (at + 1) text) ∙ p
 
-      pub read_on : longer_by value byte ≤ most → Reading text from end most (longer_by value byte) (at + 1)
-      read_on g = record {
-        small = x.small;
-        front = x.front ++ (byte ∷ []);
-        state = (longer_front end most x.small byte x.state).goes g;
-        same = passed;
-      }
+      pub read_on : (w : ℕ) → Some w ≡ longer_by value byte most → Reading text from end most (Some w) (at + 1)
+      read_on w e = go (longer_front end most byte x.state) (sym e) passed
+        where
+          go : {front : List ℕ} {o : Option ℕ} → Longer end most front o → o ≡ Some w
+              → reads end most front (at + 1) (drop (at + 1) text) ≡ number_at text from end most
+              → Reading text from end most (Some w) (at + 1)
+          go {front} (goes f) e p = record { front = front; state = rw e at f; same = p }
+          go (stops f) e p = cc

@@ -2,11 +2,12 @@
 use Prim.Native.Nat.{ℕ}
 use mathlib.Core.List.{List}
 use mathlib.Core.Path.{◌≡◌}
+use Rattle.std.specs.Prelude.{Option}
 use Rattle.fields.specs.Number.{number_at}
 use Rattle.fields.specs.Puts.{PutsAs}
 use Rattle.fields.specs.declared.Number.{Number}
 
-pub one_number : (text : List ℕ) (from end most : ℕ) (a b : Number) → a ≡ number_at text from end most
+pub one_number : (text : List ℕ) (from end most : ℕ) (a b : Option Number) → a ≡ number_at text from end most
     → b ≡ number_at text from end most → a ≡ b
 one_number text from end most a b p q = cc
 

@@ -6,66 +6,54 @@
 
 ghost use Rattle.std.specs.Prelude.{◌+◌, ◌≤◌, ◌<◌, ◌^◌, [], ◌∷◌, ◌++◌, ◌≡◌, length};
 ghost use Rattle.model.specs.Text.{decimal};
-ghost use Rattle.fields.specs.Number.{number_at, longer_by, unspelt};
+ghost use Rattle.fields.specs.Number.{number_at, longer_by};
 ghost use Rattle.fields.specs.Puts.{PutsAs, place_after, value_text, values_text};
 
 // ---- a number read
 
 // The number that a field spells, with the place past the byte that ends the field.
-#[derive(Drop)]
-pub enum Number {
-    Value(u32, usize),
-    Wrong,
+#[derive(Clone, Copy, Debug, PartialEq, Eq)]
+pub struct Number {
+    pub value: u32,
+    pub past: usize,
 }
 
-// A value over that of every number read: so far the field spells none.
-const UNSPELT: u64 = 4294967296;
-
-// The value that digits have with one byte more behind them: a first digit spells its own, and no digit comes behind a
-// nought.
-fn longer(value: u64, b: u8) -> u64
-    requires { value ≤ unspelt }
-    ensures { result ≡ longer_by value b }
+// The value that digits have with one byte more behind them, if it is at most `most`: a first digit spells its own, and
+// no digit comes behind a nought.
+#[tactic(auto, unfolding(crate::specs::Number::longer_by, model::specs::Text::is_digit))]
+fn longer(value: Option<u32>, b: u8, most: u32) -> Option<u32>
+    ensures { result ≡ longer_by value b most }
 {
-    if b < b'0' {
-        return UNSPELT;
+    if !b.is_ascii_digit() {
+        return None;
     }
-    if b'9' < b {
-        return UNSPELT;
-    }
-    let digit = (b - b'0') as u64;
-    if value == UNSPELT {
-        return digit;
-    }
-    if value == 0 {
-        return UNSPELT;
-    }
-    value * 10 + digit
+    let digit = u32::from(b - b'0');
+    let longer = match value {
+        None => digit,
+        Some(0) => return None,
+        Some(v) => v.checked_mul(10)?.checked_add(digit)?,
+    };
+    (longer <= most).then_some(longer)
 }
 
 // The decimal number that stands from a place up to the first byte `end`, if it is at most `most`. What is over it
-// grows with every digit, so that the search ends there, however many follow.
-pub fn number_at(text: &[u8], from: usize, end: u8, most: u32) -> Number
+// grows with every digit, so that the search ends there, however many follow. The loop goes by places, since the answer
+// has one.
+pub fn number_at(text: &[u8], from: usize, end: u8, most: u32) -> Option<Number>
     ensures { result ≡ number_at text.now from end most }
 {
-    let bound = most as u64;
-    let mut value = UNSPELT;
-    let mut at = from;
-    while at < text.len() {
+    let mut value: Option<u32> = None;
+    for at in from..text.len() {
         let b = text[at];
         if b == end {
-            if bound < value {
-                return Number::Wrong;
-            }
-            return Number::Value(value as u32, at + 1);
+            return value.map(|value| Number {
+                value,
+                past: at + 1,
+            });
         }
-        value = longer(value, b);
-        if bound < value {
-            return Number::Wrong;
-        }
-        at += 1;
+        value = Some(longer(value, b, most)?);
     }
-    Number::Wrong
+    None
 }
 
 // ---- a place past what is put
@@ -75,35 +63,18 @@ fn place_after(room: usize, at: usize, count: usize) -> usize
     requires { room < 2 ^ 63 }
     ensures { result ≡ place_after room at count }
 {
-    if room < at {
-        return room + 1;
+    match at.checked_add(count) {
+        Some(past) if past <= room => past,
+        _ => room + 1,
     }
-    if room - at < count {
-        return room + 1;
-    }
-    at + count
 }
 
 // How many digits a number has.
 fn digits(n: u64) -> usize
-    ensures { result ≡ length (decimal n) }
+    ensures count { result ≡ length (decimal n) }
+    ensures few { result ≤ 20 }
 {
-    let mut count = 1;
-    let mut rest = n;
-    while 9 < rest {
-        rest /= 10;
-        count += 1;
-    }
-    count
-}
-
-// The place past a tab and a number.
-fn value_after(room: usize, at: usize, n: u32) -> usize
-    requires { room < 2 ^ 63 }
-    ensures { result ≡ place_after room at (length (value_text n)) }
-{
-    let a = place_after(room, at, 1);
-    place_after(room, a, digits(n as u64))
+    n.checked_ilog10().unwrap_or(0) as usize + 1
 }
 
 // The place past numbers with their tabs and a newline.
@@ -112,10 +83,8 @@ fn values_after(room: usize, from: usize, values: &[u32]) -> usize
     ensures { result ≡ place_after room from (length (values_text values.now)) }
 {
     let mut at = from;
-    let mut i = 0;
-    while i < values.len() {
-        at = value_after(room, at, values[i]);
-        i += 1;
+    for &n in values {
+        at = place_after(room, at, 1 + digits(u64::from(n)));
     }
     place_after(room, at, 1)
 }
@@ -138,13 +107,8 @@ pub fn put_word(out: &mut [u8], at: usize, word: &[u8]) -> usize
     ensures { PutsAs word.now at out.old result out.new }
 {
     let past = place_after(out.len(), at, word.len());
-    if out.len() < past {
-        return past;
-    }
-    let mut i = 0;
-    while i < word.len() {
-        out[at + i] = word[i];
-        i += 1;
+    if past <= out.len() {
+        out[at..past].copy_from_slice(word);
     }
     past
 }
@@ -158,9 +122,7 @@ pub fn put_number(out: &mut [u8], at: usize, n: u64) -> usize
         return past;
     }
     let mut rest = n;
-    let mut i = past;
-    while at < i {
-        i -= 1;
+    for i in (at..past).rev() {
         out[i] = b'0' + (rest % 10) as u8;
         rest /= 10;
     }
@@ -171,8 +133,7 @@ pub fn put_number(out: &mut [u8], at: usize, n: u64) -> usize
 pub fn put_field(out: &mut [u8], at: usize, n: u64, end: u8) -> usize
     ensures { PutsAs (decimal n ++ (end ∷ [])) at out.old result out.new }
 {
-    let a = place_after(out.len(), at, digits(n));
-    let past = place_after(out.len(), a, 1);
+    let past = place_after(out.len(), at, digits(n) + 1);
     if out.len() < past {
         return past;
     }
@@ -186,7 +147,7 @@ fn put_value(out: &mut [u8], at: usize, n: u32) -> usize
     ensures { PutsAs (value_text n) at out.old result out.new }
 {
     let a = put_byte(out, at, b'\t');
-    put_number(out, a, n as u64)
+    put_number(out, a, u64::from(n))
 }
 
 // Numbers, each behind a tab, and a newline: behind a word they make a printed line.
@@ -198,10 +159,8 @@ pub fn put_values(out: &mut [u8], at: usize, values: &[u32]) -> usize
         return past;
     }
     let mut place = at;
-    let mut i = 0;
-    while i < values.len() {
-        place = put_value(out, place, values[i]);
-        i += 1;
+    for &n in values {
+        place = put_value(out, place, n);
     }
     put_byte(out, place, b'\n')
 }

@@ -5,6 +5,8 @@ use mathlib.Core.Bool.{Bool, true, false, cond}
 use mathlib.Core.List.{List, [], ◌∷◌, ◌++◌, map, flatten, get_last_d, drop_last, append_assoc, append-nil}
 use mathlib.Core.Logic.{◌⊎◌, inl, inr}
 use mathlib.Core.Option.{Option, none, some, get_or}
+use Rattle.std.specs.Prelude as std
+use Rattle.std.specs.Prelude.{Some, None}
 use mathlib.Core.Path.{◌≡◌, refl, sym, ◌∙◌, ap}
 use native.Mathlib.Numerals.{add-one}
 use native.Mathlib.Omega.{arith}
@@ -22,7 +24,7 @@ use Rattle.theory.proofs.Fields.{last_is, before_last, last_newline, line_first,
 use Rattle.theory.proofs.Cut.{stray_cut, enough_entries}
 use Rattle.fields.specs.Number.{up_to, at_most, number_at}
 use Rattle.fields.specs.declared.Number.{Number}
-use Rattle.judged.specs.Entered.{entries_at, Gathers}
+use Rattle.judged.specs.Entered.{entries_in, Gathers}
 
 -- ---- the entry of a line
 
@@ -67,6 +69,10 @@ ends (b ∷ s) h = go (eqb newline b) refl h (ends s)
 
 -- ---- what the number reader finds
 
+-- the entries from a place on
+abbrev pub entries_at : List ℕ → ℕ → List ℕ
+entries_at text at = entries_in (drop at text)
+
 module _ (text : List ℕ) (at : ℕ) where
   abbrev here : List ℕ
   here = drop at text
@@ -99,11 +105,14 @@ module _ (text : List ℕ) (at : ℕ) where
       unended w (inr q) = q
       unended w (inl q) = clash (has newline here) (rw w at (has_left newline l (flatten ls) q)) n
 
+abbrev pub Found : Type 0
+Found = std.Option Number
+
 -- the line there has this entry, and behind it come the others; or its entry is 0 or over `most`
-pub data There (text : List ℕ) (at most : ℕ) : Number → Type 0 where
-  entry : (v next : ℕ) → v ≤ most → entries_at text at ≡ v ∷ entries_at text next
-      → There text at most (Number.Value v next)
-  lost : (e : ℕ) (es : List ℕ) → entries_at text at ≡ e ∷ es → (e ≡ 0) ⊎ (most < e) → There text at most Number.Wrong
+pub data There (text : List ℕ) (at most : ℕ) : Found → Type 0 where
+  entry : (n : Number) → n.value ≤ most → entries_at text at ≡ n.value ∷ entries_at text n.past
+      → There text at most (Some n)
+  lost : (e : ℕ) (es : List ℕ) → entries_at text at ≡ e ∷ es → (e ≡ 0) ⊎ (most < e) → There text at most None
 
 pub there : (text : List ℕ) (at most : ℕ) → at < length text → There text at most (number_at text at newline most)
 unfolding number_at at_most
@@ -120,12 +129,15 @@ there text at most h = go (has newline (here text at)) refl
         whole : entries_at text at ≡ v ∷ entries_at text next
         whole = entries_ended text at t ∙ rw q
 
-        small : (b : Bool) → leb v most ≡ b → There text at most (cond b (Number.Value v next) Number.Wrong)
-        small true l = entry v next (leb-true v most l) whole
+        number_there : Number
+        number_there = record { value = v; past = next }
+
+        small : (b : Bool) → leb v most ≡ b → There text at most (cond b (Some number_there) None)
+        small true l = entry number_there (leb-true v most l) whole
         small false l = lost v (entries_at text next) whole (inr (leb-false v most l))
 
     go : (b : Bool) → has newline (here text at) ≡ b
-        → There text at most (cond b (at_most most next (number (field text at))) Number.Wrong)
+        → There text at most (cond b (at_most most next (number (field text at))) None)
     go true t = spelt t (number (field text at)) refl
     go false n =
         let r = some_line (here text at) (simp length-drop (omega arith)) in
@@ -134,17 +146,17 @@ there text at most h = go (has newline (here text at)) refl
 -- ---- the list so far
 
 -- the entries listed and those from a place on go wrong where all of them do
-pub record Listed (text : List ℕ) (from at count : ℕ) (list : List ℕ) : Type 0 where
+pub record Listed (text : List ℕ) (at count : ℕ) (list : List ℕ) : Type 0 where
   pub within : count ≤ length list
   pub same : (p : List ℕ) → length p ≤ max_lines
-      → stray p (entries_at text from) ≡ stray p (take count list ++ entries_at text at)
+      → stray p (entries_in text) ≡ stray p (take count list ++ entries_at text at)
 
-pub listed_none : (text : List ℕ) (from : ℕ) (list : List ℕ) → Listed text from from 0 list
-listed_none text from list = record { within = omega arith; same = λ p few. refl }
+pub listed_none : (text list : List ℕ) → Listed text 0 0 list
+listed_none text list = record { within = omega arith; same = λ p few. refl }
 
-module _ {text : List ℕ} {from at count : ℕ} {list : List ℕ} (x : Listed text from at count list) where
+module _ {text : List ℕ} {at count : ℕ} {list : List ℕ} (x : Listed text at count list) where
   -- no entry is left
-  pub listed_all : length text ≤ at → Gathers text from count list
+  pub listed_all : length text ≤ at → Gathers text count list
   unfolding lines_of
   listed_all h = record {
     within = x.within;
@@ -152,7 +164,7 @@ module _ {text : List ℕ} {from at count : ℕ} {list : List ℕ} (x : Listed t
   }
 
   -- no more can matter
-  pub listed_full : max_lines < length list → length list ≤ count → Gathers text from count list
+  pub listed_full : max_lines < length list → length list ≤ count → Gathers text count list
   listed_full h g = record {
     within = x.within;
     same = λ p few. x.same p few
@@ -165,16 +177,16 @@ module _ {text : List ℕ} {from at count : ℕ} {list : List ℕ} (x : Listed t
     front v = rw (add-one count) (take-suc-set list count v h)
 
     -- one entry more
-    pub listed_more : {v next : ℕ} → There text at max_lines (Number.Value v next)
-        → Listed text from next (count + 1) (set list count v)
-    listed_more (entry v next k e) = record {
+    pub listed_more : {n : Number} → There text at max_lines (Some n)
+        → Listed text n.past (count + 1) (set list count n.value)
+    listed_more (entry n k e) = record {
       within = rw length-set (omega arith);
       same = λ p few. x.same p few
-          ∙ rw (front v, e, append_assoc (take count list) (v ∷ []) (entries_at text next));
+          ∙ rw (front n.value, e, append_assoc (take count list) (n.value ∷ []) (entries_at text n.past));
     }
 
     -- the last that can matter
-    pub listed_last : There text at max_lines Number.Wrong → Gathers text from (count + 1) (set list count 0)
+    pub listed_last : There text at max_lines None → Gathers text (count + 1) (set list count 0)
     listed_last (lost e es q k) = record {
       within = rw length-set (omega arith);
       same = λ p few. x.same p few
@@ -186,5 +198,5 @@ module _ {text : List ℕ} {from at count : ℕ} {list : List ℕ} (x : Listed t
         past_lines p few (inr z) = inr (omega arith)
 
 -- a number found fits the list
-pub found_small : {text : List ℕ} {at most v next : ℕ} → There text at most (Number.Value v next) → v ≤ most
-found_small (entry v next k e) = k
+pub found_small : {text : List ℕ} {at most : ℕ} {n : Number} → There text at most (Some n) → n.value ≤ most
+found_small (entry n k e) = k

@@ -1,3 +1,2 @@
--- The words of the private functions that read a text in two parts.
-pub mod Parted
+-- The words of the private functions that read the entries.
 pub mod Entered

@@ -1,18 +1,14 @@
 -- The walk back over an edited plan and its rewritten table (02, request 4): where it stands the rows, the flags and
 -- what is held are those of the lines from there on, and what lies beyond a take is the set of the line passed last, if
 -- that is of its job. Jobs without lasting takes are passed over: they add nothing.
-use Prim.Native.Nat.{ℕ, zero, suc, ◌+◌, ◌-◌, ◌<◌, ◌≤◌}
-use mathlib.Core.Bool.{Bool, true, false, cond, ◌&&◌}
-use mathlib.Core.List.{List}
-use mathlib.Core.Logic.{◌⊎◌, inl, inr, ◌≢◌}
-use mathlib.Core.Path.{◌≡◌, refl, sym, ◌∙◌, ap}
-use native.Mathlib.Nat.{add-zero}
-use native.Mathlib.Omega.{arith}
-use lib.Dec.{eqb, ltb}
-use lib.ListN.{length, get_or, set, replicate, get_or-replicate, get_or-eq_default}
-use lib.Seq.{drop-cons, get_or-set_other}
-use mir.Val.{bool_byte}
-use borrow.Author.Tests.{lt-ltb, eqb-true, eqb-false, eq-eqb, ne_eqb}
+use Rattle.std.proofs.Common.{◌≡◌, ℕ, zero, suc, ◌+◌, ◌-◌, ◌<◌, ◌≤◌, Bool, true, false, cond, ◌&&◌, List, ◌⊎◌, inl, inr}
+use Rattle.std.proofs.Common.{◌≢◌, refl, sym, ◌∙◌, ap, add-zero, arith, eqb, ltb, length, get_or, set, replicate}
+use Rattle.std.proofs.Common.{drop-cons, get_or-set_other, lt-ltb, eqb-true, eq-eqb, ne_eqb}
+use Rattle.std.proofs.Math.ListN.{get_or-replicate, get_or-eq_default}
+use Rattle.std.proofs.Math.Option.{Option, none, some}
+use borrow.Author.Tests.{eqb-false}
+use Rattle.std.specs.Int.{from_bool}
+use Rattle.std.specs.Result.{is_ok}
 use Rattle.model.specs.Board.{devices, board}
 use Rattle.model.specs.Line.{job, operand, is_take, at, max_lines, max_job}
 use Rattle.model.specs.Mate.{device_at, lasting_at, lasting}
@@ -30,6 +26,9 @@ use Rattle.theory.proofs.WellFormed.{no_fault_exactly, morning_midday, no_held_i
 use Rattle.theory.proofs.Move.{taken_device}
 use Rattle.claims.proofs.Joining.{union_none, beyond_is}
 use Rattle.claims.proofs.Written.{EndOf, end_whole}
+use Rattle.plan.specs.Checked.{checked}
+use Rattle.model.specs.WellFormed.{fault}
+use Rattle.model.specs.declared.Refusal.{Refusal}
 use Rattle.plan.proofs.Firsts.{Listed, first_listed}
 use Rattle.rows.specs.Lasting.{lasting_flag, lasting_flags, wanted_after, row_joined}
 use Rattle.rows.specs.Holds.{PassedOn}
@@ -41,6 +40,7 @@ use Rattle.rows.proofs.RowsFrom.{RowsBy, none_by, by_on, all_by}
 use Rattle.rows.proofs.Walked.{length_flags, none_flagged, one_flagged}
 use Rattle.way.specs.Join.{next_set}
 use Rattle.way.proofs.Joins.{next_is_lem}
+use Rattle.kept.specs.declared.Edited.{Edited}
 use Rattle.kept.specs.Gathered.{Prepared, Skips, GathersAs}
 
 -- what is found from line i on
@@ -60,7 +60,7 @@ pub record Gathered (p t rs flags : List ℕ) (passed : Passed) (behind i : ℕ)
 
 pub none_gathered : (p again t : List ℕ) → Prepared p again t
     → Gathered p t (replicate devices 0) (replicate max_lines 0)
-    (record { job = 0; wanted = 0; lasts = false; held = 0; twice = 0 }) 0 (length p)
+    (record { job = 0; wanted = 0; lasts = false; holds = record { held = 0; twice = 0 } }) 0 (length p)
 unfolding empty next_set job
 none_gathered p again t known = record {
   found = record {
@@ -119,7 +119,7 @@ module _ {p again t rs flags : List ℕ} {old : Passed} {behind k : ℕ} (known 
 
     pub one_gathered : (next : ℕ) → next ≡ cond (eqb (job (at p k)) old.job) behind empty → (rs' : List ℕ)
         → rs' ≡ row_joined (at p k) (new.lasts && ltb (operand (at p k)) devices) next rs
-        → Gathered p t rs' (set flags k (bool_byte new.lasts)) new (get_or t k 0) k
+        → Gathered p t rs' (set flags k (from_bool new.lasts)) new (get_or t k 0) k
     unfolding next_set empty
     one_gathered next e rs' r = record {
       found = record {
@@ -128,7 +128,7 @@ module _ {p again t rs flags : List ℕ} {old : Passed} {behind k : ℕ} (known 
             by_on p t rs k next m.found.rows_by in_plan (beyond_take next (e ∙ m.next_is k refl)) rs'
             (r ∙ ap (λ (b : Bool). row_joined (at p k) b next rs) on_board_lem);
         flagged = one_flagged p flags k new.lasts lasts_here m.found.flagged;
-        clear = λ i h. get_or-set_other flags k i (bool_byte new.lasts) 0 (λ q. omega arith)
+        clear = λ i h. get_or-set_other flags k i (from_bool new.lasts) 0 (λ q. omega arith)
             ∙ m.found.clear i (omega arith);
       };
       known = known_on p well.few old new k m.found.counted m.known n;
@@ -267,7 +267,7 @@ module _ {p again t rs flags first holdings : List ℕ} {passed : Passed} {behin
 
 -- at the front all is the plan's
 pub all_gathered : {p again t rs flags : List ℕ} {passed : Passed} {behind : ℕ} → Prepared p again t
-    → Gathered p t rs flags passed behind 0 → GathersAs p t passed.held rs flags
+    → Gathered p t rs flags passed behind 0 → GathersAs p t passed.holds.held rs flags
 all_gathered {p} {again} {t} {rs} {flags} {passed} known m = record {
   held_is =
       (all_counted p (no_held_in_morning devices p ((no_fault_exactly board p).0 known.sound)) passed
@@ -275,3 +275,23 @@ all_gathered {p} {again} {t} {rs} {flags} {passed} known m = record {
   rows_are = all_by p t rs m.found.rows_by;
   flags_are = end_whole (lasting_flags p) flags m.found.flagged;
 }
+
+-- ---- what is known of an edited plan
+
+pub sound_is : {o : Option Refusal} → o ≡ none → is_ok (checked o) ≡ true
+sound_is e = rw e
+
+module _ (e : Edited) where
+  pub prepared : Prepared e.plan.now e.notes.now.again e.sets.now
+  prepared = record {
+    sound = go (fault board e.plan.now) e.sound;
+    agains = e.agains;
+    room = e.room;
+  }
+    where
+      go : (o : Option Refusal) → is_ok (checked o) ≡ true → o ≡ none
+      go none h = refl
+      go (some r) h = cc
+
+  pub skips : Skips e.plan.now e.notes.now.first e.notes.now.holdings (job (at e.plan.now e.last))
+  skips = record { firsts = e.firsts; among = e.among }

@@ -1,14 +1,12 @@
 -- A list that is written into the front of a lent one, entry by entry, in a loop that counts up; and the new rows, a
 -- list of this kind.
-use Prim.Native.Nat.{ℕ, suc, ◌+◌, ◌<◌, ◌≤◌}
-use mathlib.Core.List.{List, ◌++◌}
-use mathlib.Core.Path.{◌≡◌, refl, sym, ◌∙◌}
-use native.Mathlib.Numerals.{add-one}
-use native.Mathlib.Omega.{arith}
-use lib.ListN.{length, get_or, take, drop, set, length-set}
-use lib.Seq.{length-take-le, take_all, take-suc, drop-cons, append_snoc, set_at, get_or_at}
+use Rattle.std.proofs.Common.{◌≡◌, ℕ, suc, ◌+◌, ◌<◌, ◌≤◌, Bool, cond, List, ◌++◌, sym, ◌∙◌, add-one, arith}
+use Rattle.std.proofs.Common.{length, get_or, take, drop, set, length-set, length-take-le, take_all, take-suc}
+use Rattle.std.proofs.Common.{drop-cons}
+use Rattle.std.proofs.Math.Seq.{append_snoc, set_at, get_or_at}
 use Rattle.model.specs.Board.{devices}
 use Rattle.model.specs.Lists.{over}
+use Rattle.model.specs.Sets.{member}
 use Rattle.rows.proofs.Entries.{entry_of, length_entries}
 use Rattle.kept.specs.Keeping.{row_over, new_rows}
 
@@ -17,9 +15,6 @@ pub record PutTo (new lent out : List ℕ) (d : ℕ) : Type 0 where
   pub within : d ≤ length new
   pub long : length out ≡ length lent
   pub is : out ≡ take d new ++ drop d lent
-
-pub none_put : (new lent : List ℕ) → PutTo new lent lent 0
-none_put new lent = record { within = omega arith; long = refl; is = refl }
 
 module _ {new lent out : List ℕ} {d : ℕ} (m : PutTo new lent out d) where
   module _ (in_new : d < length new) (in_lent : d < length lent) where
@@ -53,3 +48,13 @@ module _ (these : ℕ) (made lent : List ℕ) where
 
   pub new_row : (d : ℕ) → d < devices → get_or (new_rows these made lent) d 0 ≡ row_over these made lent d
   new_row d h = entry_of (row_over these made lent) 0 devices d h
+
+-- what the code puts is the new row
+pub put_on : (these : ℕ) (made lent : List ℕ) {out : List ℕ} {d r : ℕ} {b : Bool} → devices ≤ length lent
+    → PutTo (new_rows these made lent) lent out d → d < devices → b ≡ member these d
+    → r ≡ cond b (get_or made d 0) (get_or out d 0) → PutTo (new_rows these made lent) lent (set out d r) (d + 1)
+unfolding row_over
+put_on these made lent {out} {d} room m h e q =
+    let in_new : d < length (new_rows these made lent) = omega (arith, all_new these made lent) in
+    let in_lent : d < length lent = omega arith in
+    one_put m in_new in_lent (q ∙ rw (e, still_lent m in_new in_lent) (sym (new_row these made lent d h)))

@@ -1,15 +1,8 @@
 -- What a move leaves of rows and held set, as the code keeps them, is what `model` says (02, request 4): the devices of
 -- the lasting takes on the way from the last line under the take are those of the lines that may change, asked of the
 -- edited plan; and a bit taken out and put in is a bit put as it should be.
-use Prim.Native.Nat.{ℕ, ◌^◌, ◌<◌, ◌≤◌}
-use mathlib.Core.Bool.{Bool, true, false, cond, not, ◌&&◌, ◌||◌}
-use mathlib.Core.List.{List, [], ◌∷◌}
-use mathlib.Core.Logic.{◌⊎◌, inl, inr}
-use mathlib.Core.Path.{◌≡◌, refl, sym, ◌∙◌, ap}
-use native.Mathlib.Omega.{arith}
-use lib.Dec.{eqb}
-use lib.ListN.{length, get_or, set}
-use borrow.Author.Tests.{eqb-true}
+use Rattle.std.proofs.Common.{◌≡◌, ℕ, ◌^◌, ◌<◌, ◌≤◌, Bool, true, false, cond, not, ◌&&◌, ◌||◌, List, [], ◌∷◌, ◌⊎◌, inl}
+use Rattle.std.proofs.Common.{inr, refl, sym, ◌∙◌, ap, arith, eqb, length, get_or, set, eqb-true}
 use Rattle.model.specs.Board.{devices, board}
 use Rattle.model.specs.Lists.{up_from, has, any, over}
 use Rattle.model.specs.Sets.{empty, union, member, put}

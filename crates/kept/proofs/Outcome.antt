@@ -1,14 +1,8 @@
 -- The outcome of a move with kept rows (02, request 4), by what the move without rows has left and what is then kept.
-use Prim.Native.Nat.{ℕ, zero, suc, ◌-◌, ◌^◌, ◌<◌, ◌≤◌}
-use mathlib.Core.Bool.{true, false}
-use mathlib.Core.List.{List, [], ◌∷◌}
-use mathlib.Core.Logic.{◌⊎◌, inl, inr, ◌≢◌}
-use mathlib.Core.Option.{Option, none, some}
-use mathlib.Core.Path.{◌≡◌, refl, sym, ◌∙◌, ap}
-use native.Mathlib.Omega.{arith}
-use lib.Dec.{eqb}
-use lib.ListN.{length, get_or}
-use borrow.Author.Tests.{eqb-true, eqb-false}
+use Rattle.std.proofs.Common.{◌≡◌, ℕ, zero, suc, ◌-◌, ◌^◌, ◌<◌, ◌≤◌, Result, Ok, Err, true, false, List, [], ◌∷◌, ◌⊎◌}
+use Rattle.std.proofs.Common.{inl, inr, ◌≢◌, refl, sym, ◌∙◌, ap, arith, eqb, length, get_or, eqb-true}
+use Rattle.std.proofs.Math.Option.{Option, none, some}
+use borrow.Author.Tests.{eqb-false}
 use Rattle.model.specs.Board.{devices, board}
 use Rattle.model.specs.Lists.{has, over}
 use Rattle.model.specs.Line.{job, operand, at}
@@ -19,7 +13,6 @@ use Rattle.model.specs.Move.{edited, from_last, rewritten, changed, asked_at, mo
 use Rattle.model.specs.Entries.{Lent, outcome, moving}
 use Rattle.model.specs.Kept.{concerned, kept_rows, kept_held}
 use Rattle.model.specs.declared.Refusal.{Refusal}
-use Rattle.model.specs.declared.MoveAnswer.{MoveAnswer}
 use Rattle.theory.proofs.WellFormed.{no_fault_exactly}
 use Rattle.theory.proofs.Tests.{test}
 use Rattle.theory.proofs.Line.{line_parts}
@@ -41,7 +34,8 @@ use Rattle.rows.proofs.Counted.{taken_operand}
 use Rattle.way.specs.Back.{way_by}
 use Rattle.way.specs.Known.{Scanned}
 use Rattle.moving.specs.Through.{MovesThrough}
-use Rattle.moving.specs.declared.Through.{Through}
+use Rattle.moving.specs.declared.Moved.{Moved}
+use Rattle.plan.specs.declared.Notes.{Notes}
 use Rattle.moving.proofs.Answers.{told_moved}
 use Rattle.moving.proofs.Refusing.{Passes, passes}
 use Rattle.moving.proofs.SameScan.{same_firsts}
@@ -53,8 +47,8 @@ use Rattle.kept.specs.Keeping.{operand_of, KeepsAs}
 use Rattle.kept.proofs.Moved.{rows_kept, held_kept}
 
 -- what was accepted was refused by no test
-accepted : (tests : Option Refusal) (a : MoveAnswer) (new lent : Lent) (n : ℕ)
-    → MoveAnswer.Changed n ≡ (outcome MoveAnswer.Refused tests a new lent).answer → tests ≡ none
+accepted : (tests : Option Refusal) (a : Result ℕ Refusal) (new lent : Lent) (n : ℕ)
+    → Ok n ≡ (outcome Err tests a new lent).answer → tests ≡ none
 unfolding outcome
 accepted none a new lent n e = refl
 accepted (some r) a new lent n e = let z : ◌≡◌ {A = ℕ} 0 1 = cc in absurd (omega arith)
@@ -74,18 +68,16 @@ unfolding asked_at
 asked_operand p zero h = absurd (omega arith)
 asked_operand p (suc i) h = refl
 
-module _ {p t : List ℕ} {line device : ℕ} {first starter again of_jobs : List ℕ} {answer : Through}
-    {p' t' first' starter' again' of_jobs' : List ℕ}
-    (m : MovesThrough board p t line device first starter again of_jobs answer p' t' first' starter' again' of_jobs')
-    {count stop : ℕ} (told : answer ≡ Through.Moved count stop) where
+module _ {p t : List ℕ} {line device : ℕ} {lent : Notes} {answer : Result Moved Refusal} {p' t' : List ℕ} {left : Notes}
+    (m : MovesThrough board p t line device lent answer p' t' left) {moved : Moved} (told : answer ≡ Ok moved) where
   none_refuses : move_refusal board p t line device ≡ none
   unfolding moving
   none_refuses =
       let q : List ℕ = edited p (asked_at line) device in
       let u : List ℕ = rewritten q t (from_last p (asked_at line)) in
-      accepted (move_refusal board p t line device) (MoveAnswer.Changed (changed p t u))
-      (record { plan = q; sets = u }) (record { plan = p; sets = t }) count
-      (told_moved _ _ count stop (sym told ∙ m.answers)).0
+      accepted (move_refusal board p t line device) (Ok (changed p t u))
+      (record { plan = q; sets = u }) (record { plan = p; sets = t }) moved.changed
+      (told_moved _ _ moved (sym told ∙ m.answers)).0
 
   k : Passes false p t line device
   k = passes false p t line device none_refuses
@@ -99,16 +91,16 @@ module _ {p t : List ℕ} {line device : ℕ} {first starter again of_jobs : Lis
   sets_are : t' ≡ rewritten (edited p i device) t (from_last p i)
   sets_are = m.sets ∙ ap (λ (l : Lent). l.sets) (left_by_lem p t line device none_refuses)
 
-  stop_is : stop ≡ stop_of (span_of p (line - 1))
+  stop_is : moved.stop ≡ stop_of (span_of p (line - 1))
   stop_is =
-      (told_moved (moving board p t line device).answer (stop_of (span_of p i)) count stop (sym told ∙ m.answers)).1
+      (told_moved (moving board p t line device).answer (stop_of (span_of p i)) moved (sym told ∙ m.answers)).1
       ∙ ap (λ (x : ℕ). stop_of (span_of p x)) k.position
 
   no_fault_lem : fault board p ≡ none
   no_fault_lem = (no_fault_exactly board p).1 k.sound
 
-  left : (made lent : List ℕ) → left_by (fault board p) made lent ≡ made
-  left made lent = ap (λ (o : Option Refusal). left_by o made lent) no_fault_lem
+  made_is : (made old : List ℕ) → left_by (fault board p) made old ≡ made
+  made_is made old = ap (λ (o : Option Refusal). left_by o made old) no_fault_lem
 
   edit_is : EditOf p (line - 1) device p'
   edit_is =
@@ -125,7 +117,7 @@ module _ {p t : List ℕ} {line device : ℕ} {first starter again of_jobs : Lis
       )
 
   -- the lines under the take end past it
-  pub stop_past : 1 ≤ stop
+  pub stop_past : 1 ≤ moved.stop
   stop_past =
       omega (
         arith,
@@ -133,61 +125,61 @@ module _ {p t : List ℕ} {line device : ℕ} {first starter again of_jobs : Lis
         (spans p k.asked.line.well_formed.rules (line - 1) k.asked.line.in_plan).low,
       )
 
-  pub is_edited : Prepared p' again' t'
+  pub is_edited : Prepared p' left.again t'
   is_edited = record {
     sound = (no_fault_exactly board p').1 (rw (plan_is, k.position) k.fine);
-    agains = m.agains ∙ left (again_flags p') again;
+    agains = m.agains ∙ made_is (again_flags p') lent.again;
     room = omega (arith, edit_is.alike.long, room);
   }
 
-  on_way : way_by p' t' starter' (stop - 1) ≡ from_last p (line - 1)
+  on_way : way_by p' t' left.starter (moved.stop - 1) ≡ from_last p (line - 1)
   on_way =
       rw (plan_is, k.position, stop_is)
-      (last_way false p t line device none_refuses first' starter' (again_flags p) t' scanned room)
+      (last_way false p t line device none_refuses left.first left.starter (again_flags p) t' scanned room)
     where
-      scanned : Scanned p first' starter' (again_flags p)
+      scanned : Scanned p left.first left.starter (again_flags p)
       scanned = record {
         well_formed = k.asked.line.well_formed;
-        firsts = m.firsts ∙ left (first_lines p) first;
-        starts = m.starts ∙ left (starters p) starter;
+        firsts = m.firsts ∙ made_is (first_lines p) lent.first;
+        starts = m.starts ∙ made_is (starters p) lent.starter;
         agains = refl;
       }
 
   -- the last line under the take is of its job
-  last_in_job : job (at p' (stop - 1)) ≡ job (at p (line - 1))
-  last_in_job = edit_is.alike.jobs (stop - 1) ∙ go (test (eqb (stop - 1) (line - 1)))
+  last_in_job : job (at p' (moved.stop - 1)) ≡ job (at p (line - 1))
+  last_in_job = edit_is.alike.jobs (moved.stop - 1) ∙ go (test (eqb (moved.stop - 1) (line - 1)))
     where
-      s : Spans p (line - 1) stop
+      s : Spans p (line - 1) moved.stop
       s = rw stop_is (spans p k.asked.line.well_formed.rules (line - 1) k.asked.line.in_plan)
 
-      go : (eqb (stop - 1) (line - 1) ≡ true) ⊎ (eqb (stop - 1) (line - 1) ≡ false)
-          → job (at p (stop - 1)) ≡ job (at p (line - 1))
-      go (inl e) = ap (λ (x : ℕ). job (at p x)) (eqb-true (stop - 1) (line - 1) e)
+      go : (eqb (moved.stop - 1) (line - 1) ≡ true) ⊎ (eqb (moved.stop - 1) (line - 1) ≡ false)
+          → job (at p (moved.stop - 1)) ≡ job (at p (line - 1))
+      go (inl e) = ap (λ (x : ℕ). job (at p x)) (eqb-true (moved.stop - 1) (line - 1) e)
       go (inr e) =
-          let n = eqb-false (stop - 1) (line - 1) e in
-          s.same_job (stop - 1) (omega (arith, s.low)) (omega (arith, s.low))
+          let n = eqb-false (moved.stop - 1) (line - 1) e in
+          s.same_job (moved.stop - 1) (omega (arith, s.low)) (omega (arith, s.low))
 
   -- a line of another job is as it was
-  other_line : (x : ℕ) → job (at p' x) ≢ job (at p' (stop - 1)) → at p' x ≡ at p x
+  other_line : (x : ℕ) → job (at p' x) ≢ job (at p' (moved.stop - 1)) → at p' x ≡ at p x
   other_line x n = edit_is.elsewhere x (λ e. n (taken x (ap (λ (y : ℕ). job (at p y)) e)))
       (λ e. n
       (taken x ((pair p (line - 1) x e).same_job x (omega (arith, (pair p (line - 1) x e).below)) (omega arith))))
     where
-      taken : (x : ℕ) → job (at p x) ≡ job (at p (line - 1)) → job (at p' x) ≡ job (at p' (stop - 1))
+      taken : (x : ℕ) → job (at p x) ≡ job (at p (line - 1)) → job (at p' x) ≡ job (at p' (moved.stop - 1))
       taken x e = edit_is.alike.jobs x ∙ e ∙ sym last_in_job
 
   -- what the scan left of the jobs serves the edited plan, but for the take's job
-  pub may_skip : Skips p' first' of_jobs' (job (at p' (stop - 1)))
+  pub may_skip : Skips p' left.first left.holdings (job (at p' (moved.stop - 1)))
   may_skip = record {
-    firsts = m.firsts ∙ left (first_lines p) first ∙ sym (same_firsts p p' edit_is.alike);
+    firsts = m.firsts ∙ made_is (first_lines p) lent.first ∙ sym (same_firsts p p' edit_is.alike);
     among = among';
   }
     where
       w : WellFormed board p'
       w = rw (plan_is, k.position) k.fine
 
-      among' : (x d : ℕ) → lasting p' x d ≡ true → job (at p' x) ≢ job (at p' (stop - 1))
-          → member (get_or of_jobs' (job (at p' x)) 0) d ≡ true
+      among' : (x d : ℕ) → lasting p' x d ≡ true → job (at p' x) ≢ job (at p' (moved.stop - 1))
+          → member (get_or left.holdings (job (at p' x)) 0) d ≡ true
       among' x d l n =
           let j = job (at p' x) in
           let taken = (lasting_parts p' x d l).0 in
@@ -195,21 +187,19 @@ module _ {p t : List ℕ} {line device : ℕ} {first starter again of_jobs : Lis
           let same : held_by j (before p' (length p')) ≡ held_by j (before p (length p')) =
           held_alike p' p j (length p') (λ y h. edit_is.alike.jobs y)
           (λ y h e. other_line y (λ q. n (sym e ∙ q))) in
-          ap (λ xs. member (get_or xs j 0) d) (m.holds ∙ left (holdings p) of_jobs)
+          ap (λ xs. member (get_or xs j 0) d) (m.holds ∙ made_is (holdings p) lent.holdings)
           ∙ holding_at p j d small (device_below board p' w x d taken)
           ∙ ap (λ (y : ℕ). has d (held_by j (before p y))) (sym edit_is.alike.long) ∙ sym (ap (has d) same)
           ∙ lasting_holds p' w.rules x d l
 
   pub moves_kept : (rs held : List ℕ) (old : ℕ) (rs' held' : List ℕ) → devices ≤ length rs → 1 ≤ length held
       → get_or held 0 0 < 2 ^ devices → old ≡ operand_of p line
-      → KeepsAs p' starter' t' (stop - 1) old device rs held rs' held'
-      → MovesKeptAs p t rs held line device (MoveAnswer.Changed count) p' t' rs' held'
+      → KeepsAs p' left.starter t' (moved.stop - 1) old device rs held rs' held'
+      → MovesKeptAs p t rs held line device (Ok moved.changed) p' t' rs' held'
   moves_kept rs held old rs' held' a b h o keeps =
       rw (rows_are, held_are)
-      (met_accepted p (beside t rs held) line device a b count p' t'
-      (plainly_moved false p t line device first starter again of_jobs answer p' t' first' starter' again' of_jobs' m
-      count
-      stop told))
+      (met_accepted p (beside t rs held) line device a b moved.changed p' t'
+      (plainly_moved false p t line device lent answer p' t' left m moved told))
     where
       old_is : old ≡ device_at p (line - 1)
       old_is =
@@ -224,7 +214,7 @@ module _ {p t : List ℕ} {line device : ℕ} {first starter again of_jobs : Lis
       rows_are =
           keeps.rows_are
           ∙ rows_kept p p' (line - 1) device k.sound k.asked.takes k.asked.line.in_plan
-          edit_is starter' t' (stop - 1) old on_way old_is rs
+          edit_is left.starter t' (moved.stop - 1) old on_way old_is rs
           ∙ ap (λ (x : ℕ). over (kept_rows devices p' t' (concerned p x device) rs) rs) (sym k.position)
 
       held_are : held' ≡ over (kept_held p' (device_at p (asked_at line)) device (get_or held 0 0) ∷ []) held

@@ -1,6 +1,7 @@
 -- How rows and held set are kept, as the code does it (02, request 4), and how the quick verdict is decided by sets.
 -- (That these are the outcomes of `model` is shown in proofs/.)
 use Rattle.std.specs.Prelude.{ℕ, zero, suc, cond, List, [], ◌∷◌, map, ◌≡◌, ltb, length, get_or, set, take}
+use Rattle.std.specs.Prelude.{Result}
 use Rattle.std.proofs.Math.Option.{Option, none, some}
 use Rattle.model.specs.Board.{devices}
 use Rattle.model.specs.Lists.{up_from, those, over}
@@ -10,7 +11,6 @@ use Rattle.model.specs.Line.{operand, at}
 use Rattle.model.specs.Kept.{held_to_end, quick_by}
 use Rattle.model.specs.declared.Refusal.{Refusal}
 use Rattle.model.specs.declared.Refusal.TheVariants.{ListTooShort, TwoLasting, LeadsBack}
-use Rattle.model.specs.declared.VerdictAnswer.{VerdictAnswer}
 use Rattle.sets.specs.Only.{only_of}
 use Rattle.sets.specs.Both.{both, without}
 use Rattle.rows.specs.Lasting.{lasting_flags}
@@ -72,7 +72,7 @@ unfolding refuse_if lowest_of
 refuse_lowest r s = refuse_if (ltb (lowest_of devices s) devices) (r (lowest_of devices s))
 
 -- by the set of the devices held to the end, and of those with two lasting takes
-unfoldable pub decided : List ℕ → ℕ → ℕ → VerdictAnswer
+unfoldable pub decided : List ℕ → ℕ → ℕ → Result ℕ Refusal
 unfolding quick_by first_refusal too_short refuse_lowest circles_of those member up_from
 decided rs held twice =
     quick_by

@@ -2,7 +2,7 @@
 -- lines stand first in their jobs, and no line starts these, so each may follow those before it; and none is given back
 -- among them, so that the devices held are theirs. In the morning there is none, and no step is done.
 use Prim.Native.Nat.{ℕ, zero, suc, ◌+◌, ◌-◌, ◌<◌, ◌≤◌}
-use mathlib.Core.Bool.{Bool, true, false, cond, ◌||◌}
+use mathlib.Core.Bool.{Bool, true, false, ◌||◌}
 use mathlib.Core.List.{List, [], ◌∷◌, ◌++◌, append-nil}
 use mathlib.Core.Logic.{◌⊎◌, inl, inr}
 use mathlib.Core.Option.{none}
@@ -10,17 +10,16 @@ use mathlib.Core.Path.{◌≡◌, sym, ◌∙◌, ap, ap₂, subst}
 use native.Mathlib.Numerals.{add-one}
 use native.Mathlib.Omega.{arith}
 use lib.Dec.{eqb}
-use lib.ListN.{length, get_or, set, length-set}
-use lib.Seq.{get_or-set_same, get_or-set_other}
-use borrow.Author.Tests.{eqb-true, eqb-false, eq-eqb}
+use lib.ListN.{length, get_or}
+use borrow.Author.Tests.{eq-eqb}
 use Rattle.model.specs.Lists.{up_from, has, those, positions}
 use Rattle.model.specs.Sets.{empty, union, member}
-use Rattle.model.specs.Line.{job, is_held, is_give, opens, device_of, holds, starts, at, max_job}
+use Rattle.model.specs.Line.{job, is_held, is_give, opens, device_of, holds, starts, at}
 use Rattle.model.specs.WellFormed.{WellFormed, fault}
-use Rattle.model.specs.Mate.{held_at, held_lines, device_at, grips}
+use Rattle.model.specs.Mate.{held_at, held_lines, steps, device_at, grips}
 use Rattle.model.specs.Legal.{given_back, held, MayFollow}
 use Rattle.model.specs.Board.{devices, board, board_at}
-use Rattle.theory.proofs.Tests.{clash, falsely, test, tests_agree, or_split, or_left, or_right, and_both}
+use Rattle.theory.proofs.Tests.{clash, falsely, tests_agree, or_split, or_left, or_right, and_both}
 use Rattle.theory.proofs.Lists.{has_those, those_has, has_up_from, up_from_has, left, among, left_every}
 use Rattle.theory.proofs.Line.{held_opens, give_no_held, device_rest}
 use Rattle.theory.proofs.Sets.{member_union, member_empty}
@@ -37,35 +36,11 @@ use Rattle.line.specs.Device.{device_bits}
 use Rattle.sets.specs.Only.{only_of}
 use Rattle.sets.proofs.Members.{member_only_of}
 use Rattle.plan.specs.Jobs.{first_lines}
+use Rattle.plan.specs.declared.Notes.{Notes}
+use Rattle.legal.specs.declared.State.{State}
 use Rattle.legal.specs.Begun.{Standing, Running, Tabled, BeginsAs}
 use Rattle.legal.specs.Steps.{passed}
 use Rattle.legal.proofs.Standing.{stands_running, ready_stands, stands_on}
-
--- ---- where the jobs stand with nothing done
-
--- with the places below j written
-pub record Filling (first starter next : List ℕ) (j : ℕ) : Type 0 where
-  pub long : length next ≡ suc max_job
-  pub each : (k : ℕ) → k < j → get_or next k 0 ≡ cond (eqb (get_or starter k 0) 0) (get_or first k 0) 0
-
-module _ {first starter next : List ℕ} where
-  pub fills_first : length next ≡ suc max_job → Filling first starter next 0
-  fills_first l = record { long = l; each = λ k h. absurd (omega arith) }
-
-  module _ {j : ℕ} (f : Filling first starter next j) where
-    pub fills_on : j < suc max_job → (v : ℕ) → v ≡ cond (eqb (get_or starter j 0) 0) (get_or first j 0) 0
-        → Filling first starter (set next j v) (j + 1)
-    fills_on l v e = record { long = length-set next j v ∙ f.long; each = λ k h. go k h (test (eqb k j)) }
-      where
-        go : (k : ℕ) → k < j + 1 → (eqb k j ≡ true) ⊎ (eqb k j ≡ false)
-            → get_or (set next j v) k 0 ≡ cond (eqb (get_or starter k 0) 0) (get_or first k 0) 0
-        go k h (inl q) =
-            let z = eqb-true k j q in rw z (get_or-set_same next j v 0 (omega (arith, f.long)) ∙ e)
-        go k h (inr q) =
-            let n = eqb-false k j q in get_or-set_other next j k v 0 n ∙ f.each k (omega arith)
-
-    pub filled : suc max_job ≤ j → Running first starter next
-    filled l = record { long = f.long; each = λ k h. f.each k (omega arith) }
 
 -- ---- the held lines among the first i lines
 
@@ -251,33 +226,34 @@ module _ {p next : List ℕ} {count set i : ℕ} (w : WellFormed (board_at true)
 
 -- where it ends
 pub all_done : {p next : List ℕ} {count set i : ℕ} → Doing p next count set i → length p ≤ i
-    → BeginsAs p next (record { steps = count; held = set })
+    → BeginsAs p (record { next = next; held = set }) × (count ≡ length (steps p))
 unfolding held_lines positions
 all_done {p} {next} {count} {set} {i} g l =
-    let z : held_among p i ≡ held_lines p = whole in record {
-      standing = subst (λ (d : List ℕ). Standing p d next) z g.standing;
-      counted = g.counted ∙ ap (λ (d : List ℕ). left (among d) (length p)) z ∙ steps_left p;
-      holds = λ d h. g.holding d h ∙ ap (λ (xs : List ℕ). held p xs d) z;
-    }
+    let z : held_among p i ≡ held_lines p = whole in (
+      record {
+        standing = subst (λ (d : List ℕ). Standing p d next) z g.standing;
+        holds = λ d h. g.holding d h ∙ ap (λ (xs : List ℕ). held p xs d) z;
+      },
+      g.counted ∙ ap (λ (d : List ℕ). left (among d) (length p)) z ∙ steps_left p,
+    )
   where
     whole : held_among p i ≡ held_lines p
     whole = let z : i ≡ length p = omega (arith, l, g.within) in ap (λ (n : ℕ). held_among p n) z
 
 -- ---- in the morning
 
-pub runs_first : {midday : Bool} {p first starter next : List ℕ} → Tabled midday p first starter
-    → Running first starter next → Standing p [] next
+pub runs_first : {midday : Bool} {p next : List ℕ} {notes : Notes} → Tabled midday p notes
+    → Running notes.first notes.starter next → Standing p [] next
 runs_first {midday} {p} t r =
     stands_running ((no_fault_exactly (board_at midday) p).0 t.sound) t.firsts t.starts r
 
-pub morning_begins : {p next : List ℕ} → fault board p ≡ none → Standing p [] next
-    → BeginsAs p next (record { steps = length p; held = empty })
+pub morning_begins : {p : List ℕ} {state : State} → fault board p ≡ none → Standing p [] state.next
+    → state.held ≡ empty → BeginsAs p state × (length p ≡ length (steps p))
 unfolding held
-morning_begins {p} e s = record {
-  standing = rw nothing s;
-  counted = sym (all_steps p unheld);
-  holds = λ d h. rw nothing (member_empty d);
-}
+morning_begins {p} e s free = (
+  record { standing = rw nothing s; holds = λ d h. rw (nothing, free) (member_empty d) },
+  sym (all_steps p unheld),
+)
   where
     unheld : (i : ℕ) → is_held (at p i) ≡ false
     unheld i = no_held_in_morning devices p ((no_fault_exactly board p).0 e) i

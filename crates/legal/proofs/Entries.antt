@@ -2,27 +2,24 @@
 -- asks for the outermost takes of the plan. Then what a line that is done changes: places in the list of next lines,
 -- and a device.
 use Prim.Native.Nat.{ℕ, suc, ◌+◌, ◌-◌, ◌<◌, ◌≤◌}
-use mathlib.Core.Bool.{Bool, true, false, cond, not, ◌&&◌, ◌||◌}
+use mathlib.Core.Bool.{Bool, true, false, cond, not, ◌&&◌}
 use mathlib.Core.List.{List}
 use mathlib.Core.Logic.{◌⊎◌, inl, inr}
 use mathlib.Core.Path.{◌≡◌, refl, sym, ◌∙◌, ap}
-use native.Mathlib.Numerals.{add-one}
 use native.Mathlib.Omega.{arith}
-use lib.Dec.{eqb, ltb}
-use lib.ListN.{length, get_or, set}
-use borrow.Author.Tests.{eqb-true, eqb-false, ltb-false, not-true, not-false}
-use Rattle.model.specs.Sets.{empty, member}
-use Rattle.model.specs.Line.{Settings, job, kind, operand, is_take, is_give, is_start, starts, is_line, at}
+use lib.Dec.{eqb}
+use lib.ListN.{length, get_or}
+use borrow.Author.Tests.{eqb-true}
+use Rattle.model.specs.Sets.{member}
+use Rattle.model.specs.Line.{Settings, job, kind, operand, is_take, is_start, starts, is_line, at}
 use Rattle.model.specs.Line.{max_job, max_lines}
 use Rattle.model.specs.Mate.{device_at, holds_already, takes_at}
 use Rattle.model.specs.WellFormed.{WellFormed}
-use Rattle.model.specs.Board.{devices}
 use Rattle.theory.specs.Outer.{again_at, plain, plain_at}
-use Rattle.theory.proofs.Tests.{clash, test, or_neither, and_split}
+use Rattle.theory.proofs.Tests.{clash, test, and_split}
 use Rattle.theory.proofs.Line.{line_parts, start_parts, start_of, start_operand, take_no_held, own_device}
 use Rattle.theory.proofs.Claims.{get_or_up_from}
 use Rattle.theory.proofs.Outer.{plain_job, plain_operand, plain_line, plain_take, plain_start}
-use Rattle.sets.specs.Only.{only_of}
 use Rattle.plan.specs.Again.{again_flag, again_flags}
 use Rattle.legal.specs.Steps.{is_next, started_by, passed}
 
@@ -36,12 +33,6 @@ started_small S l h = go (is_start l) refl
     go false e = omega arith
 
 -- ---- the line that an entry names
-
--- an entry that is neither 0 nor past n lines is the number of one of them
-pub numbered : (e n : ℕ) → (eqb e 0 || ltb n e) ≡ false → (e ≡ suc (e - 1)) × (e - 1 < n)
-numbered e n h =
-    let r = or_neither (eqb e 0) (ltb n e) h in
-    (omega (arith, eqb-false e 0 r.0), omega (arith, eqb-false e 0 r.0, ltb-false n e r.1))
 
 -- an entry is the number of a line, which counts as l
 pub record Names (p : List ℕ) (e l : ℕ) : Type 0 where
@@ -60,14 +51,13 @@ flag_tells p i h =
     go false = refl
 
 module _ {S : Settings} {p : List ℕ} (w : WellFormed S p) (e l : ℕ) where
-  pub named : {again : List ℕ} → again ≡ again_flags p → (eqb e 0 || ltb (length p) e) ≡ false
+  pub named : {again : List ℕ} → again ≡ again_flags p → 1 ≤ e → e ≤ length p
       → l ≡ plain (eqb (get_or again (e - 1) 0) 1) (at p (e - 1)) → Names p e l
-  named a h q =
-      let r = numbered e (length p) h in record {
-        number = r.0;
-        line = r.1;
-        counts = q ∙ rw (a, flag_tells p (e - 1) (omega (arith, r.1, w.few)));
-      }
+  named a low high q = record {
+    number = omega arith;
+    line = omega arith;
+    counts = q ∙ rw (a, flag_tells p (e - 1) (omega (arith, high, w.few)));
+  }
 
   counted_line : Names p e l → is_line S l ≡ true
   counted_line n = rw n.counts (plain_line (again_at p (e - 1)) (at p (e - 1)) S (w.lines (e - 1) n.line))
@@ -103,24 +93,7 @@ module _ (p : List ℕ) (i : ℕ) where
   passed_counted next first n =
       rw (plain_job (again_at p i) (at p i), plain_start p i, plain_operand (again_at p i) (at p i))
 
-pub test_passed : (r t : Bool) → r ≡ t → not r ≡ false → t ≡ true
-test_passed r t e n = sym e ∙ not-false r n
-
-pub test_failed : (r t : Bool) → r ≡ t → not r ≡ true → t ≡ false
-test_failed r t e n = sym e ∙ not-true r n
-
 -- ---- the places that a line changes
-
--- it is the one that the code chooses
-pub chosen_place : (l : ℕ) (b : Bool) (o r : ℕ) → r ≡ cond b o 0 → b ≡ is_start l → o ≡ operand l → r ≡ started_by l
-unfolding started_by
-chosen_place l b o r e f g = e ∙ rw (f, g)
-
--- what the code stores there
-pub stored_next : (next first : List ℕ) (l n j s : ℕ) → j ≡ job l → s ≡ started_by l
-    → set (set next j (n + 1)) s (get_or first s 0) ≡ passed next first l n
-unfolding passed
-stored_next next first l n j s e f = rw (e, f, add-one n)
 
 -- a start of job j has its place, and no other line has
 pub starts_it : (l j : ℕ) → starts l j ≡ true → j ≡ started_by l
@@ -134,10 +107,3 @@ starts_no_other l j a h q = go (is_start l) refl q
     go : (b : Bool) → is_start l ≡ b → j ≡ cond b (operand l) 0 → ⊥
     go true e q = clash (starts l j) (rw q (start_of l e)) a
     go false e q = omega arith
-
--- ---- the set of the device that a line takes or gives
-
-pub handled : (l : ℕ) (t g : Bool) (o s : ℕ) → s ≡ cond (t || g) (only_of devices o) empty → t ≡ is_take l
-    → g ≡ is_give l
-    → o ≡ operand l → s ≡ cond (is_take l || is_give l) (only_of devices (operand l)) empty
-handled l t g o s e a b c = e ∙ rw (a, b, c)

@@ -9,10 +9,10 @@ use mathlib.Core.Option.{none, some}
 use mathlib.Core.Path.{◌≡◌, refl, sym, ◌∙◌, ap, ap₂, subst}
 use native.Mathlib.Numerals.{add-one}
 use native.Mathlib.Omega.{arith}
-use lib.Dec.{eqb, ltb}
+use lib.Dec.{eqb}
 use lib.ListN.{length, get_or, drop, drop_of_length-le}
 use lib.Seq.{drop-cons}
-use borrow.Author.Tests.{eqb-true, eq-eqb, ne_eqb, ltb-true, not-true}
+use borrow.Author.Tests.{eqb-true, eq-eqb, ne_eqb, not-true}
 use Rattle.model.specs.Lists.{positions, all, has}
 use Rattle.model.specs.Sets.{empty, member}
 use Rattle.model.specs.Line.{job, operand, at}
@@ -22,7 +22,7 @@ use Rattle.model.specs.Legal.{held, MayFollow}
 use Rattle.model.specs.Judged.{stray_after, stray}
 use Rattle.model.specs.Board.{devices, board_at}
 use Rattle.theory.specs.Outer.{frees_at, again_at, plain_at}
-use Rattle.theory.proofs.Tests.{clash, falsely, test, tests_agree, or_split, and_split, and_both, and_left, and_right}
+use Rattle.theory.proofs.Tests.{clash, falsely, test, tests_agree, and_split, and_both, and_left, and_right}
 use Rattle.theory.proofs.Tests.{and_second}
 use Rattle.theory.proofs.Lists.{has_position, position_has, all_at, each_all, left, left_none, left_zero}
 use Rattle.theory.proofs.Lists.{among}
@@ -37,7 +37,8 @@ use Rattle.theory.proofs.Judged.{may_follow_exactly, step_passes, entry_refused,
 use Rattle.sets.specs.Only.{only_of}
 use Rattle.sets.proofs.Members.{member_differ, member_only_if}
 use Rattle.plan.specs.Jobs.{first_lines}
-use Rattle.legal.specs.declared.Begun.{Begun}
+use Rattle.plan.specs.declared.Notes.{Notes}
+use Rattle.legal.specs.declared.State.{State}
 use Rattle.legal.specs.Begun.{Standing, Ready}
 use Rattle.legal.specs.Steps.{is_next, passed, set_after, StepsAs}
 use Rattle.legal.proofs.Entries.{Names, next_counted, passed_counted}
@@ -57,17 +58,16 @@ pub record Following (p first es next : List ℕ) (set k : ℕ) : Type 0 where
   pub rest : left (among done) (length p) + k ≡ length (steps p)
   pub answer : stray p es ≡ stray_after p done k (drop k es)
 
-pub formed : {p first again next : List ℕ} {b : Begun} (r : Ready p first again next b)
-    → WellFormed (board_at r.midday) p
-formed {p} r = (no_fault_exactly (board_at r.midday) p).0 r.sound
+pub formed : {p : List ℕ} {notes : Notes} {state : State} (r : Ready p notes state) → WellFormed (board_at r.midday) p
+formed {p} r = (no_fault_exactly (board_at r.midday) p).0 r.tabled.sound
 
-pub follows_first : {p first again next : List ℕ} {b : Begun} (es : List ℕ) → Ready p first again next b
-    → Following p first es next b.held 0
+pub follows_first : {p : List ℕ} {notes : Notes} {state : State} (es : List ℕ) → Ready p notes state
+    → Following p notes.first es state.next state.held 0
 unfolding stray
 follows_first {p} es r = record {
   midday = r.midday;
-  sound = r.sound;
-  firsts = r.firsts;
+  sound = r.tabled.sound;
+  firsts = r.tabled.firsts;
   done = held_lines p;
   within = omega arith;
   standing = r.begins.standing;
@@ -182,13 +182,8 @@ module _ {p first es next : List ℕ} {set k : ℕ} (f : Following p first es ne
         go false = refl
 
     -- it is no line's number
-    pub no_number : (eqb entry 0 || ltb (length p) entry) ≡ true → StepsAs p es k
-    no_number h = stops_here (λ i q m. go i q m (or_split (eqb entry 0) (ltb (length p) entry) h))
-      where
-        go : (i : ℕ) → entry ≡ suc i → MayFollow p done i
-            → (eqb entry 0 ≡ true) ⊎ (ltb (length p) entry ≡ true) → ⊥
-        go i q m (inl z) = omega (arith, eqb-true entry 0 z)
-        go i q m (inr z) = omega (arith, ltb-true (length p) entry z, m.line)
+    pub no_number : (1 ≤ entry → entry ≤ length p → ⊥) → StepsAs p es k
+    no_number h = stops_here (λ i q m. h (omega arith) (omega (arith, m.line)))
 
     module _ {l : ℕ} (n : Names p entry l) where
       abbrev x : ℕ

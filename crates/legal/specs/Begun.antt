@@ -8,11 +8,12 @@ use Rattle.model.specs.Lists.{has}
 use Rattle.model.specs.Sets.{member}
 use Rattle.model.specs.Line.{job, starts, at, max_job}
 use Rattle.model.specs.WellFormed.{fault}
-use Rattle.model.specs.Mate.{held_lines, steps}
+use Rattle.model.specs.Mate.{held_lines}
 use Rattle.model.specs.Legal.{held}
 use Rattle.plan.specs.Jobs.{first_lines, starters}
 use Rattle.plan.specs.Again.{again_flags}
-use Rattle.legal.specs.declared.Begun.{Begun}
+use Rattle.plan.specs.declared.Notes.{Notes}
+use Rattle.legal.specs.declared.State.{State}
 
 -- what the list says after the lines done
 pub record Standing (p done next : List ℕ) : Type 0 where
@@ -31,22 +32,20 @@ pub record Running (first starter next : List ℕ) : Type 0 where
   pub long : length next ≡ suc max_job
   pub each : (j : ℕ) → j ≤ max_job → get_or next j 0 ≡ cond (eqb (get_or starter j 0) 0) (get_or first j 0) 0
 
--- a plan has no fault, and of each job the first line and the starter are listed
-pub record Tabled (midday : Bool) (p first starter : List ℕ) : Type 0 where
+-- a plan has no fault, and the notes are its own
+pub record Tabled (midday : Bool) (p : List ℕ) (notes : Notes) : Type 0 where
   pub sound : fault (board_at midday) p ≡ none
-  pub firsts : first ≡ first_lines p
-  pub starts : starter ≡ starters p
+  pub firsts : notes.first ≡ first_lines p
+  pub starts : notes.starter ≡ starters p
+  pub agains : notes.again ≡ again_flags p
 
--- the held lines are done: where the jobs stand, how many steps there are, and which devices are held
-pub record BeginsAs (p next : List ℕ) (b : Begun) : Type 0 where
-  pub standing : Standing p (held_lines p) next
-  pub counted : b.steps ≡ length (steps p)
-  pub holds : (d : ℕ) → d < devices → member b.held d ≡ held p (held_lines p) d
+-- the held lines are done: where the jobs stand, and which devices are held
+pub record BeginsAs (p : List ℕ) (state : State) : Type 0 where
+  pub standing : Standing p (held_lines p) state.next
+  pub holds : (d : ℕ) → d < devices → member state.held d ≡ held p (held_lines p) d
 
 -- all that the judge of the entries goes by, in the morning or at midday
-pub record Ready (p first again next : List ℕ) (b : Begun) : Type 0 where
+pub record Ready (p : List ℕ) (notes : Notes) (state : State) : Type 0 where
   pub midday : Bool
-  pub sound : fault (board_at midday) p ≡ none
-  pub firsts : first ≡ first_lines p
-  pub agains : again ≡ again_flags p
-  pub begins : BeginsAs p next b
+  pub tabled : Tabled midday p notes
+  pub begins : BeginsAs p state

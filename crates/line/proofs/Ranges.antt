@@ -1,117 +1,103 @@
--- Which case of `line_fits` the tests of a packed number pick (01, the table of "The plan as text"), with the ranges of
--- the operands as the code has them; and that a held line is tested as a take of its device (02, request 5).
+-- That what the code tests of a job, a verb and an operand is `line_fits` (01, the table of "The plan as text"): the
+-- ranges of the operands as the code has them, and a held line as a take of its device (02, request 5). And what the
+-- number of a line says of held lines and their devices.
 use mathlib.Core.Path.{◌≡◌, refl, sym, ◌∙◌, ap}
 use mathlib.Core.Bool.{Bool, true, false, cond, not, ◌&&◌, ◌||◌}
 use mathlib.Core.Logic.{◌⊎◌, inl, inr}
-use Prim.Native.Nat.{ℕ, zero, suc, ◌+◌, ◌-◌, ◌*◌, ◌/◌, ◌%◌, ◌^◌, ◌≤◌, ◌<◌}
+use Prim.Native.Nat.{ℕ, zero, suc, ◌+◌, ◌-◌, ◌/◌, ◌%◌, ◌≤◌, ◌<◌}
 use native.Mathlib.Omega.{arith}
 use lib.Dec.{eqb, leb, ltb}
 use borrow.Author.Tests.{eqb-true, eq-eqb, ne_eqb, leb-true, leb-false, le-leb, lt-leb, lt-ltb, le-ltb, not-true}
-use Rattle.model.specs.Board.{devices, board_at, board}
-use Rattle.model.specs.Line.{Settings, job, kind, operand, opens, is_held, is_take, device_of, verb_of, operand_fits}
+use Rattle.std.specs.Ordering.{nat_cmp, is_le}
+use Rattle.std.proofs.Math.Bool.{and_assoc, and-true, or-false}
+use Rattle.std.specs.Prelude.{Some}
+use Rattle.std.specs.Range.{range_inclusive_start, range_inclusive_end, range_inclusive_exhausted}
+use Rattle.std.specs.Range.{range_inclusive_contains}
+use Rattle.std.specs.declared.ops.RangeInclusive.{RangeInclusive}
+use Rattle.model.specs.Board.{devices, board, board_at}
+use Rattle.model.specs.Line.{Settings, kind, operand, opens, is_held, is_take, device_of, operand_fits}
+use Rattle.model.specs.Line.{job, verb_of, is_line, held_verb}
 use Rattle.model.specs.Line.{line_fits}
-use Rattle.model.specs.Line.{is_line, max_job, held_from, held_verb, pack, pack_verb}
+use Rattle.model.specs.Line.{max_job, held_from, pack, pack_verb}
 use Rattle.line.specs.Ranges.{lowest_operand, highest_operand}
 use Rattle.line.specs.Device.{packed_bits}
 use Rattle.theory.specs.Line.{Fits, of_do, of_device, of_held, of_start}
-use Rattle.theory.proofs.Tests.{tests_agree, and_split, le_or_lt}
-use Rattle.theory.proofs.Line.{fits_parts, held_operand, kind_small, Verbed, as_held, as_kind, verbed}
+use Rattle.theory.proofs.Tests.{tests_agree, and_split, le_or_lt, and_right, leb_agree}
+use Rattle.theory.proofs.Line.{fits_parts, own_device, held_operand, kind_small, Verbed, as_held, as_kind, verbed}
 
 pub or_none : (b : Bool) → (b || false) ≡ b
-or_none true = refl
-or_none false = refl
-
-module _ (j k o : ℕ) where
-  pub low_job : j < 1 → line_fits board j k o ≡ false
-  unfolding line_fits
-  low_job h = rw (lt-leb 1 j h)
-
-  pub high_job : max_job < j → line_fits board j k o ≡ false
-  unfolding line_fits
-  high_job h = rw (le-leb 1 j (omega arith), lt-leb j max_job h)
-
-  fits : 1 ≤ j → j ≤ max_job → line_fits board j k o ≡ operand_fits board k o
-  unfolding line_fits
-  fits low high = rw (le-leb 1 j low, le-leb j max_job high)
+or_none b = or-false b
 
 -- ---- the lowest and the highest operand of a kind
 
--- the word that has them all
-abbrev ranges : ℕ
-ranges =
-    256 * 255
-    + 65536 * (256 * (devices - 1) + 65536 * (256 * (devices - 1) + 65536 * (256 * max_job + 2)))
+-- a range that has not been gone over has the numbers from its start to its end
+at_most : (x y : ℕ) → is_le (nat_cmp x y) ≡ leb x y
+at_most x y = go (le_or_lt x y)
+  where
+    go : (x ≤ y) ⊎ (y < x) → is_le (nat_cmp x y) ≡ leb x y
+    go (inl h) = grind (arith, le-leb x y h)
+    go (inr h) = rw (le-ltb x y (omega arith), ne_eqb x y (λ q. omega arith), lt-leb x y h)
 
-pub in_word : (k : ℕ) → k < 4 → ranges / 2 ^ (k * 16) % 65536 ≡ lowest_operand k + 256 * highest_operand k
-in_word zero h = refl
-in_word (suc zero) h = refl
-in_word (suc (suc zero)) h = refl
-in_word (suc (suc (suc zero))) h = refl
-in_word (suc (suc (suc (suc k)))) h = absurd (omega arith)
+pub within : (r : RangeInclusive ℕ) (a b x : ℕ) → range_inclusive_start r ≡ a → range_inclusive_end r ≡ b
+    → range_inclusive_exhausted r ≡ false
+    → range_inclusive_contains (λ x y. Some (nat_cmp x y)) r x ≡ (leb a x && leb x b)
+within r a b x s e w = rw (w, s, e) (rw (at_most a x, at_most x b))
 
 on_board_lem : (o : ℕ) → ltb o devices ≡ leb o (devices - 1)
-on_board_lem o = go (le_or_lt devices o)
-  where
-    go : (devices ≤ o) ⊎ (o < devices) → ltb o devices ≡ leb o (devices - 1)
-    go (inl h) = le-ltb o devices h ∙ sym (lt-leb o (devices - 1) (omega arith))
-    go (inr h) = lt-ltb o devices h ∙ sym (le-leb o (devices - 1) (omega arith))
+on_board_lem o = leb_agree (suc o) devices o (devices - 1) (λ h. omega arith) (λ h. omega arith)
 
-below : (k o : ℕ) → k < 4 → o < lowest_operand k → operand_fits board k o ≡ false
+kind_tests : (k o : ℕ) → k < 4 → (leb (lowest_operand k) o && leb o (highest_operand k)) ≡ operand_fits board k o
 unfolding operand_fits
-below zero o h l = absurd (omega arith)
-below (suc zero) o h l = absurd (omega arith)
-below (suc (suc zero)) o h l = absurd (omega arith)
-below (suc (suc (suc zero))) o h l = rw (lt-leb 2 o l)
-below (suc (suc (suc (suc k)))) o h l = absurd (omega arith)
+kind_tests zero o h = rw (le-leb 0 o (omega arith)) (sym (or-false (leb o 255 || false) ∙ or-false (leb o 255)))
+kind_tests (suc zero) o h = rw (le-leb 0 o (omega arith), on_board_lem o) (sym (or-false (leb o (devices - 1))))
+kind_tests (suc (suc zero)) o h = rw (le-leb 0 o (omega arith), on_board_lem o) (sym (or-false (leb o (devices - 1))))
+kind_tests (suc (suc (suc zero))) o h = refl
+kind_tests (suc (suc (suc (suc k)))) o h = absurd (omega arith)
 
-from : (k o : ℕ) → k < 4 → lowest_operand k ≤ o → operand_fits board k o ≡ leb o (highest_operand k)
-unfolding operand_fits
-from zero o h l = or_none (leb o 255 || false) ∙ or_none (leb o 255)
-from (suc zero) o h l = or_none (ltb o devices) ∙ on_board_lem o
-from (suc (suc zero)) o h l = or_none (ltb o devices) ∙ on_board_lem o
-from (suc (suc (suc zero))) o h l = rw (le-leb 2 o l)
-from (suc (suc (suc (suc k)))) o h l = absurd (omega arith)
-
--- a verb's operands are those between the two
-between : (k o : ℕ) → k < 4 → (leb (lowest_operand k) o && leb o (highest_operand k)) ≡ operand_fits board k o
-between k o h = go (le_or_lt (lowest_operand k) o)
-  where
-    go : (lowest_operand k ≤ o) ⊎ (o < lowest_operand k)
-        → (leb (lowest_operand k) o && leb o (highest_operand k)) ≡ operand_fits board k o
-    go (inl l) = rw (le-leb (lowest_operand k) o l) (sym (from k o h l))
-    go (inr l) = rw (lt-leb (lowest_operand k) o l) (sym (below k o h l))
-
--- by what the code finds of the kind
-module _ (k r : ℕ) (is : r ≡ lowest_operand k + 256 * highest_operand k) where
-  low_of : r % 256 ≡ lowest_operand k
-  low_of = rw is (go (eqb k 3))
-    where
-      go : (b : Bool) → (cond b 2 0 + 256 * highest_operand k) % 256 ≡ cond b 2 0
-      go true = omega arith
-      go false = omega arith
-
-  high_of : r / 256 ≡ highest_operand k
-  high_of = rw is (go (eqb k 3))
-    where
-      go : (b : Bool) → (cond b 2 0 + 256 * highest_operand k) / 256 ≡ highest_operand k
-      go true = omega arith
-      go false = omega arith
-
-module _ (j k o r : ℕ) (low : 1 ≤ j) (high : j ≤ max_job) (kind : k < 4)
-    (is : r ≡ lowest_operand k + 256 * highest_operand k) where
-  pub low_operand : o < r % 256 → line_fits board j k o ≡ false
-  low_operand h = fits j k o low high ∙ below k o kind (rw (low_of k r is) at h)
-
-  pub high_operand : r % 256 ≤ o → line_fits board j k o ≡ leb o (r / 256)
-  high_operand h = fits j k o low high ∙ from k o kind (rw (low_of k r is) at h) ∙ ap (leb o) (sym (high_of k r is))
-
--- the same, where no branch tells the tests apart
-pub tests_fit : (j k o r : ℕ) → k < 4 → r ≡ lowest_operand k + 256 * highest_operand k
-    → ((leb 1 j && leb j max_job) && (leb (r % 256) o && leb o (r / 256))) ≡ line_fits board j k o
+pub fits_kind : (j k o : ℕ) → k < 4
+    → ((leb 1 j && leb j max_job) && (leb (lowest_operand k) o && leb o (highest_operand k))) ≡ line_fits board j k o
 unfolding line_fits
-tests_fit j k o r h is =
-    ap (λ (b : Bool). (leb 1 j && leb j max_job) && b)
-    (rw (low_of k r is, high_of k r is) (between k o h))
+fits_kind j k o h = ap (λ (b : Bool). leb 1 j && leb j max_job && b) (kind_tests k o h)
+
+-- ---- the verbs, by their kinds
+
+-- a verb's kind, as the code finds it
+abbrev kind_of : ℕ → ℕ
+kind_of v = (v % 4 + v / 4 % 2) % 4
+
+few_verbs : (m : Bool) (v o : ℕ) → v < 5
+    → (operand_fits board (kind_of v) o && (ltb v 4 || (eqb v 4 && m))) ≡ operand_fits (board_at m) v o
+unfolding operand_fits
+few_verbs m zero o h = and-true (operand_fits board 0 o)
+few_verbs m (suc zero) o h = and-true (operand_fits board 1 o)
+few_verbs m (suc (suc zero)) o h = and-true (operand_fits board 2 o)
+few_verbs m (suc (suc (suc zero))) o h = and-true (operand_fits board 3 o)
+few_verbs true (suc (suc (suc (suc zero)))) o h = and-true (operand_fits board 1 o)
+few_verbs false (suc (suc (suc (suc zero)))) o h = and_right (operand_fits board 1 o) false refl
+few_verbs m (suc (suc (suc (suc (suc v))))) o h = absurd (omega arith)
+
+verbs : (m : Bool) (v o : ℕ)
+    → (operand_fits board (kind_of v) o && (ltb v 4 || (eqb v 4 && m))) ≡ operand_fits (board_at m) v o
+unfolding operand_fits
+verbs m v o = go (le_or_lt 5 v)
+  where
+    go : (5 ≤ v) ⊎ (v < 5)
+        → (operand_fits board (kind_of v) o && (ltb v 4 || (eqb v 4 && m))) ≡ operand_fits (board_at m) v o
+    go (inr h) = few_verbs m v o h
+    go (inl h) = rw (
+      le-ltb v 4 (omega arith),
+      ne_eqb v 0 (λ q. omega arith),
+      ne_eqb v 1 (λ q. omega arith),
+      ne_eqb v 2 (λ q. omega arith),
+      ne_eqb v 3 (λ q. omega arith),
+      ne_eqb v 4 (λ q. omega arith),
+    ) (and_right (operand_fits board (kind_of v) o) false refl)
+
+pub by_kind : (m : Bool) (j v o : ℕ)
+    → (line_fits board j ((v % 4 + v / 4 % 2) % 4) o && (ltb v 4 || (eqb v 4 && m))) ≡ line_fits (board_at m) j v o
+unfolding line_fits
+by_kind m j v o =
+    and_assoc (leb 1 j && leb j max_job) _ _ ∙ ap (λ (b : Bool). leb 1 j && leb j max_job && b) (verbs m v o)
 
 -- ---- held lines
 
@@ -152,87 +138,46 @@ pub held_device : (l : ℕ) → is_held l ≡ true → l % 128 ≡ device_of l
 unfolding operand
 held_device l h = let r = (held_operand l h).1 in omega (arith, r)
 
-same_job_fits : (m : Bool) (j v k o e : ℕ) → operand_fits (board_at m) v o ≡ operand_fits board k e
-    → line_fits (board_at m) j v o ≡ line_fits board j k e
-unfolding line_fits
-same_job_fits m j v k o e q = ap (λ (b : Bool). leb 1 j && leb j max_job && b) q
-
--- by a kind the operands are the same at midday
-of_kind : (m : Bool) (k o : ℕ) → k < 4 → operand_fits (board_at m) k o ≡ operand_fits board k o
-unfolding operand_fits
-of_kind m k o h = rw (ne_eqb k held_verb (λ q. omega arith))
-
--- a held line has those of a take; in the morning it has none, and a take has none from 128 on
-as_take : (d : ℕ) → operand_fits (board_at true) held_verb d ≡ operand_fits board 1 d
-unfolding operand_fits
-as_take d = refl
-
-no_take_lem : (d : ℕ) → operand_fits (board_at false) held_verb d ≡ operand_fits board 1 (held_from + d)
-unfolding operand_fits
-no_take_lem d = rw (le-ltb (held_from + d) devices (omega arith))
-
--- the kind of each verb, as the code finds it; and what fits at a verb by what fits at its kind
-and_more : (a b c : Bool) → (a && (b && c)) ≡ (a && b && c)
-and_more true b c = refl
-and_more false b c = refl
-
-and_yes : (b : Bool) → b ≡ (b && true)
-and_yes true = refl
-and_yes false = refl
-
-and_no : (b : Bool) → false ≡ (b && false)
-and_no true = refl
-and_no false = refl
-
-none_held : (o : ℕ) → operand_fits board held_verb o ≡ false
-unfolding operand_fits
-none_held o = refl
-
--- past the last verb nothing fits
-no_verb : (m : Bool) (v o : ℕ) → 5 ≤ v → operand_fits (board_at m) v o ≡ false
-unfolding operand_fits
-no_verb m v o h =
-    rw (
-      ne_eqb v 0 (λ q. omega arith),
-      ne_eqb v 1 (λ q. omega arith),
-      ne_eqb v 2 (λ q. omega arith),
-      ne_eqb v 3 (λ q. omega arith),
-      ne_eqb v 4 (λ q. omega arith),
-    )
-
-few_by_kind : (m : Bool) (v o : ℕ) → v < 5
-    → operand_fits (board_at m) v o
-    ≡ (operand_fits board ((v % 4 + v / 4 % 2) % 4) o && (ltb v 4 || (eqb v 4 && m)))
-few_by_kind m zero o h = of_kind m 0 o (omega arith) ∙ and_yes (operand_fits board 0 o)
-few_by_kind m (suc zero) o h = of_kind m 1 o (omega arith) ∙ and_yes (operand_fits board 1 o)
-few_by_kind m (suc (suc zero)) o h = of_kind m 2 o (omega arith) ∙ and_yes (operand_fits board 2 o)
-few_by_kind m (suc (suc (suc zero))) o h = of_kind m 3 o (omega arith) ∙ and_yes (operand_fits board 3 o)
-few_by_kind true (suc (suc (suc (suc zero)))) o h = as_take o ∙ and_yes (operand_fits board 1 o)
-few_by_kind false (suc (suc (suc (suc zero)))) o h = none_held o ∙ and_no (operand_fits board 1 o)
-few_by_kind m (suc (suc (suc (suc (suc v))))) o h = absurd (omega arith)
-
-fits_by_kind : (m : Bool) (v o : ℕ)
-    → operand_fits (board_at m) v o
-    ≡ (operand_fits board ((v % 4 + v / 4 % 2) % 4) o && (ltb v 4 || (eqb v 4 && m)))
-fits_by_kind m v o = go (le_or_lt 5 v)
+-- what the operand of a line names
+pub named_device : (l : ℕ) → cond (is_held l) (l % 128) (operand l) ≡ device_of l
+named_device l = go (is_held l) refl
   where
-    go : (5 ≤ v) ⊎ (v < 5)
-        → operand_fits (board_at m) v o
-        ≡ (operand_fits board ((v % 4 + v / 4 % 2) % 4) o && (ltb v 4 || (eqb v 4 && m)))
-    go (inr h) = few_by_kind m v o h
-    go (inl h) =
-        no_verb m v o h
-        ∙ rw (le-ltb v 4 (omega arith), ne_eqb v 4 (λ q. omega arith))
-        (and_no (operand_fits board ((v % 4 + v / 4 % 2) % 4) o))
+    go : (h : Bool) → is_held l ≡ h → cond h (l % 128) (operand l) ≡ device_of l
+    go true e = held_device l e
+    go false e = sym (own_device l e)
 
-pub by_kind : (m : Bool) (j v o : ℕ)
-    → line_fits (board_at m) j v o
-    ≡ (line_fits board j ((v % 4 + v / 4 % 2) % 4) o && (ltb v 4 || (eqb v 4 && m)))
-unfolding line_fits
-by_kind m j v o =
-    ap (λ (b : Bool). leb 1 j && leb j max_job && b) (fits_by_kind m v o)
-    ∙ and_more (leb 1 j && leb j max_job) (operand_fits board ((v % 4 + v / 4 % 2) % 4) o)
-    (ltb v 4 || (eqb v 4 && m))
+-- a line is tested by its kind, at midday or in the morning: a held line as a take of its device, or of its operand,
+-- which is past those of takes
+held_fits : (m : Bool) (j k o d : ℕ) → k ≡ 1 → o ≡ held_from + d
+    → line_fits board j (k % 4) (cond m d o) ≡ line_fits (board_at m) j held_verb d
+unfolding line_fits operand_fits
+held_fits true j k o d e q = rw e
+held_fits false j k o d e q = rw (e, q, le-ltb (held_from + d) devices (omega arith))
+
+kind_fits : (m : Bool) (j k o : ℕ) → k < 4 → line_fits board j (k % 4) o ≡ line_fits (board_at m) j k o
+kind_fits m j k o h =
+    let q : (k % 4 + k / 4 % 2) % 4 ≡ k % 4 = omega arith in
+    sym (and-true (line_fits board j (k % 4) o)) ∙ (rw (q, lt-ltb k 4 h) at (by_kind m j k o))
+
+pub by_parts : (m : Bool) (l : ℕ)
+    → line_fits board (job l) (kind l % 4) (cond (is_held l && m) (l % 128) (operand l)) ≡ is_line (board_at m) l
+unfolding is_line
+by_parts m l = go (verbed l)
+  where
+    one_of : Bool → ℕ → Bool
+    one_of h d = line_fits board (job l) (kind l % 4) (cond (h && m) d (operand l))
+
+    as_verb : ℕ → ℕ → Bool
+    as_verb v d = line_fits (board_at m) (job l) v d
+
+    go : Verbed l → one_of (is_held l) (l % 128) ≡ as_verb (verb_of l) (device_of l)
+    go (as_kind h v d) =
+        ap (λ (b : Bool). one_of b (l % 128)) h ∙ kind_fits m (job l) (kind l) (operand l) (kind_small l)
+        ∙ sym (ap (λ (x : ℕ). as_verb x (device_of l)) v ∙ ap (as_verb (kind l)) d)
+    go (as_held h v k o) =
+        ap (λ (b : Bool). one_of b (l % 128)) h ∙ ap (one_of true) (held_device l h)
+        ∙ held_fits m (job l) (kind l) (operand l) (device_of l) k o
+        ∙ sym (ap (λ (x : ℕ). as_verb x (device_of l)) v)
 
 -- the number packed of the parts of a line is that line's
 pub packed_verb : (S : Settings) → S.devices ≤ held_from → (j v o : ℕ) → line_fits S j v o ≡ true
@@ -247,32 +192,3 @@ packed_verb S d j v o t =
     go h (of_device (inr e) b) = rw e (omega arith)
     go h (of_held e m b) = rw e (omega arith)
     go h (of_start e a b) = rw e (omega arith)
-
--- a line is tested by its kind, at midday or in the morning
-pub as_kind_lem : (m : Bool) (l : ℕ)
-    → is_line (board_at m) l ≡ line_fits board (job l) (kind l) (cond (is_held l && m) (device_of l) (operand l))
-unfolding is_line
-as_kind_lem m l = go (verbed l)
-  where
-    held : operand l ≡ held_from + device_of l → (m : Bool) → line_fits (board_at m) (job l) held_verb (device_of l)
-        ≡ line_fits board (job l) 1 (cond m (device_of l) (operand l))
-    held o true = same_job_fits true (job l) held_verb 1 (device_of l) (device_of l) (as_take (device_of l))
-    held o false = same_job_fits false (job l) held_verb 1 (device_of l) (operand l) (rw o (no_take_lem (device_of l)))
-
-    picks : is_held l ≡ false → cond (is_held l && m) (device_of l) (operand l) ≡ operand l
-    picks h = ap (λ (b : Bool). cond (b && m) (device_of l) (operand l)) h
-
-    go : Verbed l
-        → line_fits (board_at m) (job l) (verb_of l) (device_of l)
-        ≡ line_fits board (job l) (kind l) (cond (is_held l && m) (device_of l) (operand l))
-    go (as_kind h v d) =
-        ap (λ (x : ℕ). line_fits (board_at m) (job l) x (device_of l)) v
-        ∙ (ap (line_fits (board_at m) (job l) (kind l)) d
-        ∙ (same_job_fits m (job l) (kind l) (kind l) (operand l) (operand l)
-        (of_kind m (kind l) (operand l) (kind_small l))
-        ∙ ap (line_fits board (job l) (kind l)) (sym (picks h))))
-    go (as_held h v k o) =
-        ap (λ (x : ℕ). line_fits (board_at m) (job l) x (device_of l)) v
-        ∙ (held o m
-        ∙ (ap (λ (b : Bool). line_fits board (job l) 1 (cond (b && m) (device_of l) (operand l))) (sym h)
-        ∙ ap (λ (x : ℕ). line_fits board (job l) x (cond (is_held l && m) (device_of l) (operand l))) (sym k)))

@@ -1,28 +1,121 @@
--- 01, "The plan as text" (numbers): a decimal field from left to right, as the code goes through it: one digit more,
--- the digits at a place, the field by its first byte. A number's text is read as that number, and what is read as a
--- number is that number's text.
-use Prim.Native.Nat.{ℕ, suc, ◌+◌, ◌-◌, ◌*◌, ◌%◌, ◌≤◌, ◌<◌}
-use mathlib.Core.Bool.{Bool, true, false, cond, ◌&&◌}
+-- 01, "The plan as text" (numbers): a number's text is read as that number, and what is read as a number is that
+-- number's text. An operand is read with up to three digits at once; what is picked is what `fields` finds byte by
+-- byte.
+use Prim.Native.Nat.{ℕ, zero, suc, ◌+◌, ◌-◌, ◌*◌, ◌%◌, ◌≤◌, ◌<◌}
+use mathlib.Core.Bool.{Bool, true, false, cond}
 use mathlib.Core.List.{List, [], ◌∷◌, ◌++◌, append_assoc}
-use mathlib.Core.Logic.{⊎_elim}
-use mathlib.Core.Option.{Option, none, some, map}
+use mathlib.Core.Logic.{◌⊎◌, inl, inr}
+use mathlib.Core.Option as Math
+use mathlib.Core.Option.{none, some}
 use mathlib.Core.Path.{◌≡◌, refl, sym, ◌∙◌, ap}
-use native.Mathlib.Numerals.{add-one}
+use native.Mathlib.Nat.{add_assoc}
 use native.Mathlib.Omega.{arith}
 use lib.Dec.{eqb, leb}
-use lib.ListN.{length, get_or, drop, length-append, drop_of_length-le}
-use lib.Seq.{drop-cons}
-use borrow.Author.Tests.{eqb-true, eqb-false, eq-eqb, ne_eqb, le-leb, lt-leb, leb-true, leb-false}
-use Rattle.model.specs.Lists.{all}
-use Rattle.model.specs.Text.{is_digit, is_number, value_after, number, decimal}
+use lib.ListN.{length, get_or, drop, length-append}
+use borrow.Author.Tests.{eqb-true, eqb-false, eq-eqb, ne_eqb, le-leb, lt-leb, leb-true}
+use Rattle.std.specs.Prelude.{Option, Some, None}
+use Rattle.std.specs.List.{slice_range}
+use Rattle.std.proofs.lemmas.List.{get_or_past, get_or-drop, take_rest}
+use Rattle.model.specs.Lists.{all, has}
+use Rattle.model.specs.Text.{newline, is_digit, number, decimal}
 use Rattle.theory.proofs.Tests.{clash, and_split, le_or_lt}
+use Rattle.theory.proofs.Lists.{has_head, has_right}
 use Rattle.theory.proofs.Numbers.{decimal_digits, number_decimal, decimal_number}
-use Rattle.lines.specs.Fields.{spelling, before_end, within, field_of, field_at, joined_by, nought_at, digits_at}
-use Rattle.lines.specs.declared.Field.{Field}
+use Rattle.fields.specs.Number.{up_to, at_most, number_at, kept_below, longer_by}
+use Rattle.fields.specs.declared.Number.{Number}
+use Rattle.fields.proofs.Reading.{Reading, none_read, no_end, ended, stopped, read_on}
+use Rattle.lines.specs.Fields.{joined_by}
+
+-- ---- a number's text
+
+-- with the byte that ends its field
+unfoldable pub spelling : ℕ → ℕ → List ℕ
+unfolding decimal
+spelling end v = decimal v ++ (end ∷ [])
+
+front_of : (end : ℕ) (f rest : List ℕ) → is_digit end ≡ false → all is_digit f ≡ true
+    → up_to end (f ++ (end ∷ rest)) ≡ f
+unfolding up_to all
+front_of end [] rest n d = rw (eq-eqb end end refl, up_to)
+front_of end (b ∷ f) rest n d =
+    let r = and_split (is_digit b) (all is_digit f) d in
+    rw (ne_eqb end b (λ e. clash (is_digit b) r.0 (rw (← e) n)), up_to, front_of end f rest n r.1)
+
+-- it is read as that number
+pub field_whole : (end from v : ℕ) (text rest : List ℕ) → is_digit end ≡ false → v ≤ 255
+    → drop from text ≡ spelling end v ++ rest
+    → number_at text from end 255 ≡ Some (record { value = v; past = from + length (spelling end v) })
+unfolding number_at at_most spelling
+field_whole end from v text rest n h e =
+    let x : drop from text ≡ decimal v ++ (end ∷ rest) = e ∙ append_assoc (decimal v) (end ∷ []) rest in
+    rw (
+      x,
+      has_right end (decimal v) (end ∷ rest) (has_head end rest),
+      front_of end (decimal v) rest n (decimal_digits v),
+      number_decimal v,
+      le-leb v 255 h,
+    )
+    (ap (λ (p : ℕ). Some (record { value = v; past = p })) (omega (arith, length-append (decimal v) (end ∷ []))))
+
+-- a number and the byte that ends its field stand in front
+pub record Spells (end i : ℕ) (s : List ℕ) (n : Number) : Type 0 where
+  pub rest : List ℕ
+  pub small : n.value ≤ 255
+  pub whole : s ≡ spelling end n.value ++ rest
+  pub ends : n.past ≡ i + length (spelling end n.value)
+
+front : (end : ℕ) (s : List ℕ) → has end s ≡ true → (rest : List ℕ) × (s ≡ up_to end s ++ (end ∷ rest))
+unfolding has up_to
+front end [] h = clash false h refl
+front end (b ∷ s) h = go (eqb end b) refl h (front end s)
+  where
+    go : (t : Bool) → eqb end b ≡ t → has end (b ∷ s) ≡ true
+        → (has end s ≡ true → (rest : List ℕ) × (s ≡ up_to end s ++ (end ∷ rest)))
+        → (rest : List ℕ) × (b ∷ s ≡ up_to end (b ∷ s) ++ (end ∷ rest))
+    go true e h ih = let z = eqb-true end b e in (s, rw (e, up_to, ← z))
+    go false e h ih = let r = ih (rw e at h) in (r.0, rw (e, up_to) (ap {B = List ℕ} (λ l. b ∷ l) r.1))
+
+-- what is read as a number is its text
+pub field_sound : (end from : ℕ) (text : List ℕ) (n : Number) → number_at text from end 255 ≡ Some n
+    → Spells end from (drop from text) n
+unfolding number_at at_most spelling
+field_sound end from text n e = go (has end s) refl e
+  where
+    s : List ℕ
+    s = drop from text
+
+    f : List ℕ
+    f = up_to end s
+
+    past : ℕ
+    past = from + length f + 1
+
+    fits : (rest : List ℕ) → s ≡ f ++ (end ∷ rest) → (w : ℕ) → number f ≡ some w → (t : Bool) → leb w 255 ≡ t
+        → cond t (Some (record { value = w; past = past })) None ≡ Some n → Spells end from s n
+    fits rest x w m false t e = cc
+    fits rest x w m true t e =
+        let d = decimal_number f w m in
+        let wv : w ≡ n.value = cc in
+        let pv : past ≡ n.past = cc in
+        record {
+          rest = rest;
+          small = omega (arith, leb-true w 255 t);
+          whole = rw (← wv, append_assoc, d) x;
+          ends = rw (← wv, length-append) (omega (arith, ap length d));
+        }
+
+    spelt : (rest : List ℕ) → s ≡ f ++ (end ∷ rest) → (o : Math.Option ℕ) → number f ≡ o
+        → at_most 255 past o ≡ Some n → Spells end from s n
+    spelt rest x none m e = cc
+    spelt rest x (some w) m e = fits rest x w m (leb w 255) refl e
+
+    go : (t : Bool) → has end s ≡ t → cond t (at_most 255 past (number f)) None ≡ Some n → Spells end from s n
+    go false h e = cc
+    go true h e = let r = front end s h in spelt r.0 r.1 (number f) refl e
 
 -- ---- one digit more
 
-pub digit_range : (b : ℕ) → is_digit b ≡ true → (48 ≤ b) × (b ≤ 57)
+digit_range : (b : ℕ) → is_digit b ≡ true → (48 ≤ b) × (b ≤ 57)
 unfolding is_digit
 digit_range b e = let r = and_split (leb 48 b) (leb b 57) e in (leb-true 48 b r.0, leb-true b 57 r.1)
 
@@ -43,8 +136,17 @@ joined_small v b = go (is_digit b) refl
     go false e = omega arith
     go true e = let r = digit_range b e in omega arith
 
+-- past the end of the text stands no digit, and none ends a line
+joined_none : (v : ℕ) → joined_by v 0 ≡ 256
+unfolding joined_by is_digit
+joined_none v = refl
+
+joined_end : joined_by 0 newline ≡ 256
+unfolding joined_by is_digit
+joined_end = refl
+
 -- a value that passes has the one before in front
-pub joined_grows : (v b : ℕ) → joined_by v b ≤ 255 → v * 10 ≤ joined_by v b
+joined_grows : (v b : ℕ) → joined_by v b ≤ 255 → v * 10 ≤ joined_by v b
 unfolding joined_by
 joined_grows v b = go (is_digit b)
   where
@@ -52,280 +154,231 @@ joined_grows v b = go (is_digit b)
     go false h = absurd (omega arith)
     go true h = omega arith
 
--- ---- nought at a place
-
-module _ (end i : ℕ) (s : List ℕ) where
-  pub nought_none : length s ≤ i → Field.Wrong ≡ nought_at end i (drop i s)
-  unfolding nought_at
-  nought_none h = rw (drop_of_length-le s h)
-
-  pub nought_end : i < length s → get_or s i 0 ≡ end → Field.Number 0 (i + 1) ≡ nought_at end i (drop i s)
-  unfolding nought_at
-  nought_end h e = rw (add-one i, drop-cons s i 0 h, eq-eqb (get_or s i 0) end e)
-
-  pub nought_other : i < length s → (get_or s i 0 ≡ end → ⊥) → Field.Wrong ≡ nought_at end i (drop i s)
-  unfolding nought_at
-  nought_other h n = rw (drop-cons s i 0 h, ne_eqb (get_or s i 0) end n)
-
--- ---- digits at a place
-
-module _ (end v i : ℕ) (s : List ℕ) where
-  pub digits_none : length s ≤ i → Field.Wrong ≡ digits_at end v i (drop i s)
-  unfolding digits_at
-  digits_none h = rw (drop_of_length-le s h)
-
-  module _ (h : i < length s) where
-    -- the byte ends the field
-    pub digits_end : get_or s i 0 ≡ end → Field.Number v (i + 1) ≡ digits_at end v i (drop i s)
-    unfolding digits_at
-    digits_end e = rw (add-one i, drop-cons s i 0 h, eq-eqb (get_or s i 0) end e)
-
-    -- it does not, and w is the value with it
-    module _ (n : get_or s i 0 ≡ end → ⊥) (w : ℕ) (e : w ≡ joined_by v (get_or s i 0)) where
-      pub digits_over : 255 < w → Field.Wrong ≡ digits_at end v i (drop i s)
-      unfolding digits_at
-      digits_over k = rw (drop-cons s i 0 h, ne_eqb (get_or s i 0) end n, ← e, lt-leb w 255 k)
-
-      pub digits_on : w ≤ 255 → digits_at end w (i + 1) (drop (i + 1) s) ≡ digits_at end v i (drop i s)
-      unfolding digits_at
-      digits_on k = rw (add-one i, drop-cons s i 0 h, ne_eqb (get_or s i 0) end n, ← e, le-leb w 255 k)
-
--- what the code answers with a value that it picked and the number of digits taken
-abbrev pub Answers : ℕ → ℕ → ℕ → List ℕ → ℕ → ℕ → Type 0
-Answers end v i s value more =
-    (255 < value → Field.Wrong ≡ digits_at end v i (drop i s))
-    × (value ≤ 255 → digits_at end value (i + more) (drop (i + more) s) ≡ digits_at end v i (drop i s))
-
-module _ (end v i : ℕ) (s : List ℕ) (small : v ≤ 255) (h : i + 1 < length s) (one two : ℕ)
-    (e1 : one ≡ joined_by v (get_or s i 0)) (e2 : two ≡ joined_by one (get_or s (i + 1) 0)) where
-  picked : (t u : Bool) → eqb (get_or s i 0) end ≡ t → eqb (get_or s (i + 1) 0) end ≡ u
-      → Answers end v i s (cond t v (cond u one two)) (cond t 0 (cond u 1 2))
-  picked true u x y = let z : i + 0 ≡ i = omega arith in (λ k. absurd (omega arith), λ k. rw z)
-  picked false true x y =
-      let n = eqb-false (get_or s i 0) end x in
-      (digits_over end v i s (omega arith) n one e1, digits_on end v i s (omega arith) n one e1)
-  picked false false x y =
-      let z : i + 2 ≡ i + 1 + 1 = omega arith in
-      let n = eqb-false (get_or s i 0) end x in
-      let m = eqb-false (get_or s (i + 1) 0) end y in
-      let on = digits_on end v i s (omega arith) n one e1 in (
-        λ k. ⊎_elim (λ g. digits_over end one (i + 1) s h m two e2 k ∙ on g)
-            (digits_over end v i s (omega arith) n one e1) (le_or_lt one 255),
-        λ k. rw z (digits_on end one (i + 1) s h m two e2 k
-            ∙ on (omega (arith, e2, joined_grows one (get_or s (i + 1) 0) (omega (arith, e2))))),
-      )
-
-  pub two_digits : {p value q more : ℕ} → p ≡ cond (eqb (get_or s (i + 1) 0) end) one two
-      → value ≡ cond (eqb (get_or s i 0) end) v p → q ≡ cond (eqb (get_or s (i + 1) 0) end) 1 2
-      → more ≡ cond (eqb (get_or s i 0) end) 0 q → Answers end v i s value more
-  two_digits ep ev eq em =
-      rw (ev, ep, em, eq) (picked (eqb (get_or s i 0) end) (eqb (get_or s (i + 1) 0) end) refl refl)
-
--- ---- digits from left to right are the digits in front of the byte that ends them
-
-value_grows : (v : ℕ) (f : List ℕ) → v ≤ value_after v f
-unfolding value_after
-value_grows v [] = omega arith
-value_grows v (b ∷ f) = omega (arith, value_grows (v * 10 + (b - 48)) f)
-
--- what digits in front of that byte answer, after others of value v
-valued : ℕ → ℕ → Option (List ℕ) → Field
-valued v i none = Field.Wrong
-valued v i (some f) = cond (all is_digit f) (within (i + suc (length f)) (some (value_after v f))) Field.Wrong
-
--- a byte more in front: no digit, or a digit
-valued_wrong : (v i b : ℕ) (o : Option (List ℕ)) → is_digit b ≡ false
-    → valued v i (map (λ f. b ∷ f) o) ≡ Field.Wrong
-unfolding valued all
-valued_wrong v i b none d = refl
-valued_wrong v i b (some f) d = rw d
-
-valued_more : (v i b : ℕ) (o : Option (List ℕ)) → is_digit b ≡ true
-    → valued v i (map (λ f. b ∷ f) o) ≡ valued (v * 10 + (b - 48)) (suc i) o
-unfolding valued all value_after
-valued_more v i b none d = refl
-valued_more v i b (some f) d = let e : i + suc (suc (length f)) ≡ suc i + suc (length f) = omega arith in rw (d, e)
-
-valued_over : (v i : ℕ) (o : Option (List ℕ)) → 255 < v → valued v i o ≡ Field.Wrong
-unfolding valued within
-valued_over v i none h = refl
-valued_over v i (some f) h = rw (lt-leb (value_after v f) 255 (omega (arith, value_grows v f))) (go (all is_digit f))
+-- what is joined to a value that does not pass does not pass
+joined_large : (v b : ℕ) → 255 < v → 255 < joined_by v b
+joined_large v b h = go (le_or_lt (joined_by v b) 255)
   where
-    go : (t : Bool) → cond t Field.Wrong Field.Wrong ≡ Field.Wrong
+    go : (joined_by v b ≤ 255) ⊎ (255 < joined_by v b) → 255 < joined_by v b
+    go (inl g) = absurd (omega (arith, joined_grows v b g))
+    go (inr g) = g
+
+-- ---- an operand, digit by digit
+
+-- joining to v, and asking whether the value passes, is what a byte more makes of a field
+abbrev Joins : Option ℕ → ℕ → Type 0
+Joins o v = (b : ℕ) → longer_by o b 255 ≡ kept_below 255 (Some (joined_by v b))
+
+joins_none : Joins None 0
+unfolding longer_by joined_by
+joins_none b = go (is_digit b)
+  where
+    go : (t : Bool)
+        → cond t (kept_below 255 (Some (b - 48))) None ≡ kept_below 255 (Some (cond t (0 * 10 + (b - 48)) 256))
+    go true = ap (λ (n : ℕ). kept_below 255 (Some n)) (omega arith)
+    go false = refl
+
+-- no digit comes behind a nought
+joins_front : (v : ℕ) → Joins (Some v) (cond (eqb v 0) 256 v)
+unfolding longer_by joined_by
+joins_front zero b = rw (lt-leb (joined_by 256 b) 255 (joined_large 256 b (omega arith))) (go (is_digit b))
+  where
+    go : (t : Bool) → let none : Option ℕ = None in cond t none none ≡ none
+    go true = refl
+    go false = refl
+joins_front (suc v) b = rw (ne_eqb (suc v) 0 (λ e. omega arith)) (go (is_digit b))
+  where
+    go : (t : Bool) → cond t (kept_below 255 (Some (suc v * 10 + (b - 48)))) None
+        ≡ kept_below 255 (Some (cond t (suc v * 10 + (b - 48)) 256))
     go true = refl
     go false = refl
 
-digits_valued : (end v i : ℕ) (s : List ℕ) → v ≤ 255 → digits_at end v i s ≡ valued v i (before_end end s)
-unfolding digits_at before_end valued all value_after within
-digits_valued end v i [] h = refl
-digits_valued end v i (b ∷ s) h =
-    go (eqb b end) (is_digit b) (leb w 255) refl refl (λ k. digits_valued end w (suc i) s k)
+module _ (text : List ℕ) (from : ℕ) where
+  abbrev answer : Option Number
+  answer = number_at text from newline 255
+
+  abbrev Here : Option ℕ → ℕ → Type 0
+  Here o at = Reading text from newline 255 o at
+
+  -- the byte that ends the line stands at no place past the text
+  within : (at : ℕ) → get_or text at 0 ≡ newline → at < length text
+  within at e = go (le_or_lt (length text) at)
+    where
+      go : (length text ≤ at) ⊎ (at < length text) → at < length text
+      go (inl h) = absurd (omega (arith, get_or_past text at 0 h))
+      go (inr h) = h
+
+  -- with one byte more the value passes, or the field is lost
+  data Next (w at : ℕ) : Type 0 where
+    lost : 255 < w → None ≡ answer → Next w at
+    on : w ≤ 255 → Here (Some w) (at + 1) → Next w at
+
+  next : {o : Option ℕ} {at : ℕ} → Here o at → (v : ℕ) → Joins o v → (get_or text at 0 ≡ newline → ⊥) → (w : ℕ)
+      → w ≡ joined_by v (get_or text at 0) → Next w at
+  next {o} {at} x v j n w e = go (le_or_lt (length text) at) (le_or_lt w 255)
+    where
+      b : ℕ
+      b = get_or text at 0
+
+      go : (length text ≤ at) ⊎ (at < length text) → (w ≤ 255) ⊎ (255 < w) → Next w at
+      go (inl h) g = lost (rw (e, get_or_past text at 0 h, joined_none v) (omega arith)) (no_end x h)
+      go (inr h) (inl g) = on g (read_on x h n w (sym (j b ∙ rw (← e, le-leb w 255 g))))
+      go (inr h) (inr g) = lost g (stopped x h n (sym (j b ∙ rw (← e, lt-leb w 255 g))))
+
+  -- what the code picked: a value that does not pass, one with the end behind its digits, or one of three digits
+  pub data Picked (value digits : ℕ) : Type 0 where
+    large : 255 < value → None ≡ answer → Picked value digits
+    short : value ≤ 255 → Here (Some value) (from + digits) → get_or text (from + digits) 0 ≡ newline
+        → Picked value digits
+    full : value ≤ 255 → 26 ≤ value → Here (Some value) (from + digits) → Picked value digits
+
+  module _ (one two three : ℕ) (e1 : one ≡ joined_by 0 (get_or text from 0))
+      (e2 : two ≡ joined_by (cond (eqb one 0) 256 one) (get_or text (from + 1) 0))
+      (e3 : three ≡ joined_by two (get_or text (from + 2) 0)) where
+    -- where the first is none, neither do the others pass
+    all_large : 255 < one → (t u : Bool) → 255 < cond t one (cond u two three)
+    all_large h true u = h
+    all_large h false u = go u
+      where
+        second : 255 < two
+        second =
+            rw e2
+            (joined_large (cond (eqb one 0) 256 one) (get_or text (from + 1) 0)
+            (rw (ne_eqb one 0 (λ e. omega arith)) h))
+
+        go : (u : Bool) → 255 < cond u two three
+        go true = second
+        go false = rw e3 (joined_large two (get_or text (from + 2) 0) second)
+
+    two_large : 255 < two → (u : Bool) → 255 < cond u two three
+    two_large h true = h
+    two_large h false = rw e3 (joined_large two (get_or text (from + 2) 0) h)
+
+    front_some : 1 ≤ cond (eqb one 0) 256 one
+    front_some = go (eqb one 0) refl
+      where
+        go : (t : Bool) → eqb one 0 ≡ t → 1 ≤ cond t 256 one
+        go true e = omega arith
+        go false e = let n = eqb-false one 0 e in omega arith
+
+    two_some : two ≤ 255 → 10 ≤ two
+    two_some h =
+        omega (
+          arith,
+          joined_grows (cond (eqb one 0) 256 one) (get_or text (from + 1) 0) (rw (← e2) h),
+          front_some,
+        )
+
+    joins_two : 1 ≤ two → Joins (Some two) two
+    joins_two h b = rw (ne_eqb two 0 (λ e. omega arith)) at (joins_front two b)
+
+    third : (u : Bool) → eqb (get_or text (from + 2) 0) newline ≡ u → Here (Some two) (from + 2) → two ≤ 255
+        → Picked (cond u two three) (cond u 2 3)
+    third true q x h = short h x (eqb-true (get_or text (from + 2) 0) newline q)
+    third false q x h =
+        go
+        (next x two (joins_two (omega (arith, two_some h))) (eqb-false (get_or text (from + 2) 0) newline q) three e3)
+      where
+        go : Next three (from + 2) → Picked three 3
+        go (lost g z) = large g z
+        go (on g y) =
+            full g
+            (omega (arith, joined_grows two (get_or text (from + 2) 0) (rw (← e3) g), two_some h))
+            (rw (add_assoc from 2 1) at y)
+
+    second : (t u : Bool) → eqb (get_or text (from + 1) 0) newline ≡ t → eqb (get_or text (from + 2) 0) newline ≡ u
+        → Here (Some one) (from + 1) → one ≤ 255
+        → Picked (cond t one (cond u two three)) (cond t 1 (cond u 2 3))
+    second true u p q x h = short h x (eqb-true (get_or text (from + 1) 0) newline p)
+    second false u p q x h =
+        go (next x (cond (eqb one 0) 256 one) (joins_front one) (eqb-false (get_or text (from + 1) 0) newline p) two e2)
+      where
+        go : Next two (from + 1) → Picked (cond u two three) (cond u 2 3)
+        go (lost g z) = large (two_large g u) z
+        go (on g y) = third u q (rw (add_assoc from 1 1) at y) g
+
+    first : (t u : Bool) → eqb (get_or text (from + 1) 0) newline ≡ t → eqb (get_or text (from + 2) 0) newline ≡ u
+        → Picked (cond t one (cond u two three)) (cond t 1 (cond u 2 3))
+    first t u p q = here (eqb (get_or text from 0) newline) refl
+      where
+        start : Here None from
+        start = none_read text from newline 255
+
+        go : Next one from → Picked (cond t one (cond u two three)) (cond t 1 (cond u 2 3))
+        go (lost g z) = large (all_large g t u) z
+        go (on g y) = second t u p q y g
+
+        here : (r : Bool) → eqb (get_or text from 0) newline ≡ r
+            → Picked (cond t one (cond u two three)) (cond t 1 (cond u 2 3))
+        here true r =
+            let n = eqb-true (get_or text from 0) newline r in
+            large (all_large (rw (e1, n, joined_end) (omega arith)) t u) (ended start (within from n) n)
+        here false r = go (next start 0 joins_none (eqb-false (get_or text from 0) newline r) one e1)
+
+    pub picked : {value digits : ℕ}
+        → value ≡ cond (eqb (get_or text (from + 1) 0) newline) one
+        (cond (eqb (get_or text (from + 2) 0) newline) two three)
+        → digits ≡ cond (eqb (get_or text (from + 1) 0) newline) 1 (cond (eqb (get_or text (from + 2) 0) newline) 2 3)
+        → Picked value digits
+    picked ev ed =
+        rw (ev, ed)
+        (first (eqb (get_or text (from + 1) 0) newline) (eqb (get_or text (from + 2) 0) newline) refl refl)
+
+  module _ {value digits : ℕ} (p : Picked value digits) where
+    pub too_large : 255 < value → None ≡ answer
+    too_large h = go p
+      where
+        go : Picked value digits → None ≡ answer
+        go (large g z) = z
+        go (short g x e) = absurd (omega arith)
+        go (full g k x) = absurd (omega arith)
+
+    module _ (h : value ≤ 255) where
+      pub spelt : get_or text (from + digits) 0 ≡ newline
+          → Some (record { value = value; past = from + digits + 1 }) ≡ answer
+      spelt n = go p
+        where
+          go : Picked value digits → Some (record { value = value; past = from + digits + 1 }) ≡ answer
+          go (large g z) = absurd (omega arith)
+          go (short g x e) = ended x (within (from + digits) n) n
+          go (full g k x) = ended x (within (from + digits) n) n
+
+      pub unended : (get_or text (from + digits) 0 ≡ newline → ⊥) → None ≡ answer
+      unended n = go p
+        where
+          more : 26 ≤ value → Next (joined_by value (get_or text (from + digits) 0)) (from + digits) → None ≡ answer
+          more k (lost g z) = z
+          more k (on g y) = absurd (omega (arith, joined_grows value (get_or text (from + digits) 0) g))
+
+          joins : 26 ≤ value → Joins (Some value) value
+          joins k b = rw (ne_eqb value 0 (λ e. omega arith)) at (joins_front value b)
+
+          go : Picked value digits → None ≡ answer
+          go (large g z) = z
+          go (short g x e) = absurd (n e)
+          go (full g k x) = more k (next x value (joins k) n (joined_by value (get_or text (from + digits) 0)) refl)
+
+-- from the values as the code has them, of the bytes that stand from the place on
+module _ (text rest : List ℕ) (from : ℕ) (e : rest ≡ slice_range text from (length text)) where
+  pub byte_there : (k : ℕ) → get_or rest k 0 ≡ get_or text (from + k) 0
+  byte_there k = rw (e, take_rest text from) (get_or-drop from text k 0)
+
+  pub operand_picked : {a b c one front two three more value count digits : ℕ}
+      → a ≡ get_or rest 0 0 → b ≡ get_or rest 1 0 → c ≡ get_or rest 2 0
+      → one ≡ joined_by 0 a → front ≡ cond (eqb one 0) 256 one → two ≡ joined_by front b → three ≡ joined_by two c
+      → more ≡ cond (eqb c newline) two three → value ≡ cond (eqb b newline) one more
+      → count ≡ cond (eqb c newline) 2 3 → digits ≡ cond (eqb b newline) 1 count
+      → Picked text from value digits
+  operand_picked {a} {b} {c} {one} {front} {two} {three} ea eb ec e1 ef e2 e3 em ev en ed =
+      let z : from + 0 ≡ from = omega arith in
+      let pa : get_or text from 0 ≡ a = rw (← z) (sym (ea ∙ byte_there 0)) in
+      let pb : get_or text (from + 1) 0 ≡ b = sym (eb ∙ byte_there 1) in
+      let pc : get_or text (from + 2) 0 ≡ c = sym (ec ∙ byte_there 2) in
+      picked text from one two three (rw pa e1) (rw (pb, ← ef) e2) (rw pc e3) (rw (pb, pc, ← em) ev)
+      (rw (pb, pc, ← en) ed)
+
+pub front_small : (a : ℕ) {one front : ℕ} → one ≡ joined_by 0 a → front ≡ cond (eqb one 0) 256 one → front ≤ 256
+front_small a {one} e f = rw f (go (eqb one 0))
   where
-    w : ℕ
-    w = v * 10 + (b - 48)
-
-    go : (t d u : Bool) → is_digit b ≡ d → leb w 255 ≡ u
-        → (w ≤ 255 → digits_at end w (suc i) s ≡ valued w (suc i) (before_end end s))
-        → cond t (Field.Number v (suc i))
-        (cond (leb (cond d w 256) 255) (digits_at end (cond d w 256) (suc i) s) Field.Wrong)
-        ≡ valued v i (cond t (some []) (map (λ f. b ∷ f) (before_end end s)))
-    go true d u p q ih = let e : suc i ≡ i + 1 = omega arith in rw (le-leb v 255 h, e)
-    go false false u p q ih = sym (valued_wrong v i b (before_end end s) p)
-    go false true false p q ih =
-        rw q (sym (valued_more v i b (before_end end s) p
-        ∙ valued_over w (suc i) (before_end end s) (leb-false w 255 q)))
-    go false true true p q ih = rw q (ih (leb-true w 255 q) ∙ sym (valued_more v i b (before_end end s) p))
-
--- ---- the field by its first byte
-
-is_number_lem : (b : ℕ) (f : List ℕ) → eqb b 48 ≡ false → is_number (b ∷ f) ≡ all is_digit (b ∷ f)
-unfolding is_number all
-is_number_lem b [] e = go (is_digit b)
-  where
-    go : (t : Bool) → t ≡ (t && true)
-    go true = refl
-    go false = refl
-is_number_lem b (c ∷ f) e = rw e
-
--- nought stands alone
-field_nought : (end i : ℕ) (s : List ℕ) → end < 48 → field_at end i (48 ∷ s) ≡ nought_at end (suc i) s
-unfolding field_at before_end nought_at field_of within number
-field_nought end i [] h = rw (ne_eqb 48 end (λ e. omega arith))
-field_nought end i (c ∷ s) h = rw (ne_eqb 48 end (λ e. omega arith)) (go (eqb c end) (before_end end s))
-  where
-    go : (t : Bool) (o : Option (List ℕ))
-        → field_of i (map (λ f. 48 ∷ f) (cond t (some []) (map (λ f. c ∷ f) o)))
-        ≡ cond t (Field.Number 0 (suc (suc i))) Field.Wrong
-    go true o = ap (Field.Number 0) (omega arith)
-    go false none = refl
-    go false (some f) = refl
-
--- other digits are joined one after another
-field_valued : (i b : ℕ) (o : Option (List ℕ)) → eqb b 48 ≡ false
-    → field_of i (map (λ f. b ∷ f) o) ≡ valued 0 i (map (λ f. b ∷ f) o)
-unfolding field_of valued number within
-field_valued i b none z = refl
-field_valued i b (some f) z = rw (is_number_lem b f z) (go (all is_digit (b ∷ f)))
-  where
-    past : ℕ
-    past = i + suc (suc (length f))
-
-    go : (t : Bool) → within past (cond t (some (value_after 0 (b ∷ f))) none)
-        ≡ cond t (within past (some (value_after 0 (b ∷ f)))) Field.Wrong
-    go true = refl
-    go false = refl
-
-field_digits : (end i b : ℕ) (s : List ℕ) → end < 48 → eqb b 48 ≡ false
-    → field_at end i (b ∷ s) ≡ cond (leb (joined_by 0 b) 255) (digits_at end (joined_by 0 b) (suc i) s) Field.Wrong
-unfolding field_at before_end field_of joined_by
-field_digits end i b s h z = go (eqb b end) (is_digit b) refl refl
-  where
-    w : ℕ
-    w = 0 * 10 + (b - 48)
-
-    go : (t d : Bool) → eqb b end ≡ t → is_digit b ≡ d
-        → field_of i (cond t (some []) (map (λ f. b ∷ f) (before_end end s)))
-        ≡ cond (leb (cond d w 256) 255) (digits_at end (cond d w 256) (suc i) s) Field.Wrong
-    go true false e d = refl
-    go true true e d = absurd (omega (arith, eqb-true b end e, (digit_range b d).0))
-    go false false e d = field_valued i b (before_end end s) z ∙ valued_wrong 0 i b (before_end end s) d
-    go false true e d =
-        let r = digit_range b d in
-        rw (le-leb w 255 (omega arith))
-        (field_valued i b (before_end end s) z
-        ∙ (valued_more 0 i b (before_end end s) d ∙ sym (digits_valued end w (suc i) s (omega arith))))
-
--- ---- the field at a place, as the code reads it
-
-module _ (end i : ℕ) (s : List ℕ) where
-  pub field_none : length s ≤ i → Field.Wrong ≡ field_at end i (drop i s)
-  unfolding field_at before_end
-  field_none h = rw (drop_of_length-le s h)
-
-  module _ (h : i < length s) (l : end < 48) where
-    pub field_zero : get_or s i 0 ≡ 48 → nought_at end (i + 1) (drop (i + 1) s) ≡ field_at end i (drop i s)
-    field_zero e = rw (add-one i, drop-cons s i 0 h, e) (sym (field_nought end i (drop (suc i) s) l))
-
-    -- another byte, and v is its value
-    module _ (n : get_or s i 0 ≡ 48 → ⊥) (v : ℕ) (e : v ≡ joined_by 0 (get_or s i 0)) where
-      byte : field_at end i (get_or s i 0 ∷ drop (suc i) s)
-          ≡ cond (leb v 255) (digits_at end v (suc i) (drop (suc i) s)) Field.Wrong
-      byte = rw e (field_digits end i (get_or s i 0) (drop (suc i) s) l (ne_eqb (get_or s i 0) 48 n))
-
-      pub field_wrong : 255 < v → Field.Wrong ≡ field_at end i (drop i s)
-      field_wrong k = rw (drop-cons s i 0 h, byte, lt-leb v 255 k)
-
-      pub field_on : v ≤ 255 → digits_at end v (i + 1) (drop (i + 1) s) ≡ field_at end i (drop i s)
-      field_on k = rw (add-one i, drop-cons s i 0 h, byte, le-leb v 255 k)
-
--- ---- a number's text
-
-front_of : (end : ℕ) (f rest : List ℕ) → is_digit end ≡ false → all is_digit f ≡ true
-    → before_end end (f ++ (end ∷ rest)) ≡ some f
-unfolding before_end all
-front_of end [] rest n d = rw (eq-eqb end end refl)
-front_of end (b ∷ f) rest n d =
-    let r = and_split (is_digit b) (all is_digit f) d in
-    rw (ne_eqb b end (λ e. clash (is_digit b) r.0 (rw e n)), front_of end f rest n r.1)
-
--- it is read as that number
-pub field_whole : (end i v : ℕ) (rest : List ℕ) → is_digit end ≡ false → v ≤ 255
-    → field_at end i (spelling end v ++ rest) ≡ Field.Number v (i + length (spelling end v))
-unfolding field_at field_of within spelling
-field_whole end i v rest n h =
-    simp (length-append, append_assoc)
-    (rw (front_of end (decimal v) rest n (decimal_digits v), number_decimal v, le-leb v 255 h)
-    (ap (Field.Number v) (omega arith)))
-
--- a number and the byte that ends its field stand in front
-pub record Spells (end i : ℕ) (s : List ℕ) (v past : ℕ) : Type 0 where
-  pub rest : List ℕ
-  pub small : v ≤ 255
-  pub whole : s ≡ spelling end v ++ rest
-  pub ends : past ≡ i + length (spelling end v)
-
-abbrev Front : ℕ → List ℕ → Option (List ℕ) → Type 0
-Front end s none = Unit {0}
-Front end s (some f) = (rest : List ℕ) × (s ≡ f ++ (end ∷ rest))
-
-front : (end : ℕ) (s : List ℕ) → Front end s (before_end end s)
-unfolding before_end
-front end [] = tt
-front end (b ∷ s) = go (eqb b end) refl (before_end end s) (front end s)
-  where
-    go : (t : Bool) → eqb b end ≡ t → (o : Option (List ℕ)) → Front end s o
-        → Front end (b ∷ s) (cond t (some []) (map (λ f. b ∷ f) o))
-    go true e o x = (s, rw (eqb-true b end e))
-    go false e none x = tt
-    go false e (some f) x = (x.0, rw x.1)
-
-no_number : {A : Type 0} {v k : ℕ} → Field.Wrong ≡ Field.Number v k → A
-no_number {A} {v} {k} e = let z : ◌≡◌ {A = ℕ} 0 1 = cc in absurd (omega arith)
-
--- what is read as a number is its text
-pub field_sound : (end i : ℕ) (s : List ℕ) (v k : ℕ) → field_at end i s ≡ Field.Number v k → Spells end i s v k
-unfolding field_at field_of within spelling
-field_sound end i s v k e = go (before_end end s) (front end s) e
-  where
-    fits : (f : List ℕ) → Front end s (some f) → (w : ℕ) → number f ≡ some w → (t : Bool) → leb w 255 ≡ t
-        → cond t (Field.Number w (i + suc (length f))) Field.Wrong ≡ Field.Number v k → Spells end i s v k
-    fits f x w n false t e = no_number e
-    fits f x w n true t e =
-        let d = decimal_number f w n in
-        let wv : w ≡ v = cc in
-        let past : i + suc (length f) ≡ k = cc in
-        record {
-          rest = x.0;
-          small = omega (arith, leb-true w 255 t);
-          whole = rw (← wv, d, append_assoc) x.1;
-          ends = rw (← wv, d, length-append) (omega arith);
-        }
-
-    spelt : (f : List ℕ) → Front end s (some f) → (n : Option ℕ) → number f ≡ n
-        → within (i + suc (length f)) n ≡ Field.Number v k → Spells end i s v k
-    spelt f x none n e = no_number e
-    spelt f x (some w) n e = fits f x w n (leb w 255) refl e
-
-    go : (o : Option (List ℕ)) → Front end s o → field_of i o ≡ Field.Number v k → Spells end i s v k
-    go none x e = no_number e
-    go (some f) x e = spelt f x (number f) refl e
+    go : (t : Bool) → cond t 256 one ≤ 256
+    go true = omega arith
+    go false = omega (arith, e, joined_small 0 a)

@@ -12,6 +12,7 @@ use lib.Dec.{leb}
 use lib.ListN.{length, drop, set, length-append}
 use lib.Seq.{drop-drop, sets, sets-eq}
 use borrow.Author.Tests.{leb-false}
+use Rattle.std.specs.Prelude.{Result, Ok, Err}
 use Rattle.model.specs.Line.{Settings, line_number, max_lines}
 use Rattle.model.specs.Lists.{over}
 use Rattle.model.specs.Text.{lines_of, packed_line, handed_line}
@@ -22,7 +23,7 @@ use Rattle.model.specs.declared.LineAnswer.{LineAnswer}
 use Rattle.theory.proofs.Fields.{lines_past}
 use Rattle.lines.specs.Lines.{handed_at}
 use Rattle.lines.specs.Gathered.{handed_out, stops_with, gathered, GathersAs}
-use Rattle.lines.specs.declared.Gathered.{Gathered}
+use Rattle.lines.specs.declared.Stopped.{Stopped}
 
 -- ---- one answer of the reader
 
@@ -74,24 +75,26 @@ sets_more l (x ∷ xs) k v =
 module _ (S : Settings) (text lent : List ℕ) (i n : ℕ) (lines : List ℕ) (p : Past S text lent i n lines) where
   -- one line more
   pub line_more : (m : ℕ) (c : Cursor) → handed_at S text i n ≡ LineAnswer.Line m c
-      → (n < max_lines) × Past S text lent c.offset (n + 1) (set lines n m)
+      → (n < max_lines) × (c.lines ≡ n + 1) × Past S text lent c.offset c.lines (set lines n m)
   line_more m c q = go (lines_of (drop i text)) refl m c (rw q at (step S n i (lines_of (drop i text))))
     where
       go : (ls : List (List ℕ)) → lines_of (drop i text) ≡ ls → (m : ℕ) (c : Cursor)
-          → Step S n i ls (LineAnswer.Line m c) → (n < max_lines) × Past S text lent c.offset (n + 1) (set lines n m)
+          → Step S n i ls (LineAnswer.Line m c)
+          → (n < max_lines) × (c.lines ≡ n + 1) × Past S text lent c.offset c.lines (set lines n m)
       go _ e _ _ (line l ls m h out stop) =
           let q : lines_of (drop (i + length l) text) ≡ ls =
           subst (λ (s : List ℕ). lines_of s ≡ ls) (drop-drop (length l) i text) (lines_past (drop i text) l ls e) in
           let k : n ≡ 0 + length p.passed = omega (arith, p.count) in (
             h,
+            sym (add-one n),
             record {
               passed = p.passed ++ (m ∷ []);
               count = rw length-append (omega (arith, p.count));
               few = omega arith;
               out =
-                  rw (add-one n, q, append_assoc)
+                  rw (q, append_assoc)
                   (p.out ∙ ap (λ (x : List ℕ). p.passed ++ x) (ap (handed_out S n) e ∙ out));
-              stop = rw (add-one n, q) (p.stop ∙ (ap (stops_with S n) e ∙ stop));
+              stop = rw q (p.stop ∙ (ap (stops_with S n) e ∙ stop));
               written =
                   ap (λ (x : List ℕ). set x n m) p.written
                   ∙ (ap (λ (j : ℕ). set (sets lent 0 p.passed) j m) k ∙ sets_more lent p.passed 0 m);
@@ -110,20 +113,20 @@ module _ (S : Settings) (text lent : List ℕ) (i n : ℕ) (lines : List ℕ) (p
       }
 
   pub stopped : (r : Refusal) → handed_at S text i n ≡ LineAnswer.Refused r
-      → GathersAs S text lent (Gathered.Stopped n r) lines
+      → GathersAs S text lent (Err (record { lines = n; refusal = r })) lines
   unfolding gathered
   stopped r q = go (lines_of (drop i text)) refl r (rw q at (step S n i (lines_of (drop i text))))
     where
       go : (ls : List (List ℕ)) → lines_of (drop i text) ≡ ls → (r : Refusal) → Step S n i ls (LineAnswer.Refused r)
-          → GathersAs S text lent (Gathered.Stopped n r) lines
+          → GathersAs S text lent (Err (record { lines = n; refusal = r })) lines
       go _ e _ (refused l ls r out stop) = done (l ∷ ls) e out (some r) stop
 
-  pub all_past : handed_at S text i n ≡ LineAnswer.End → GathersAs S text lent (Gathered.All n) lines
+  pub all_past : handed_at S text i n ≡ LineAnswer.End → GathersAs S text lent (Ok n) lines
   unfolding gathered handed_out stops_with
   all_past q = go (lines_of (drop i text)) refl (rw q at (step S n i (lines_of (drop i text))))
     where
       go : (ls : List (List ℕ)) → lines_of (drop i text) ≡ ls → Step S n i ls LineAnswer.End
-          → GathersAs S text lent (Gathered.All n) lines
+          → GathersAs S text lent (Ok n) lines
       go _ e ended = done [] e refl none refl
 
 -- ---- in a list of 1,024 entries
@@ -144,7 +147,7 @@ out_few S n (l ∷ ls) h = go (leb max_lines n) refl (packed_line S l) (out_few 
 pub all_room : (S : Settings) (ls : List (List ℕ)) → length (handed_out S 0 ls) ≤ max_lines
 all_room S ls = omega (arith, out_few S 0 ls (omega arith))
 
-pub gathers_over : (S : Settings) (text lent : List ℕ) (a : Gathered) (left : List ℕ) → length lent ≡ max_lines
+pub gathers_over : (S : Settings) (text lent : List ℕ) (a : Result ℕ Stopped) (left : List ℕ) → length lent ≡ max_lines
     → GathersAs S text lent a left → left ≡ over (handed_out S 0 (lines_of text)) lent
 unfolding over
 gathers_over S text lent a left long g =
@@ -154,6 +157,6 @@ gathers_over S text lent a left long g =
 
 -- ---- one outcome
 
-pub one_gathering : (S : Settings) (text lent : List ℕ) (a b : Gathered) (left other : List ℕ)
+pub one_gathering : (S : Settings) (text lent : List ℕ) (a b : Result ℕ Stopped) (left other : List ℕ)
     → GathersAs S text lent a left → GathersAs S text lent b other → (a ≡ b) × (left ≡ other)
 one_gathering S text lent a b left other x y = (cc, cc)

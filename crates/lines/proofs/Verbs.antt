@@ -1,25 +1,27 @@
--- 01, "The plan as text" (a verb's bytes are exactly its name): the tables of the verbs at a byte and at a kind, the
--- verb at a place as the code compares it, and that it is read from its text, and from no other. Nothing here is said
--- verb by verb: what has to hold of each is computed over the list of them.
+-- 01, "The plan as text" (a verb's bytes are exactly its name): what is listed of the verbs at a byte and at a number,
+-- the verb at a place as the code compares it, and that it is read from its text, and from no other. Nothing here is
+-- said verb by verb: what has to hold of each is computed over the list of them.
 use Prim.Native.Nat.{ℕ, zero, suc, ◌+◌, ◌-◌, ◌*◌, ◌^◌, ◌%◌, ◌≤◌, ◌<◌}
 use mathlib.Core.Bool.{Bool, true, false, cond, ◌&&◌}
 use mathlib.Core.List.{List, [], ◌∷◌, ◌++◌, map, head_d}
 use mathlib.Core.Logic.{⊎_elim}
-use mathlib.Core.Option
-use mathlib.Core.Option.{Option, none, some}
+use mathlib.Core.Option as Math
+use mathlib.Core.Option.{none, some, none-ne-some}
 use mathlib.Core.Path.{◌≡◌, refl, sym, ◌∙◌, ap}
 use native.Mathlib.Omega.{arith}
 use lib.Dec.{eqb, leb}
 use lib.ListN.{length, get_or, take, drop, length-append, length-drop, drop_of_length-le}
 use lib.Seq.{drop-cons}
-use borrow.Author.Tests.{eqb-true, eq-eqb, leb-true}
+use borrow.Author.Tests.{eqb-true, eq-eqb, ne_eqb, leb-true}
+use Rattle.std.specs.Prelude.{Some, None}
 use Rattle.model.specs.Lists.{up_from, all, has}
 use Rattle.model.specs.Text.{verbs, verb}
 use Rattle.theory.proofs.Tests.{clash, and_split}
 use Rattle.theory.proofs.Lists.{has_none, has_cases, has_up_from, up_from_has, Answer, first_answer}
-use Rattle.lines.specs.Verbs.{word, begins, kind_by, verb_of, verb_at, as_number, highest_of, length_by}
-use Rattle.lines.specs.Verbs.{Tables, tables, all_verbs}
-use Rattle.lines.specs.declared.Verb.{Verb}
+use Rattle.fields.specs.declared.Number.{Number}
+use Rattle.lines.specs.Verbs.{word, begins, kind_by, verb_of, verb_at, as_number, highest_of}
+use Rattle.lines.specs.Verbs.{letter_kind, entry_by, all_entries, all_words}
+use Rattle.lines.specs.declared.Entry.{Entry}
 use Rattle.lines.proofs.Numbers.{reach, plain, Fitting, asked, not_asked}
 
 -- ---- what holds of each verb
@@ -39,7 +41,11 @@ fits k =
 
 -- its first byte tells it
 tells : ℕ → Bool
-tells k = eqb (Option.get_or (kind_by (head_d (word k) 0)) (length verbs)) k
+tells k = eqb (Math.get_or (kind_by (head_d (word k) 0)) (length verbs)) k
+
+-- so does the place of its first letter
+tells_letter : ℕ → Bool
+tells_letter k = eqb (Math.get_or (letter_kind (head_d (verb k) 0 % 32)) (length verbs)) k
 
 abbrev pub kinds : List ℕ
 kinds = up_from 0 (length verbs)
@@ -54,6 +60,10 @@ all_fit = refl
 all_tell : all tells kinds ≡ true
 unfolding all up_from verbs tells word kind_by
 all_tell = refl
+
+all_tell_letters : all tells_letter kinds ≡ true
+unfolding all up_from verbs verb tells_letter letter_kind
+all_tell_letters = refl
 
 pub fitting : (k : ℕ) → has k kinds ≡ true → Fitting (word k)
 unfolding fits
@@ -74,6 +84,20 @@ word_length : (k : ℕ) → length (word k) ≡ suc (length (verb k))
 unfolding word
 word_length k = simp length-append (omega arith)
 
+-- a kind that is told
+certain : (o : Math.Option ℕ) (k : ℕ) → k < length verbs → eqb (Math.get_or o (length verbs)) k ≡ true → o ≡ some k
+certain none k h e = absurd (omega (arith, eqb-true (length verbs) k e))
+certain (some j) k h e = ap {B = Math.Option ℕ} some (eqb-true j k e)
+
+kind_told : (k : ℕ) → has k kinds ≡ true → kind_by (head_d (word k) 0) ≡ some k
+unfolding tells
+kind_told k h = certain (kind_by (head_d (word k) 0)) k (kind_below k h) (all_has tells kinds k all_tell h)
+
+letter_told : (k : ℕ) → has k kinds ≡ true → letter_kind (head_d (verb k) 0 % 32) ≡ some k
+unfolding tells_letter
+letter_told k h =
+    certain (letter_kind (head_d (verb k) 0 % 32)) k (kind_below k h) (all_has tells_letter kinds k all_tell_letters h)
+
 -- ---- the verb at a place, as the code finds it
 
 begins_sound : (w s : List ℕ) → begins w s ≡ true → (rest : List ℕ) × (s ≡ w ++ rest)
@@ -87,84 +111,115 @@ begins_sound (x ∷ w) (b ∷ s) e = go (eqb b x) refl (begins_sound w s) e
     go false q ih e = clash false e refl
     go true q ih e = let r = ih e in (r.0, rw (eqb-true b x q, r.1))
 
-pub verb_none : (i : ℕ) (s : List ℕ) → length s ≤ i → Verb.Wrong ≡ verb_at i (drop i s)
+pub verb_none : (i : ℕ) (s : List ℕ) → length s ≤ i → None ≡ verb_at i (drop i s)
 unfolding verb_at
 verb_none i s h = rw (drop_of_length-le s h)
 
--- what the tables have for a byte: of the verb that begins with it, or of none
-pub data Entry : ℕ → ℕ → Option ℕ → Type 0 where
-  no_verb : Entry 0 0 none
-  of_verb_lem : (k : ℕ) → has k kinds ≡ true → Entry (length (word k)) k (some k)
+-- the first letter tells as much as the first byte, since the bytes are compared
+begins_other : (k b : ℕ) (s : List ℕ) → (head_d (word k) 0 ≡ b → ⊥) → begins (word k) (b ∷ s) ≡ false
+unfolding begins head_d
+begins_other k b s n = go (word k) refl n
+  where
+    go : (w : List ℕ) → word k ≡ w → (head_d w 0 ≡ b → ⊥) → begins w (b ∷ s) ≡ false
+    go [] e n = absurd (omega (arith, word_length k, ap length e))
+    go (x ∷ w) e n = rw (ne_eqb b x (λ q. n (sym q)))
 
-pub entry_long : {l k : ℕ} {o : Option ℕ} → Entry l k o → l ≤ 7
-entry_long no_verb = omega arith
-entry_long (of_verb_lem k h) = (fitting k h).short
+by_letter : (i b : ℕ) (s : List ℕ) → verb_of i (b ∷ s) (kind_by b) ≡ verb_of i (b ∷ s) (letter_kind (b % 32))
+unfolding kind_by letter_kind verb_of
+by_letter i b s =
+    go (kind_by b) refl (first_answer (λ k. eqb (head_d (verb k) 0) b) kinds) (letter_kind (b % 32)) refl
+    (first_answer (λ k. eqb (head_d (verb k) 0 % 32) (b % 32)) kinds)
+  where
+    go : (o : Math.Option ℕ) → kind_by b ≡ o → Answer (λ k. eqb (head_d (verb k) 0) b) kinds o
+        → (p : Math.Option ℕ) → letter_kind (b % 32) ≡ p → Answer (λ k. eqb (head_d (verb k) 0 % 32) (b % 32)) kinds p
+        → verb_of i (b ∷ s) o ≡ verb_of i (b ∷ s) p
+    go (some j) e a p f c =
+        let h : head_d (verb j) 0 ≡ b = eqb-true (head_d (verb j) 0) b a.1 in
+        ap (verb_of i (b ∷ s)) (sym (rw h at (letter_told j a.0)) ∙ f)
+    go none e a none f c = refl
+    go none e a (some k) f c =
+        let n : head_d (word k) 0 ≡ b → ⊥ = λ h. none-ne-some k (sym e ∙ rw h at (kind_told k c.0)) in
+        rw (begins_other k b s n)
 
-pub entry_below : {l k : ℕ} {o : Option ℕ} → Entry l k o → k < length verbs
+-- what is listed of a letter: the verb that begins with it, or none
+abbrev pub no_entry : Entry
+no_entry = record { length = 0; verb = 0 }
+
+pub data Tells : Entry → Math.Option ℕ → Type 0 where
+  no_verb : Tells no_entry none
+  of_verb_lem : (k : ℕ) → has k kinds ≡ true → Tells (record { length = length (word k); verb = k }) (some k)
+
+pub tells_long : {e : Entry} {o : Math.Option ℕ} → Tells e o → e.length ≤ 7
+tells_long no_verb = omega arith
+tells_long (of_verb_lem k h) = (fitting k h).short
+
+pub tells_below : {e : Entry} {o : Math.Option ℕ} → Tells e o → e.verb < length verbs
 unfolding verbs
-entry_below no_verb = omega arith
-entry_below (of_verb_lem k h) = kind_below k h
+tells_below no_verb = omega arith
+tells_below (of_verb_lem k h) = kind_below k h
 
-table_at : (f : ℕ → ℕ) (i n k : ℕ) → k < n → get_or (map f (up_from i n)) k 0 ≡ f (i + k)
+listed_at : {A : Type 0} (f : ℕ → A) (d : A) (i n k : ℕ) → k < n → get_or (map f (up_from i n)) k d ≡ f (i + k)
 unfolding up_from
-table_at f i zero k h = absurd (omega arith)
-table_at f i (suc n) zero h = ap f (omega arith)
-table_at f i (suc n) (suc k) h = table_at f (suc i) n k (omega arith) ∙ ap f (omega arith)
+listed_at f d i zero k h = absurd (omega arith)
+listed_at f d i (suc n) zero h = ap f (omega arith)
+listed_at f d i (suc n) (suc k) h = listed_at f d (suc i) n k (omega arith) ∙ ap f (omega arith)
 
-module _ (lengths kinds' numbers : List ℕ) (t : tables lengths kinds' numbers ≡ all_verbs) where
-  pub entry_at : (b : ℕ) → b < 256 → Entry (get_or lengths b 0) (get_or kinds' b 0) (kind_by b)
-  unfolding kind_by length_by all_verbs
-  entry_at b h =
-      let z : 0 + b ≡ b = omega arith in
-      let l = ap (λ (x : Tables). get_or x.lengths b 0) t ∙ table_at (λ x. length_by (kind_by x)) 0 256 b h in
-      let k = ap (λ (x : Tables). get_or x.kinds b 0) t ∙ table_at (λ x. Option.get_or (kind_by x) 0) 0 256 b h in
-      rw (l, k, z) (go (kind_by b) (first_answer (λ k. eqb (head_d (verb k) 0) b) kinds))
+pub entry_at : (d : Entry) (i : ℕ) → i < 32 → Tells (get_or all_entries i d) (letter_kind i)
+unfolding letter_kind entry_by all_entries
+entry_at d i h =
+    let z : 0 + i ≡ i = omega arith in
+    rw (listed_at (λ x. entry_by (letter_kind x)) d 0 32 i h, z)
+    (go (letter_kind i) (first_answer (λ k. eqb (head_d (verb k) 0 % 32) i) kinds))
+  where
+    go : (o : Math.Option ℕ) → Answer (λ k. eqb (head_d (verb k) 0 % 32) i) kinds o → Tells (entry_by o) o
+    go none a = no_verb
+    go (some k) a = of_verb_lem k a.0
+
+word_at : (k : ℕ) → has k kinds ≡ true → get_or all_words k 0 ≡ highest_of (word k)
+unfolding all_words
+word_at k h =
+    let z : 0 + k ≡ k = omega arith in
+    listed_at (λ x. highest_of (word x)) 0 0 (length verbs) k (kind_below k h) ∙ rw z
+
+module _ (s : List ℕ) (bytes : (i : ℕ) → get_or s i 0 < 256) (i : ℕ) (there : i < length s) where
+  -- what the letter at the place tells
+  told : {o : Math.Option ℕ} → letter_kind (get_or s i 0 % 32) ≡ o → verb_of i (drop i s) o ≡ verb_at i (drop i s)
+  unfolding verb_at
+  told q = rw (← q, drop-cons s i 0 there) (sym (by_letter i (get_or s i 0) (drop (suc i) s)))
+
+  -- no verb begins with it
+  pub other : {e : Entry} → Tells e (letter_kind (get_or s i 0 % 32)) → e.length ≡ 0 → None ≡ verb_at i (drop i s)
+  unfolding verb_of
+  other x z = go x refl z
     where
-      go : (o : Option ℕ) → Answer (λ k. eqb (head_d (verb k) 0) b) kinds o → Entry (length_by o) (Option.get_or o 0) o
-      go none a = no_verb
-      go (some k) a = of_verb_lem k a.0
+      go : {e : Entry} {o : Math.Option ℕ} → Tells e o → letter_kind (get_or s i 0 % 32) ≡ o → e.length ≡ 0
+          → None ≡ verb_at i (drop i s)
+      go no_verb q z = told q
+      go (of_verb_lem k h) q z = absurd (omega (arith, word_length k))
 
-  number_at : (k : ℕ) → has k kinds ≡ true → get_or numbers k 0 ≡ highest_of (word k)
-  unfolding all_verbs
-  number_at k h =
-      let z : 0 + k ≡ k = omega arith in
-      ap (λ (x : Tables). get_or x.numbers k 0) t
-      ∙ (table_at (λ x. highest_of (word x)) 0 (length verbs) k (kind_below k h)
-      ∙ rw z)
+  -- what the code compares
+  abbrev Compared : Entry → Type 0
+  Compared e = as_number (take 8 (drop i s)) * 2 ^ (64 - e.length * 8) % 2 ^ 64 ≡ get_or all_words e.verb 0
 
-  module _ (s : List ℕ) (bytes : (i : ℕ) → get_or s i 0 < 256) (i : ℕ) (there : i < length s) where
-    -- what the byte at the place tells
-    abbrev Tells : Option ℕ → Type 0
-    Tells o = kind_by (get_or s i 0) ≡ o
+  pub found : {e : Entry} → Tells e (letter_kind (get_or s i 0 % 32)) → (e.length ≡ 0 → ⊥) → Compared e
+      → Some (record { value = e.verb; past = i + e.length }) ≡ verb_at i (drop i s)
+  unfolding verb_of
+  found x n c = go x refl n c
+    where
+      go : {e : Entry} {o : Math.Option ℕ} → Tells e o → letter_kind (get_or s i 0 % 32) ≡ o → (e.length ≡ 0 → ⊥)
+          → Compared e → Some (record { value = e.verb; past = i + e.length }) ≡ verb_at i (drop i s)
+      go no_verb q n c = absurd (n refl)
+      go (of_verb_lem k h) q n c = rw (asked s bytes i (word k) (fitting k h) (c ∙ word_at k h)) at (told q)
 
-    told : {o : Option ℕ} → Tells o → verb_of i (drop i s) o ≡ verb_at i (drop i s)
-    unfolding verb_at
-    told q = rw (← q, drop-cons s i 0 there)
-
-    -- no verb begins with it
-    pub other : {l k : ℕ} {o : Option ℕ} → Tells o → Entry l k o → l ≡ 0 → Verb.Wrong ≡ verb_at i (drop i s)
-    unfolding verb_of
-    other q no_verb z = told q
-    other q (of_verb_lem k h) z = absurd (omega (arith, word_length k))
-
-    -- what the code compares
-    abbrev Compared : ℕ → ℕ → Type 0
-    Compared l k = as_number (take 8 (drop i s)) * 2 ^ (64 - l * 8) % 2 ^ 64 ≡ get_or numbers k 0
-
-    pub found : {l k : ℕ} {o : Option ℕ} → Tells o → Entry l k o → (l ≡ 0 → ⊥) → Compared l k
-        → (Verb.Kind k (i + l) ≡ verb_at i (drop i s)) × (i + l ≤ length s)
-    unfolding verb_of
-    found q no_verb n c = absurd (n refl)
-    found q (of_verb_lem k h) n c =
-        let t = asked s bytes i (word k) (fitting k h) (c ∙ number_at k h) in
-        let r = begins_sound (word k) (drop i s) t in
-        (rw t at (told q), omega (arith, length-drop i s, ap length r.1 ∙ length-append (word k) r.0))
-
-    pub lost : {l k : ℕ} {o : Option ℕ} → Tells o → Entry l k o → (Compared l k → ⊥) → Verb.Wrong ≡ verb_at i (drop i s)
-    unfolding verb_of
-    lost q no_verb n = told q
-    lost q (of_verb_lem k h) n =
-        rw (not_asked s bytes i (word k) (fitting k h) (λ e. n (e ∙ sym (number_at k h)))) at (told q)
+  pub lost : {e : Entry} → Tells e (letter_kind (get_or s i 0 % 32)) → (Compared e → ⊥) → None ≡ verb_at i (drop i s)
+  unfolding verb_of
+  lost x n = go x refl n
+    where
+      go : {e : Entry} {o : Math.Option ℕ} → Tells e o → letter_kind (get_or s i 0 % 32) ≡ o → (Compared e → ⊥)
+          → None ≡ verb_at i (drop i s)
+      go no_verb q n = told q
+      go (of_verb_lem k h) q n =
+          rw (not_asked s bytes i (word k) (fitting k h) (λ e. n (e ∙ sym (word_at k h)))) at (told q)
 
 -- ---- its text
 
@@ -173,36 +228,25 @@ unfolding begins
 begins_whole [] rest = refl
 begins_whole (x ∷ w) rest = rw (eq-eqb x x refl) (begins_whole w rest)
 
-kind_told : (k : ℕ) → has k kinds ≡ true → kind_by (head_d (word k) 0) ≡ some k
-unfolding tells
-kind_told k h = go (kind_by (head_d (word k) 0)) (eqb-true _ k (all_has tells kinds k all_tell h))
-  where
-    go : (o : Option ℕ) → Option.get_or o (length verbs) ≡ k → o ≡ some k
-    go none e = absurd (omega (arith, kind_below k h))
-    go (some j) e = ap {B = Option ℕ} some e
-
-no_kind : {A : Type 0} {k past : ℕ} → Verb.Wrong ≡ Verb.Kind k past → A
-no_kind {A} {k} {past} e = let z : ◌≡◌ {A = ℕ} 0 1 = cc in absurd (omega arith)
-
 -- a verb and its tab stand in front
-pub record SpellsVerb (i : ℕ) (s : List ℕ) (k past : ℕ) : Type 0 where
+pub record SpellsVerb (i : ℕ) (s : List ℕ) (n : Number) : Type 0 where
   pub rest : List ℕ
-  pub small : k < length verbs
-  pub whole : s ≡ word k ++ rest
-  pub ends : past ≡ i + length (word k)
+  pub small : n.value < length verbs
+  pub whole : s ≡ word n.value ++ rest
+  pub ends : n.past ≡ i + length (word n.value)
 
 -- what is read as a verb is its text
-pub verb_sound : (i : ℕ) (s : List ℕ) (k past : ℕ) → verb_at i s ≡ Verb.Kind k past → SpellsVerb i s k past
+pub verb_sound : (i : ℕ) (s : List ℕ) (n : Number) → verb_at i s ≡ Some n → SpellsVerb i s n
 unfolding verb_at verb_of kind_by
-verb_sound i [] k past e = no_kind e
-verb_sound i (b ∷ s) k past e = go (kind_by b) (first_answer (λ k. eqb (head_d (verb k) 0) b) kinds) e
+verb_sound i [] n e = cc
+verb_sound i (b ∷ s) n e = go (kind_by b) (first_answer (λ k. eqb (head_d (verb k) 0) b) kinds) e
   where
     stands : (j : ℕ) → has j kinds ≡ true → (t : Bool) → begins (word j) (b ∷ s) ≡ t
-        → cond t (Verb.Kind j (i + length (word j))) Verb.Wrong ≡ Verb.Kind k past → SpellsVerb i (b ∷ s) k past
-    stands j h false t e = no_kind e
+        → cond t (Some (record { value = j; past = i + length (word j) })) None ≡ Some n → SpellsVerb i (b ∷ s) n
+    stands j h false t e = cc
     stands j h true t e =
-        let jk : j ≡ k = cc in
-        let end : i + length (word j) ≡ past = cc in
+        let jk : j ≡ n.value = cc in
+        let end : i + length (word j) ≡ n.past = cc in
         let r = begins_sound (word j) (b ∷ s) t in
         record {
           rest = r.0;
@@ -211,22 +255,35 @@ verb_sound i (b ∷ s) k past e = go (kind_by b) (first_answer (λ k. eqb (head_
           ends = rw (← jk) (sym end);
         }
 
-    go : (o : Option ℕ) → Answer (λ k. eqb (head_d (verb k) 0) b) kinds o → verb_of i (b ∷ s) o ≡ Verb.Kind k past
-        → SpellsVerb i (b ∷ s) k past
-    go none a e = no_kind e
+    go : (o : Math.Option ℕ) → Answer (λ k. eqb (head_d (verb k) 0) b) kinds o → verb_of i (b ∷ s) o ≡ Some n
+        → SpellsVerb i (b ∷ s) n
+    go none a e = cc
     go (some j) a e = stands j a.0 (begins (word j) (b ∷ s)) refl e
 
 -- it is read as that verb
 pub verb_whole : (i k : ℕ) (rest : List ℕ) → k < length verbs
-    → verb_at i (word k ++ rest) ≡ Verb.Kind k (i + length (word k))
+    → verb_at i (word k ++ rest) ≡ Some (record { value = k; past = i + length (word k) })
 unfolding verb_at verb_of
 verb_whole i k rest h = go (word k) refl
   where
     here : has k kinds ≡ true
     here = up_from_has 0 (length verbs) k (omega arith) (omega arith)
 
-    go : (w : List ℕ) → word k ≡ w → verb_at i (w ++ rest) ≡ Verb.Kind k (i + length (word k))
+    go : (w : List ℕ) → word k ≡ w
+        → verb_at i (w ++ rest) ≡ Some (record { value = k; past = i + length (word k) })
     go [] e = absurd (omega (arith, word_length k, ap length e))
     go (x ∷ w) e =
         let t : begins (word k) (x ∷ w ++ rest) ≡ true = rw e (begins_whole (x ∷ w) rest) in
         rw (ap (λ (l : List ℕ). kind_by (head_d l 0)) (sym e) ∙ kind_told k here, t)
+
+-- the text goes on to its end
+pub verb_within : (text : List ℕ) (at : ℕ) (n : Number) → verb_at at (drop at text) ≡ Some n → n.past ≤ length text
+verb_within text at n e =
+    let y = verb_sound at (drop at text) n e in
+    omega (
+      arith,
+      y.ends,
+      word_length n.value,
+      length-drop at text,
+      ap length y.whole ∙ length-append (word n.value) y.rest,
+    )

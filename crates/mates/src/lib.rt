@@ -6,70 +6,61 @@ ghost use Rattle.std.specs.Prelude.{◌≡◌, ◌-◌, ◌^◌, ◌<◌};
 ghost use Rattle.mates.specs.Found.{passed_by};
 ghost use Rattle.mates.specs.Span.{span_of};
 
-// A position that may be found.
-#[derive(Drop)]
-pub enum Found {
-    At(usize),
-    Nothing,
-}
-
-// Where the search for a mate stands after a line of its job: it ends there, or goes on this deep.
-#[derive(Drop)]
-pub enum Search {
-    Ends,
-    Goes(usize),
-}
-
-// What a line of its job does to the search: a take or a held line goes one deeper, a give comes one back and ends it
-// at depth 0.
-fn passed(n: u32, depth: usize) -> Search
+// What a line of its job does to the search for a mate at this depth: a take or a held line goes one deeper, a give
+// comes one back. None where the line is the mate: a give at depth 0.
+fn passed(n: u32, depth: usize) -> Option<usize>
     requires { depth < 2 ^ 64 - 1 }
     ensures { result ≡ passed_by n depth }
 {
     if line::opens(n) {
-        return Search::Goes(depth + 1);
+        return Some(depth + 1);
     }
     if line::is_give(n) {
-        if depth == 0 {
-            return Search::Ends;
-        }
-        return Search::Goes(depth - 1);
+        return depth.checked_sub(1);
     }
-    Search::Goes(depth)
+    Some(depth)
 }
 
 // How far what was taken is held: to the give at this position, or, where none matches, to the end of the job's lines,
-// which is the position after them.
-#[derive(Clone, Copy)]
+// which is the position after them. (It is no Result: to be kept is no failure, and both cases have a position.)
+#[derive(Clone, Copy, Debug, PartialEq, Eq)]
 pub enum Span {
     Given(usize),
     Kept(usize),
+}
+
+impl Span {
+    ghost use Rattle.mates.specs.Span.{stop_of};
+
+    // Where it ends.
+    pub fn stop(self) -> usize
+        ensures { result ≡ stop_of self }
+    {
+        match self {
+            Span::Given(m) => m,
+            Span::Kept(e) => e,
+        }
+    }
 }
 
 // How far what the take at position i takes is held.
 pub fn span_of(plan: &[u32], i: usize) -> Span
     ensures { result ≡ span_of plan.now i }
 {
-    if plan.len() <= i {
+    let Some(&take) = plan.get(i) else {
         return Span::Kept(plan.len());
-    }
-    let j = line::job(plan[i]);
+    };
+    let j = line::job(take);
     let mut depth: usize = 0;
-    let mut k = i + 1;
-    while k < plan.len() {
-        let n = plan[k];
+    let after = i + 1;
+    for (past, &n) in plan[after..].iter().enumerate() {
         if line::job(n) != j {
-            return Span::Kept(k);
+            return Span::Kept(after + past);
         }
-        match passed(n, depth) {
-            Search::Ends => {
-                return Span::Given(k);
-            }
-            Search::Goes(d) => {
-                depth = d;
-                k += 1;
-            }
-        }
+        let Some(d) = passed(n, depth) else {
+            return Span::Given(after + past);
+        };
+        depth = d;
     }
-    Span::Kept(k)
+    Span::Kept(plan.len())
 }

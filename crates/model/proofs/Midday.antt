@@ -2,11 +2,12 @@
 -- entry makes of a case, computed from the definitions, and what it is by 02 and by the order rule of docs/RULES.md.
 -- The verdict's list is one place longer than needed and filled with 99. The records are the statements.
 use Prim.Native.Nat.{ℕ, ◌+◌}
+use Rattle.std.specs.Prelude.{Result}
 use mathlib.Core.List.{List, [], ◌∷◌}
 use mathlib.Core.Option.{Option, none, some}
 use mathlib.Core.Path.{◌≡◌, refl}
 use lib.ListN.{length, replicate}
-use Rattle.model.specs.Answers.{refusal_values, table_values, verdict_values, move_values, judge_values}
+use Rattle.model.specs.Answers.{refusal_values, answer_values, judge_values}
 use Rattle.model.specs.Line.{Settings, at_midday, pack_verb, held_verb}
 use Rattle.model.specs.Text.{spelt, text_of}
 use Rattle.model.specs.Mate.{steps}
@@ -18,9 +19,6 @@ use Rattle.model.specs.Printed.{printed}
 use Rattle.model.specs.Judged.{judging}
 use Rattle.model.specs.Board.{devices, board}
 use Rattle.model.specs.declared.Refusal.{Refusal}
-use Rattle.model.specs.declared.TableAnswer.{TableAnswer}
-use Rattle.model.specs.declared.VerdictAnswer.{VerdictAnswer}
-use Rattle.model.specs.declared.MoveAnswer.{MoveAnswer}
 use Rattle.model.proofs.Starred.{◌does◌, ◌takes◌, ◌gives◌, ◌starts◌, accepted}
 use Rattle.model.proofs.Worked.{bytes}
 
@@ -42,7 +40,7 @@ lent p = replicate (length (steps p) + 1) 99
 unfoldable pub verdict_on : List ℕ → List (List ℕ)
 unfolding ordering lent
 verdict_on p =
-    let o : Outcome VerdictAnswer (List ℕ) = ordering midday p (lent p) in verdict_values o.answer ∷ o.left ∷ []
+    let o : Outcome (Result ℕ Refusal) (List ℕ) = ordering midday p (lent p) in answer_values o.answer ∷ o.left ∷ []
 
 unfoldable pub refused : ℕ → ℕ → List ℕ → List (List ℕ)
 unfolding lent
@@ -51,19 +49,19 @@ refused number place p = (number ∷ place ∷ []) ∷ lent p ∷ []
 -- the answer alone, with so many places
 pub room_for : ℕ → List ℕ → List ℕ
 unfolding ordering
-room_for places p = verdict_values (ordering midday p (replicate places 99)).answer
+room_for places p = answer_values (ordering midday p (replicate places 99)).answer
 
 pub tabled : List ℕ → List (List ℕ)
 unfolding tabling
 tabled p =
-    let o : Outcome TableAnswer (List ℕ) = tabling midday p (replicate (length p) 99) in
-    table_values o.answer ∷ o.left ∷ []
+    let o : Outcome (Result ℕ Refusal) (List ℕ) = tabling midday p (replicate (length p) 99) in
+    answer_values o.answer ∷ o.left ∷ []
 
 pub moved_with : List ℕ → List ℕ → ℕ → ℕ → List (List ℕ)
 unfolding moving
 moved_with sets p line device =
-    let o : Outcome MoveAnswer Lent = moving midday p sets line device in
-    move_values o.answer ∷ o.left.plan ∷ o.left.sets ∷ []
+    let o : Outcome (Result ℕ Refusal) Lent = moving midday p sets line device in
+    answer_values o.answer ∷ o.left.plan ∷ o.left.sets ∷ []
 
 -- of a plan with its own table
 pub moved : List ℕ → ℕ → ℕ → List (List ℕ)
@@ -241,9 +239,9 @@ pub record Faults : Type 0 where
   pub morning_six : morning_fault (1 does 7 ∷ 2 does 8 ∷ []) ≡ 6 ∷ 2 ∷ []
   pub morning_held : morning_fault running ≡ 2 ∷ 2 ∷ []
   -- and so it is for the three entries that are lent rows
-  pub builds_none : table_values (building devices running (beside_of devices running)).answer ≡ 2 ∷ 2 ∷ []
-  pub moves_none : move_values (moving_kept devices running (beside_of devices running) 1 0).answer ≡ 2 ∷ 2 ∷ []
-  pub quick_none : verdict_values (quick devices running (replicate devices 0)) ≡ 2 ∷ 2 ∷ []
+  pub builds_none : answer_values (building devices running (beside_of devices running)).answer ≡ 2 ∷ 2 ∷ []
+  pub moves_none : answer_values (moving_kept devices running (beside_of devices running) 1 0).answer ≡ 2 ∷ 2 ∷ []
+  pub quick_none : answer_values (quick devices running (replicate devices 0)) ≡ 2 ∷ 2 ∷ []
 
 pub faults : Faults
 unfolding fault_of morning_fault running building moving_kept quick beside_of ◌holds◌ ◌does◌ ◌gives◌ ◌starts◌

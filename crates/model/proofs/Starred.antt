@@ -4,15 +4,14 @@
 -- case, computed from the definitions, and what 01 or 02 says it is: the values of the answer (0 and the value, or a
 -- refusal's number and place), then each lent list. The records are the statements.
 use Prim.Native.Nat.{ℕ, ◌+◌, ◌-◌}
+use Rattle.std.specs.Prelude.{Result}
+use Rattle.model.specs.declared.Refusal.{Refusal}
 use mathlib.Core.List.{List, [], ◌∷◌, ◌++◌}
 use mathlib.Core.Path.{◌≡◌, refl}
 use lib.ListN.{length, replicate}
-use Rattle.model.specs.Answers.{table_values, verdict_values, move_values}
+use Rattle.model.specs.Answers.{answer_values}
 use Rattle.model.specs.Line.{pack}
 use Rattle.model.specs.Claims.{table}
-use Rattle.model.specs.declared.TableAnswer.{TableAnswer}
-use Rattle.model.specs.declared.VerdictAnswer.{VerdictAnswer}
-use Rattle.model.specs.declared.MoveAnswer.{MoveAnswer}
 use Rattle.model.specs.Entries.{Outcome, Lent, tabling, ordering, moving}
 use Rattle.model.specs.Kept.{Beside, beside_of, building, LentBeside, moving_kept, quick}
 use Rattle.model.specs.Board.{devices, board}
@@ -127,19 +126,19 @@ lent p = replicate (length p + 1) 99
 unfoldable pub tabled : List ℕ → List (List ℕ)
 unfolding tabling lent
 tabled p =
-    let o : Outcome TableAnswer (List ℕ) = tabling board p (lent p) in table_values o.answer ∷ o.left ∷ []
+    let o : Outcome (Result ℕ Refusal) (List ℕ) = tabling board p (lent p) in answer_values o.answer ∷ o.left ∷ []
 
 unfoldable pub verdict_on : List ℕ → List (List ℕ)
 unfolding ordering lent
 verdict_on p =
-    let o : Outcome VerdictAnswer (List ℕ) = ordering board p (lent p) in verdict_values o.answer ∷ o.left ∷ []
+    let o : Outcome (Result ℕ Refusal) (List ℕ) = ordering board p (lent p) in answer_values o.answer ∷ o.left ∷ []
 
 -- of a plan with its own table
 unfoldable pub moved : List ℕ → ℕ → ℕ → List (List ℕ)
 unfolding moving table
 moved p line device =
-    let o : Outcome MoveAnswer Lent = moving board p (table p ++ (99 ∷ [])) line device in
-    move_values o.answer ∷ o.left.plan ∷ o.left.sets ∷ []
+    let o : Outcome (Result ℕ Refusal) Lent = moving board p (table p ++ (99 ∷ [])) line device in
+    answer_values o.answer ∷ o.left.plan ∷ o.left.sets ∷ []
 
 -- what is said: an order and how many devices stay held; or a refusal
 unfoldable pub accepted : ℕ → List ℕ → List (List ℕ)
@@ -248,14 +247,14 @@ four_of a b c d others = a ∷ b ∷ c ∷ d ∷ replicate (devices - 4) others 
 unfoldable pub built : List ℕ → Beside → List (List ℕ)
 unfolding building
 built p b =
-    let o : Outcome TableAnswer Beside = building devices p b in
-    table_values o.answer ∷ o.left.sets ∷ o.left.rows ∷ o.left.held ∷ []
+    let o : Outcome (Result ℕ Refusal) Beside = building devices p b in
+    answer_values o.answer ∷ o.left.sets ∷ o.left.rows ∷ o.left.held ∷ []
 
 unfoldable pub rows_after : List ℕ → Beside → ℕ → ℕ → List (List ℕ)
 unfolding moving_kept
 rows_after p b line device =
-    let o : Outcome MoveAnswer LentBeside = moving_kept devices p b line device in
-    move_values o.answer ∷ o.left.plan ∷ o.left.beside.rows ∷ []
+    let o : Outcome (Result ℕ Refusal) LentBeside = moving_kept devices p b line device in
+    answer_values o.answer ∷ o.left.plan ∷ o.left.beside.rows ∷ []
 
 unfoldable pub held_after : List ℕ → Beside → ℕ → ℕ → List ℕ
 unfolding moving_kept
@@ -263,7 +262,7 @@ held_after p b line device = (moving_kept devices p b line device).left.beside.h
 
 unfoldable pub quickly : List ℕ → List ℕ → List ℕ
 unfolding quick
-quickly p rs = verdict_values (quick devices p rs)
+quickly p rs = answer_values (quick devices p rs)
 
 -- Building: C's row of 0 is {1}, since line 3 takes 1 after line 2, and that of 1 is {0}; both are held to the end. A
 -- list too short is told in the order table, rows, held set, and nothing is written.

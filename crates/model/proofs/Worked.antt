@@ -4,6 +4,7 @@
 -- stand in a file. Lent lists are filled with 99, which no case has; the values of an answer are 0 and the value, or a
 -- refusal's number and place. The record is the one statement.
 use Prim.Native.Nat.{ℕ}
+use Rattle.std.specs.Prelude.{Result}
 use Prim.Native.Char.{code}
 use Prim.Native.String.{String, [] as nothing, ◌∷◌ as ◌then◌}
 use mathlib.Core.Bool.{true, false}
@@ -11,8 +12,8 @@ use mathlib.Core.List.{List, [], ◌∷◌, ◌++◌, map, flat_map}
 use mathlib.Core.Option.{Option, none, some}
 use mathlib.Core.Path.{◌≡◌, refl}
 use lib.ListN.{replicate}
-use Rattle.model.specs.Answers.{refusal_values, line_values, read_values, write_values, table_values}
-use Rattle.model.specs.Answers.{verdict_values, move_values, judge_values}
+use Rattle.model.specs.Answers.{refusal_values, line_values, answer_values}
+use Rattle.model.specs.Answers.{judge_values}
 use Rattle.model.specs.Line.{line_fits, line_number}
 use Rattle.model.specs.Text.{spelt, text_of, next_line, line_from}
 use Rattle.model.specs.WellFormed.{line_fault, fault}
@@ -23,10 +24,6 @@ use Rattle.model.specs.Printed.{ScreenOutcome, printed, screening}
 use Rattle.model.specs.Judged.{judging, judge_printed}
 use Rattle.model.specs.Board.{board}
 use Rattle.model.specs.declared.Refusal.{Refusal}
-use Rattle.model.specs.declared.ReadAnswer.{ReadAnswer}
-use Rattle.model.specs.declared.WriteAnswer.{WriteAnswer}
-use Rattle.model.specs.declared.TableAnswer.{TableAnswer}
-use Rattle.model.specs.declared.VerdictAnswer.{VerdictAnswer}
 use Rattle.model.proofs.Starred.{◌does◌, ◌takes◌, ◌gives◌, ◌starts◌, plan_a, plan_d, plan_f, plan_j, plan_k, plan_m}
 use Rattle.model.proofs.Starred.{moved}
 
@@ -55,26 +52,26 @@ fault_after lines l = values_of (line_fault board (replicate lines (1 does 0)) l
 pub read_into : ℕ → List ℕ → List (List ℕ)
 unfolding reading
 read_into room text =
-    let o : Outcome ReadAnswer (List ℕ) = reading board text (replicate room 99) in
-    read_values o.answer ∷ o.left ∷ []
+    let o : Outcome (Result ℕ Refusal) (List ℕ) = reading board text (replicate room 99) in
+    answer_values o.answer ∷ o.left ∷ []
 
 pub written_into : ℕ → List ℕ → List (List ℕ)
 unfolding writing
 written_into room p =
-    let o : Outcome WriteAnswer (List ℕ) = writing board p (replicate room 99) in
-    write_values o.answer ∷ o.left ∷ []
+    let o : Outcome (Result ℕ Refusal) (List ℕ) = writing board p (replicate room 99) in
+    answer_values o.answer ∷ o.left ∷ []
 
 pub tabled_into : ℕ → List ℕ → List (List ℕ)
 unfolding tabling
 tabled_into room p =
-    let o : Outcome TableAnswer (List ℕ) = tabling board p (replicate room 99) in
-    table_values o.answer ∷ o.left ∷ []
+    let o : Outcome (Result ℕ Refusal) (List ℕ) = tabling board p (replicate room 99) in
+    answer_values o.answer ∷ o.left ∷ []
 
 pub ordered_into : ℕ → List ℕ → List (List ℕ)
 unfolding ordering
 ordered_into room p =
-    let o : Outcome VerdictAnswer (List ℕ) = ordering board p (replicate room 99) in
-    verdict_values o.answer ∷ o.left ∷ []
+    let o : Outcome (Result ℕ Refusal) (List ℕ) = ordering board p (replicate room 99) in
+    answer_values o.answer ∷ o.left ∷ []
 
 -- the line numbers of the order handed out
 pub order_of : List ℕ → List ℕ
@@ -94,7 +91,7 @@ next_at text offset lines = line_values (next_line board text (record { offset =
 -- a move's answer, with these sets
 pub moved_with : List ℕ → List ℕ → ℕ → ℕ → List ℕ
 unfolding moving
-moved_with p sets line device = move_values (moving board p sets line device).answer
+moved_with p sets line device = answer_values (moving board p sets line device).answer
 
 -- what the judge answers of entries, and prints of a text
 pub judged_of : List ℕ → List ℕ → List ℕ

@@ -2,7 +2,7 @@
 -- where the entry succeeded, else the refusal's number; then what the case carries. The end of the lines and a legal
 -- order are 0 alone. And how the tests of an entry decide: by the first that refuses. (8 is given no more: 02,
 -- request 2.)
-use Rattle.std.specs.Prelude.{ℕ, Bool, true, false, List, [], ◌∷◌, ltb}
+use Rattle.std.specs.Prelude.{ℕ, Bool, true, false, List, [], ◌∷◌, ltb, Result, Ok, Err}
 use Rattle.std.proofs.Math.Option.{Option, none, some}
 use Rattle.model.specs.declared.Refusal.{Refusal}
 use Rattle.model.specs.declared.Refusal.TheVariants.{TextTooLong, Malformed, TooManyLines, JobOutOfSequence}
@@ -10,12 +10,6 @@ use Rattle.model.specs.declared.Refusal.TheVariants.{BadStart, NeverStarted, Giv
 use Rattle.model.specs.declared.Refusal.TheVariants.{TwoLasting, LeadsBack, ListTooShort, NotATake}
 use Rattle.model.specs.declared.Refusal.TheVariants.{NoSuchDevice, StaleTable, IllegalStep, HeldTwice, HeldLate}
 use Rattle.model.specs.declared.LineAnswer.{LineAnswer}
-use Rattle.model.specs.declared.ReadAnswer.{ReadAnswer}
-use Rattle.model.specs.declared.WriteAnswer.{WriteAnswer}
-use Rattle.model.specs.declared.TableAnswer.{TableAnswer}
-use Rattle.model.specs.declared.VerdictAnswer.{VerdictAnswer}
-use Rattle.model.specs.declared.MoveAnswer.{MoveAnswer}
-use Rattle.model.specs.declared.JudgeAnswer.{JudgeAnswer}
 
 abbrev pub number_of : Refusal → ℕ
 number_of TextTooLong = 1
@@ -61,29 +55,15 @@ line_values (LineAnswer.Line number next) = 0 ∷ number ∷ next.offset ∷ nex
 line_values (LineAnswer.Refused r) = refusal_values r
 line_values LineAnswer.End = 0 ∷ []
 
-abbrev pub read_values : ReadAnswer → List ℕ
-read_values (ReadAnswer.Lines n) = 0 ∷ n ∷ []
-read_values (ReadAnswer.Refused r) = refusal_values r
+-- of every entry that counts
+abbrev pub answer_values : Result ℕ Refusal → List ℕ
+answer_values (Ok n) = 0 ∷ n ∷ []
+answer_values (Err r) = refusal_values r
 
-abbrev pub write_values : WriteAnswer → List ℕ
-write_values (WriteAnswer.Bytes n) = 0 ∷ n ∷ []
-write_values (WriteAnswer.Refused r) = refusal_values r
-
-abbrev pub table_values : TableAnswer → List ℕ
-table_values (TableAnswer.Lines n) = 0 ∷ n ∷ []
-table_values (TableAnswer.Refused r) = refusal_values r
-
-abbrev pub verdict_values : VerdictAnswer → List ℕ
-verdict_values (VerdictAnswer.Held n) = 0 ∷ n ∷ []
-verdict_values (VerdictAnswer.Refused r) = refusal_values r
-
-abbrev pub move_values : MoveAnswer → List ℕ
-move_values (MoveAnswer.Changed n) = 0 ∷ n ∷ []
-move_values (MoveAnswer.Refused r) = refusal_values r
-
-abbrev pub judge_values : JudgeAnswer → List ℕ
-judge_values JudgeAnswer.Legal = 0 ∷ []
-judge_values (JudgeAnswer.Refused r) = refusal_values r
+-- of the judge, which counts nothing
+abbrev pub judge_values : Result (Unit {0}) Refusal → List ℕ
+judge_values (Ok tt) = 0 ∷ []
+judge_values (Err r) = refusal_values r
 
 -- a refusal, where a test says so
 unfoldable pub refuse_if : Bool → Refusal → Option Refusal

@@ -3,6 +3,7 @@
 -- and the judge write to nothing that is lent: their outcomes are `Text.next_line` and `Judged.judging`. The screens'
 -- entry stands in `Printed`.
 use Rattle.std.specs.Prelude.{ℕ, List, [], ◌∷◌, map, ltb, length}
+use Rattle.std.specs.Prelude.{Result, Ok, Err}
 use Rattle.std.proofs.Math.Option.{Option, none, some}
 use Rattle.model.specs.Lists.{over}
 use Rattle.model.specs.Answers.{refuse_if, first_refusal, too_short}
@@ -16,11 +17,6 @@ use Rattle.model.specs.Verdict.{no_order, held_at_end}
 use Rattle.model.specs.Move.{edited, from_last, rewritten, changed, asked_at, move_refusal}
 use Rattle.model.specs.declared.Refusal.{Refusal}
 use Rattle.model.specs.declared.Refusal.TheVariants.{TextTooLong}
-use Rattle.model.specs.declared.ReadAnswer.{ReadAnswer}
-use Rattle.model.specs.declared.WriteAnswer.{WriteAnswer}
-use Rattle.model.specs.declared.TableAnswer.{TableAnswer}
-use Rattle.model.specs.declared.VerdictAnswer.{VerdictAnswer}
-use Rattle.model.specs.declared.MoveAnswer.{MoveAnswer}
 
 -- What an entry answers, and what stands in the lent lists when it returns.
 pub record Outcome (A L : Type 0) : Type 0 where
@@ -38,27 +34,27 @@ unfolding first_refusal refuse_if fault spelt
 text_fault S text = first_refusal (refuse_if (ltb max_bytes (length text)) TextTooLong ∷ fault S (spelt S text) ∷ [])
 
 -- Reading: a text into a lent list of packed numbers.
-unfoldable pub reading : Settings → List ℕ → List ℕ → Outcome ReadAnswer (List ℕ)
+unfoldable pub reading : Settings → List ℕ → List ℕ → Outcome (Result ℕ Refusal) (List ℕ)
 unfolding outcome first_refusal text_fault too_short spelt over
 reading S text lent =
     let plan : List ℕ = spelt S text in
-    outcome ReadAnswer.Refused (first_refusal (text_fault S text ∷ too_short (length lent) (length plan) ∷ []))
-    (ReadAnswer.Lines (length plan)) (over plan lent) lent
+    outcome Err (first_refusal (text_fault S text ∷ too_short (length lent) (length plan) ∷ []))
+    (Ok (length plan)) (over plan lent) lent
 
 -- Writing: a packed plan into a lent buffer of bytes.
-unfoldable pub writing : Settings → List ℕ → List ℕ → Outcome WriteAnswer (List ℕ)
+unfoldable pub writing : Settings → List ℕ → List ℕ → Outcome (Result ℕ Refusal) (List ℕ)
 unfolding outcome first_refusal fault too_short text_of over
 writing S p lent =
     let text : List ℕ = text_of p in
-    outcome WriteAnswer.Refused (first_refusal (fault S p ∷ too_short (length lent) (length text) ∷ []))
-    (WriteAnswer.Bytes (length text)) (over text lent) lent
+    outcome Err (first_refusal (fault S p ∷ too_short (length lent) (length text) ∷ []))
+    (Ok (length text)) (over text lent) lent
 
 -- The table of claims, into a lent list of sets.
-unfoldable pub tabling : Settings → List ℕ → List ℕ → Outcome TableAnswer (List ℕ)
+unfoldable pub tabling : Settings → List ℕ → List ℕ → Outcome (Result ℕ Refusal) (List ℕ)
 unfolding outcome first_refusal fault too_short table over
 tabling S p lent =
-    outcome TableAnswer.Refused (first_refusal (fault S p ∷ too_short (length lent) (length p) ∷ []))
-    (TableAnswer.Lines (length p)) (over (table p) lent) lent
+    outcome Err (first_refusal (fault S p ∷ too_short (length lent) (length p) ∷ []))
+    (Ok (length p)) (over (table p) lent) lent
 
 -- The verdict, with the order's line numbers in a lent list, one a step. Its tests: those of the plan, 11, then 9 and
 -- 10.
@@ -66,22 +62,22 @@ abbrev pub verdict_refusal : Settings → List ℕ → List ℕ → Option Refus
 verdict_refusal S p lent = first_refusal (fault S p ∷ too_short (length lent) (length (steps p)) ∷ no_order S.devices
     p ∷ [])
 
-unfoldable pub ordering : Settings → List ℕ → List ℕ → Outcome VerdictAnswer (List ℕ)
+unfoldable pub ordering : Settings → List ℕ → List ℕ → Outcome (Result ℕ Refusal) (List ℕ)
 unfolding outcome first_refusal fault too_short steps no_order held_at_end handed line_number over
 ordering S p lent =
-    outcome VerdictAnswer.Refused (verdict_refusal S p lent)
-    (VerdictAnswer.Held (held_at_end S.devices p)) (over (map line_number (handed p)) lent) lent
+    outcome Err (verdict_refusal S p lent)
+    (Ok (held_at_end S.devices p)) (over (map line_number (handed p)) lent) lent
 
 -- The move: plan and table are lent, and both are rewritten.
 pub record Lent : Type 0 where
   pub plan : List ℕ
   pub sets : List ℕ
 
-unfoldable pub moving : Settings → List ℕ → List ℕ → ℕ → ℕ → Outcome MoveAnswer Lent
+unfoldable pub moving : Settings → List ℕ → List ℕ → ℕ → ℕ → Outcome (Result ℕ Refusal) Lent
 unfolding outcome move_refusal asked_at edited rewritten from_last changed
 moving S p t line device =
     let i : ℕ = asked_at line in
     let plan : List ℕ = edited p i device in
     let sets : List ℕ = rewritten plan t (from_last p i) in
-    outcome MoveAnswer.Refused (move_refusal S p t line device)
-    (MoveAnswer.Changed (changed p t sets)) (record { plan = plan; sets = sets }) (record { plan = p; sets = t })
+    outcome Err (move_refusal S p t line device)
+    (Ok (changed p t sets)) (record { plan = plan; sets = sets }) (record { plan = p; sets = t })

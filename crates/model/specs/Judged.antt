@@ -2,6 +2,7 @@
 -- its number, from 1; 0 and a number past the last line name none. Then the program that reads a plan and such an order
 -- in one text.
 use Rattle.std.specs.Prelude.{ℕ, zero, suc, ◌+◌, ◌*◌, Bool, true, false, cond, not, ◌&&◌, ◌||◌, eqb, ltb, length}
+use Rattle.std.specs.Prelude.{Result, Ok, Err}
 use mathlib.Core.List.{List, [], ◌∷◌, ◌++◌, map, get_last_d, drop_last}
 use Rattle.std.proofs.Math.Option.{Option, none, some, get_or}
 use Rattle.model.specs.Lists.{positions, all, has, same}
@@ -15,7 +16,6 @@ use Rattle.model.specs.Entries.{text_fault}
 use Rattle.model.specs.Printed.{printed_refusal}
 use Rattle.model.specs.declared.Refusal.{Refusal}
 use Rattle.model.specs.declared.Refusal.TheVariants.{IllegalStep}
-use Rattle.model.specs.declared.JudgeAnswer.{JudgeAnswer}
 
 -- line i may follow the lines done: `Legal.MayFollow`, as a test
 unfoldable pub may_follow : List ℕ → List ℕ → ℕ → Bool
@@ -43,11 +43,11 @@ unfoldable pub judge_refusal : Settings → List ℕ → List ℕ → Option Ref
 unfolding first_refusal fault refuse_at stray
 judge_refusal S p es = first_refusal (fault S p ∷ refuse_at IllegalStep (stray p es) ∷ [])
 
-unfoldable pub judged_by : Option Refusal → JudgeAnswer
-judged_by none = JudgeAnswer.Legal
-judged_by (some r) = JudgeAnswer.Refused r
+unfoldable pub judged_by : Option Refusal → Result (Unit {0}) Refusal
+judged_by none = Ok tt
+judged_by (some r) = Err r
 
-unfoldable pub judging : Settings → List ℕ → List ℕ → JudgeAnswer
+unfoldable pub judging : Settings → List ℕ → List ℕ → Result (Unit {0}) Refusal
 unfolding judged_by judge_refusal
 judging S p es = judged_by (judge_refusal S p es)
 
@@ -89,10 +89,10 @@ judge_text_refusal S text =
 unfoldable pub legal_line : List ℕ
 legal_line = 108 ∷ 101 ∷ 103 ∷ 97 ∷ 108 ∷ newline ∷ []
 
-unfoldable pub judge_line : JudgeAnswer → List ℕ
+unfoldable pub judge_line : Result (Unit {0}) Refusal → List ℕ
 unfolding legal_line printed_refusal
-judge_line JudgeAnswer.Legal = legal_line
-judge_line (JudgeAnswer.Refused r) = printed_refusal r
+judge_line (Ok tt) = legal_line
+judge_line (Err r) = printed_refusal r
 
 -- what `judge` prints for a text
 unfoldable pub judge_printed : Settings → List ℕ → List ℕ

@@ -2,6 +2,7 @@
 -- writes; and the outcomes of the three entries that are lent them, for any table, rows and held set, the plan's own or
 -- not. They serve plans of the morning: a held line is no line for them (02, request 5).
 use Rattle.std.specs.Prelude.{ℕ, Bool, cond, ◌||◌, List, [], ◌∷◌, map, eqb, length, get_or, take}
+use Rattle.std.specs.Prelude.{Result, Ok, Err}
 use Rattle.std.proofs.Math.Option.{Option, none, some}
 use Rattle.model.specs.Lists.{up_from, positions, any, those, first_of, over}
 use Rattle.model.specs.Sets.{put, devices_where}
@@ -15,9 +16,6 @@ use Rattle.model.specs.Verdict.{two_lasting, circle_of}
 use Rattle.model.specs.Move.{edited, may_change, from_last, stale, rewritten, changed, asked_at, is_take_of, move_tests}
 use Rattle.model.specs.Entries.{Outcome, outcome}
 use Rattle.model.specs.declared.Refusal.{Refusal}
-use Rattle.model.specs.declared.TableAnswer.{TableAnswer}
-use Rattle.model.specs.declared.VerdictAnswer.{VerdictAnswer}
-use Rattle.model.specs.declared.MoveAnswer.{MoveAnswer}
 
 -- device d has a lasting take among some lines; it is held to the end: it has one in the plan
 unfoldable pub lasts_among : List ℕ → List ℕ → ℕ → Bool
@@ -66,11 +64,11 @@ room_for D p b =
 
 -- ---- building
 
-unfoldable pub building : ℕ → List ℕ → Beside → Outcome TableAnswer Beside
+unfoldable pub building : ℕ → List ℕ → Beside → Outcome (Result ℕ Refusal) Beside
 unfolding outcome first_refusal fault room_for over_all beside_of
 building D p lent =
-    outcome TableAnswer.Refused (first_refusal (fault (morning D) p ∷ room_for D p lent ∷ []))
-    (TableAnswer.Lines (length p)) (over_all (beside_of D p) lent) lent
+    outcome Err (first_refusal (fault (morning D) p ∷ room_for D p lent ∷ []))
+    (Ok (length p)) (over_all (beside_of D p) lent) lent
 
 -- ---- moving
 
@@ -112,13 +110,13 @@ pub record LentBeside : Type 0 where
   pub plan : List ℕ
   pub beside : Beside
 
-unfoldable pub moving_kept : ℕ → List ℕ → Beside → ℕ → ℕ → Outcome MoveAnswer LentBeside
+unfoldable pub moving_kept : ℕ → List ℕ → Beside → ℕ → ℕ → Outcome (Result ℕ Refusal) LentBeside
 unfolding outcome kept_refusal asked_at edited rewritten from_last changed over kept_rows concerned kept_held device_at
 moving_kept D p lent line device =
     let i : ℕ = asked_at line in
     let new : Beside = beside_after D p lent i device in
-    outcome MoveAnswer.Refused (kept_refusal D p lent line device)
-    (MoveAnswer.Changed (changed p lent.sets new.sets)) (record { plan = edited p i device; beside = new })
+    outcome Err (kept_refusal D p lent line device)
+    (Ok (changed p lent.sets new.sets)) (record { plan = edited p i device; beside = new })
     (record { plan = p; beside = lent })
 
 -- ---- the quick verdict: 9 by the plan, 10 by whatever rows are lent; it writes to nothing that is lent
@@ -128,10 +126,10 @@ unfolding first_refusal fault too_short two_lasting circle_of
 quick_refusal D p rs =
     first_refusal (fault (morning D) p ∷ too_short (length rs) D ∷ two_lasting D p ∷ circle_of D (take D rs) ∷ [])
 
-unfoldable pub quick_by : Option Refusal → ℕ → VerdictAnswer
-quick_by none n = VerdictAnswer.Held n
-quick_by (some r) n = VerdictAnswer.Refused r
+unfoldable pub quick_by : Option Refusal → ℕ → Result ℕ Refusal
+quick_by none n = Ok n
+quick_by (some r) n = Err r
 
-unfoldable pub quick : ℕ → List ℕ → List ℕ → VerdictAnswer
+unfoldable pub quick : ℕ → List ℕ → List ℕ → Result ℕ Refusal
 unfolding quick_by quick_refusal held_number
 quick D p rs = quick_by (quick_refusal D p rs) (held_number D p)

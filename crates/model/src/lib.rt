@@ -1,10 +1,12 @@
-// The answers that the entries give, as Rattle enums. No code stands here: what each entry answers, for every input, is
-// defined in specs/, and specs/Answers.antt lists the number and the values of each case.
+// The refusals, and what the line reader answers. Every other entry answers a `Result`: `Ok` with what it counts
+// (reading and the table the lines, writing the bytes, the verdict the devices that stay held, the move the lines that
+// got another set; the judge counts nothing), or `Err` with the refusal. No code stands here: what each entry answers,
+// for every input, is defined in specs/, and specs/Answers.antt lists the number and the values of each case.
 #![tactic(auto)]
 
 // A refusal, one case for each number of 01, and of 02 as far as it is built, in their order; 8 is given no more (02,
 // request 2). A case holds the place, unless that is fixed: 0 for 1, and 1,025 for 3.
-#[derive(Clone, Copy)]
+#[derive(Clone, Copy, Debug, PartialEq, Eq)]
 pub enum Refusal {
     // 1: the text has over 12,288 bytes
     TextTooLong,
@@ -41,58 +43,16 @@ pub enum Refusal {
 }
 
 // Where the line reader stands: the offset of the next line, and how many lines were handed out before it.
-#[derive(Drop)]
+#[derive(Clone, Copy, Debug, PartialEq, Eq)]
 pub struct Cursor {
     pub offset: usize,
     pub lines: usize,
 }
 
 // The line reader's: the line's packed number with the next cursor, a refusal, or the end.
-#[derive(Drop)]
+#[derive(Clone, Copy, Debug, PartialEq, Eq)]
 pub enum LineAnswer {
     Line(u32, Cursor),
     Refused(Refusal),
     End,
-}
-
-// Reading's: the number of lines.
-#[derive(Drop)]
-pub enum ReadAnswer {
-    Lines(u32),
-    Refused(Refusal),
-}
-
-// Writing's: the number of bytes.
-#[derive(Drop)]
-pub enum WriteAnswer {
-    Bytes(u32),
-    Refused(Refusal),
-}
-
-// The table's: the number of lines.
-#[derive(Drop)]
-pub enum TableAnswer {
-    Lines(u32),
-    Refused(Refusal),
-}
-
-// The verdict's: how many devices stay held once the order is through.
-#[derive(Drop)]
-pub enum VerdictAnswer {
-    Held(u32),
-    Refused(Refusal),
-}
-
-// The move's: how many lines got another set.
-#[derive(Drop)]
-pub enum MoveAnswer {
-    Changed(u32),
-    Refused(Refusal),
-}
-
-// The judge's: the order from elsewhere is legal, or the plan or the list is refused.
-#[derive(Drop)]
-pub enum JudgeAnswer {
-    Legal,
-    Refused(Refusal),
 }

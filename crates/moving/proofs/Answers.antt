@@ -1,75 +1,52 @@
--- What an answer says of the option that it was proved to tell: a position found, or a refusal; and a test's, which
--- tells the take's span where nothing refuses.
+-- What the answer of the tests says of the option that it was proved to tell: a refusal, or the take's span where
+-- nothing refuses; what that of a move says; and what a span says of the take's mate.
 use Prim.Native.Nat.{ℕ, suc}
 use mathlib.Core.List.{List}
-use mathlib.Core.Option.{Option, none, some}
-use mathlib.Core.Path.{◌≡◌, refl, sym, ◌∙◌}
-use native.Mathlib.Omega.{arith}
+use mathlib.Core.Option.{none, some}
+use mathlib.Core.Option as maths
+use mathlib.Core.Path.{◌≡◌, refl}
+use Rattle.std.specs.Prelude.{Result, Ok, Err}
 use Rattle.model.specs.declared.Refusal.{Refusal}
-use Rattle.model.specs.declared.MoveAnswer.{MoveAnswer}
 use Rattle.model.specs.Line.{job, at}
 use Rattle.model.specs.Mate.{mate}
-use Rattle.mates.specs.Found.{found}
 use Rattle.mates.specs.Span.{end_from, span_by, span_of}
-use Rattle.mates.specs.declared.Found.{Found}
 use Rattle.mates.specs.declared.Span.{Span}
-use Rattle.plan.specs.Checked.{checked}
-use Rattle.plan.specs.declared.Checked.{Checked}
-use Rattle.plan.proofs.Answers.{told, untold}
 use Rattle.moving.specs.Tested.{tested_by}
 use Rattle.moving.specs.Through.{through_by}
-use Rattle.moving.specs.declared.TestAnswer.{TestAnswer}
-use Rattle.moving.specs.declared.Through.{Through}
-
-pub found_some : (o : Option ℕ) (k : ℕ) (x : Found) → x ≡ Found.At k → x ≡ found o → o ≡ some k
-found_some none k x e f = cc
-found_some (some y) k x e f = cc
-
-pub found_none : (o : Option ℕ) (x : Found) → x ≡ Found.Nothing → x ≡ found o → o ≡ none
-found_none none x e f = cc
-found_none (some y) x e f = cc
-
-pub refused_some : (o : Option Refusal) (r : Refusal) (x : Checked) → x ≡ Checked.Refused r → x ≡ checked o → o ≡ some r
-refused_some o r x e f = told o r (sym e ∙ f)
-
-pub refused_none : (o : Option Refusal) (x : Checked) → x ≡ Checked.Fine → x ≡ checked o → o ≡ none
-refused_none o x e f = untold o (sym e ∙ f)
+use Rattle.moving.specs.declared.Moved.{Moved}
 
 -- what a test that is told found
-pub told_refused : (o : Option Refusal) (span : Span) (r : Refusal) (x : TestAnswer) → x ≡ TestAnswer.Refused r
-    → x ≡ tested_by o span → o ≡ some r
-told_refused none span r x e f = cc
-told_refused (some y) span r x e f = cc
+pub told_refused : (o : maths.Option Refusal) (span : Span) (r : Refusal) → Err r ≡ tested_by o span → o ≡ some r
+told_refused none span r e = cc
+told_refused (some y) span r e = cc
 
-pub told_passes : (o : Option Refusal) (span s : Span) (x : TestAnswer) → x ≡ TestAnswer.Passes s → x ≡ tested_by o span
-    → (o ≡ none) × (s ≡ span)
-told_passes none span s x e f = (refl, cc)
-told_passes (some y) span s x e f = let z : ◌≡◌ {A = ℕ} 0 1 = cc in absurd (omega arith)
+pub told_passes : (o : maths.Option Refusal) (span s : Span) → Ok s ≡ tested_by o span → (o ≡ none) × (s ≡ span)
+told_passes none span s e = (refl, cc)
+told_passes (some y) span s e = (cc, cc)
 
 -- what a move that is told answered
-pub told_not : (a : MoveAnswer) (stop : ℕ) (r : Refusal) → Through.Refused r ≡ through_by a stop
-    → MoveAnswer.Refused r ≡ a
-told_not (MoveAnswer.Changed n) stop r e = let z : ◌≡◌ {A = ℕ} 0 1 = cc in absurd (omega arith)
-told_not (MoveAnswer.Refused s) stop r e = cc
+pub told_not : (a : Result ℕ Refusal) (stop : ℕ) (r : Refusal) → Err r ≡ through_by a stop → Err r ≡ a
+told_not (Ok n) stop r e = cc
+told_not (Err s) stop r e = cc
 
-pub told_moved : (a : MoveAnswer) (end count stop : ℕ) → Through.Moved count stop ≡ through_by a end
-    → (MoveAnswer.Changed count ≡ a) × (stop ≡ end)
-told_moved (MoveAnswer.Changed n) end count stop e = (cc, cc)
-told_moved (MoveAnswer.Refused r) end count stop e = let z : ◌≡◌ {A = ℕ} 0 1 = cc in absurd (omega arith)
+pub told_moved : (a : Result ℕ Refusal) (end : ℕ) (m : Moved) → Ok m ≡ through_by a end
+    → (Ok m.changed ≡ a) × (m.stop ≡ end)
+told_moved (Ok n) end m e = (cc, cc)
+told_moved (Err r) end m e = (cc, cc)
 
 -- what a span says of the take's mate
 pub span_given : (p : List ℕ) (i m : ℕ) → Span.Given m ≡ span_of p i → mate p i ≡ some m
 unfolding span_of
 span_given p i m e = go (mate p i) e
   where
-    go : (o : Option ℕ) → Span.Given m ≡ span_by (end_from p (job (at p i)) (suc i)) o → o ≡ some m
-    go none e = let z : ◌≡◌ {A = ℕ} 0 1 = cc in absurd (omega arith)
+    go : (o : maths.Option ℕ) → Span.Given m ≡ span_by (end_from p (job (at p i)) (suc i)) o → o ≡ some m
+    go none e = cc
     go (some x) e = cc
 
 pub span_kept : (p : List ℕ) (i k : ℕ) → Span.Kept k ≡ span_of p i → mate p i ≡ none
 unfolding span_of
 span_kept p i k e = go (mate p i) e
   where
-    go : (o : Option ℕ) → Span.Kept k ≡ span_by (end_from p (job (at p i)) (suc i)) o → o ≡ none
+    go : (o : maths.Option ℕ) → Span.Kept k ≡ span_by (end_from p (job (at p i)) (suc i)) o → o ≡ none
     go none e = refl
-    go (some x) e = let z : ◌≡◌ {A = ℕ} 0 1 = cc in absurd (omega arith)
+    go (some x) e = cc

@@ -33,9 +33,6 @@ pub record Back (p : List ℕ) (i device n : ℕ) : Type 0 where
   pub of_job : job (at p n) ≡ job (at p i)
   pub same : has device (held_there p i) ≡ has device (held_by (job (at p i)) (before p n))
 
-pub back_start : (p : List ℕ) (i device : ℕ) → Back p i device i
-back_start p i device = record { low = omega arith; of_job = refl; same = refl }
-
 pub back_end : (p : List ℕ) (i device n : ℕ) → Back p i device n → n ≤ 0 → false ≡ has device (held_there p i)
 unfolding before held_by has
 back_end p i device n b h = let z : n ≡ 0 = omega arith in sym (b.same ∙ rw z)

@@ -1,5 +1,6 @@
 -- The outcome of a move: refused by its tests, or by what the rewriting leaves.
 use Prim.Native.Nat.{ℕ, suc, ◌-◌, ◌%◌, ◌<◌, ◌≤◌}
+use Rattle.std.specs.Prelude.{Result, Ok, Err}
 use mathlib.Core.Bool.{Bool, not}
 use mathlib.Core.List.{List}
 use mathlib.Core.Option.{Option, none, some}
@@ -13,7 +14,6 @@ use Rattle.model.specs.Move.{edited, way, under, from_last, rewritten, changed, 
 use Rattle.model.specs.Entries.{Lent, outcome, moving}
 use Rattle.model.specs.Board.{devices, board_at}
 use Rattle.model.specs.declared.Refusal.{Refusal}
-use Rattle.model.specs.declared.MoveAnswer.{MoveAnswer}
 use Rattle.promises.specs.Move.{MovesAs}
 use Rattle.promises.proofs.Tight.{meets}
 use Rattle.theory.proofs.Lists.{those_length}
@@ -32,7 +32,8 @@ use Rattle.way.specs.Known.{Scanned, Known}
 use Rattle.way.proofs.Kept.{way_known, mended_known}
 use Rattle.moving.specs.Tested.{RewritesAs}
 use Rattle.moving.specs.Through.{through_by, MovesThrough}
-use Rattle.moving.specs.declared.Through.{Through}
+use Rattle.plan.specs.declared.Notes.{Notes}
+use Rattle.moving.specs.declared.Moved.{Moved}
 use Rattle.moving.proofs.Answers.{told_not, told_moved}
 use Rattle.moving.proofs.Refusing.{Passes, passes}
 use Rattle.moving.proofs.SameScan.{at_midday_lem, same_firsts, same_starters, same_way, same_changed}
@@ -46,7 +47,7 @@ few_changed p old new count e =
 
 module _ (midday : Bool) (p t : List ℕ) (line device : ℕ) where
   pub refused : (r : Refusal) → move_refusal (board_at midday) p t line device ≡ some r
-      → (MoveAnswer.Refused r ≡ (moving (board_at midday) p t line device).answer)
+      → (Err r ≡ (moving (board_at midday) p t line device).answer)
       × (record { plan = p; sets = t } ≡ (moving (board_at midday) p t line device).left)
   unfolding moving outcome
   refused r e = rw e (refl, refl)
@@ -105,14 +106,14 @@ module _ (midday : Bool) (p t : List ℕ) (line device : ℕ) where
         way_known there (stop - 1) (omega (arith, alike.long, span_is.high, span_is.low))
         ∙ same_way p q alike (stop - 1) ∙ from_last_lem
 
-    pub moved : (first starter again : List ℕ) (count : ℕ) (p' t' again' : List ℕ) → Scanned p first starter again
-        → RewritesAs p t first starter (line - 1) device count p' t' again'
-        → (MoveAnswer.Changed count ≡ (moving (board_at midday) p t line device).answer)
+    pub moved : (lent left : Notes) (count : ℕ) (p' t' : List ℕ) → Scanned p lent.first lent.starter lent.again
+        → RewritesAs p t lent (line - 1) device count p' t' left
+        → (Ok count ≡ (moving (board_at midday) p t line device).answer)
         × (record { plan = p'; sets = t' } ≡ (moving (board_at midday) p t line device).left)
     unfolding moving outcome q i stop
-    moved first starter again count p' t' again' s r =
+    moved lent left count p' t' s r =
         rw (none_refuses, k.position) (
-          ap MoveAnswer.Changed
+          ap Ok
               (r.counts ∙ ap (λ (x : List ℕ). changed x t t') r.plan ∙ same_changed p q alike t t' ∙ ap
               (changed p t) sets),
           cc (r.plan, sets),
@@ -121,24 +122,22 @@ module _ (midday : Bool) (p t : List ℕ) (line device : ℕ) where
         sets : t' ≡ rewritten q t (from_last p (line - 1))
         sets =
             r.sets
-            ∙ ap (λ (x : List ℕ). mended_by x (again_flags x) first t (way_by x t starter (stop - 1))) r.plan
-            ∙ mended_known (known first starter again s) (stop - 1)
+            ∙ ap (λ (x : List ℕ). mended_by x (again_flags x) lent.first t (way_by x t lent.starter (stop - 1))) r.plan
+            ∙ mended_known (known lent.first lent.starter lent.again s) (stop - 1)
             (omega (arith, alike.long, span_is.high, span_is.low))
             ∙ ap (rewritten q t) (same_way p q alike (stop - 1) ∙ from_last_lem)
 
 -- the move for a caller that keeps more, refused and done
-module _ (midday : Bool) (p t : List ℕ) (line device : ℕ)
-    (first starter again of_jobs first' starter' of_jobs' : List ℕ)
-    (firsts : first' ≡ left_by (fault (board_at midday) p) (first_lines p) first)
-    (starts : starter' ≡ left_by (fault (board_at midday) p) (starters p) starter)
-    (holds : of_jobs' ≡ left_by (fault (board_at midday) p) (holdings p) of_jobs) where
-  pub through_refused : (again' : List ℕ) → again' ≡ left_by (fault (board_at midday) p) (again_flags p) again
-      → (r : Refusal) → move_refusal (board_at midday) p t line device ≡ some r
-      → MovesThrough (board_at midday) p t line device first starter again of_jobs (Through.Refused r) p t
-      first' starter' again' of_jobs'
-  through_refused again' agains r e =
+module _ (midday : Bool) (p t : List ℕ) (line device : ℕ) (lent scanned : Notes)
+    (firsts : scanned.first ≡ left_by (fault (board_at midday) p) (first_lines p) lent.first)
+    (starts : scanned.starter ≡ left_by (fault (board_at midday) p) (starters p) lent.starter)
+    (agains : scanned.again ≡ left_by (fault (board_at midday) p) (again_flags p) lent.again)
+    (holds : scanned.holdings ≡ left_by (fault (board_at midday) p) (holdings p) lent.holdings) where
+  pub through_refused : (r : Refusal) → move_refusal (board_at midday) p t line device ≡ some r
+      → MovesThrough (board_at midday) p t line device lent (Err r) p t scanned
+  through_refused r e =
       let x = refused midday p t line device r e in record {
-        answers = ap (λ (a : MoveAnswer). through_by a (stop_of (span_of p (asked_at line)))) x.0;
+        answers = ap (λ (a : Result ℕ Refusal). through_by a (stop_of (span_of p (asked_at line)))) x.0;
         plan = ap (λ (l : Lent). l.plan) x.1;
         sets = ap (λ (l : Lent). l.sets) x.1;
         firsts = firsts;
@@ -151,65 +150,63 @@ module _ (midday : Bool) (p t : List ℕ) (line device : ℕ)
     no_fault_lem : fault (board_at midday) p ≡ none
     no_fault_lem = (no_fault_exactly (board_at midday) p).1 (passes midday p t line device none_refuses).sound
 
-    left : (made lent : List ℕ) → left_by (fault (board_at midday) p) made lent ≡ made
-    left made lent = ap (λ (o : Option Refusal). left_by o made lent) no_fault_lem
+    left_is : (made old : List ℕ) → left_by (fault (board_at midday) p) made old ≡ made
+    left_is made old = ap (λ (o : Option Refusal). left_by o made old) no_fault_lem
 
-    pub by_scan : (again' : List ℕ) → again' ≡ left_by (fault (board_at midday) p) (again_flags p) again
-        → Scanned p first' starter' again'
-    by_scan again' agains = record {
+    pub by_scan : Scanned p scanned.first scanned.starter scanned.again
+    by_scan = record {
       well_formed = (passes midday p t line device none_refuses).asked.line.well_formed;
-      firsts = firsts ∙ left (first_lines p) first;
-      starts = starts ∙ left (starters p) starter;
-      agains = agains ∙ left (again_flags p) again;
+      firsts = firsts ∙ left_is (first_lines p) lent.first;
+      starts = starts ∙ left_is (starters p) lent.starter;
+      agains = agains ∙ left_is (again_flags p) lent.again;
     }
 
-    pub through_moved : (scanned : List ℕ) → scanned ≡ left_by (fault (board_at midday) p) (again_flags p) again
-        → (count stop : ℕ) (p' t' again' : List ℕ) → stop ≡ stop_of (span_of p (asked_at line))
-        → RewritesAs p t first' starter' (line - 1) device count p' t' again'
-        → MovesThrough (board_at midday) p t line device first starter again of_jobs (Through.Moved count stop)
-        p' t' first' starter' again' of_jobs'
-    through_moved scanned agains count _ p' t' again' e r =
-        let s = by_scan scanned agains in
-        let x = moved midday p t line device none_refuses first' starter' scanned count p' t' again' s r in
+    pub through_moved : (left : Notes) (count stop : ℕ) (p' t' : List ℕ) → stop ≡ stop_of (span_of p (asked_at line))
+        → RewritesAs p t scanned (line - 1) device count p' t' left
+        → MovesThrough (board_at midday) p t line device lent (Ok (record { changed = count; stop = stop })) p' t' left
+    through_moved left count _ p' t' e r =
+        let x = moved midday p t line device none_refuses scanned left count p' t' by_scan r in
         record {
           answers =
-              ap (Through.Moved count) e
-              ∙ ap (λ (a : MoveAnswer). through_by a (stop_of (span_of p (asked_at line)))) x.0;
+              ap (through_by (Ok count)) e
+              ∙ ap (λ (a : Result ℕ Refusal). through_by a (stop_of (span_of p (asked_at line)))) x.0;
           plan = ap (λ (l : Lent). l.plan) x.1;
           sets = ap (λ (l : Lent). l.sets) x.1;
-          firsts = firsts;
-          starts = starts;
-          agains = r.agains ∙ sym (left (again_flags p') again);
-          holds = holds;
+          firsts = r.firsts ∙ firsts;
+          starts = r.starts ∙ starts;
+          agains = r.agains ∙ sym (left_is (again_flags p') lent.again);
+          holds = r.holds ∙ holds;
         }
 
 -- the plain move, by that
-module _ (midday : Bool) (p t : List ℕ) (line device : ℕ) (first starter again of_jobs : List ℕ) (answer : Through)
-    (p' t' first' starter' again' of_jobs' : List ℕ)
-    (m : MovesThrough (board_at midday) p t line device first starter again of_jobs answer p' t' first' starter' again'
-    of_jobs') where
-  plainly : (a : MoveAnswer) → a ≡ (moving (board_at midday) p t line device).answer
+module _ (midday : Bool) (p t : List ℕ) (line device : ℕ) (lent : Notes) (answer : Result Moved Refusal)
+    (p' t' : List ℕ) (left : Notes)
+    (m : MovesThrough (board_at midday) p t line device lent answer p' t' left) where
+  plainly : (a : Result ℕ Refusal) → a ≡ (moving (board_at midday) p t line device).answer
       → MovesAs (board_at midday) p t line device a p' t'
   plainly a e = meets e (rw (m.plan, m.sets))
 
-  pub plainly_refused : (r : Refusal) → answer ≡ Through.Refused r
-      → MovesAs (board_at midday) p t line device (MoveAnswer.Refused r) p' t'
-  plainly_refused r e = plainly (MoveAnswer.Refused r) (told_not _ _ r (sym e ∙ m.answers))
+  pub plainly_refused : (r : Refusal) → answer ≡ Err r → MovesAs (board_at midday) p t line device (Err r) p' t'
+  plainly_refused r e = plainly (Err r) (told_not _ _ r (sym e ∙ m.answers))
 
-  pub plainly_moved : (count stop : ℕ) → answer ≡ Through.Moved count stop
-      → MovesAs (board_at midday) p t line device (MoveAnswer.Changed count) p' t'
-  plainly_moved count stop e = plainly (MoveAnswer.Changed count) (told_moved _ _ count stop (sym e ∙ m.answers)).0
+  pub plainly_moved : (d : Moved) → answer ≡ Ok d → MovesAs (board_at midday) p t line device (Ok d.changed) p' t'
+  plainly_moved d e = plainly (Ok d.changed) (told_moved _ _ d (sym e ∙ m.answers)).0
 
 -- what the rewriting leaves, from what its parts do
-pub rewrites : (p t first starter : List ℕ) (i device count : ℕ) (p' t' again : List ℕ) (stop : ℕ) → device < devices
-    → p' ≡ edited p i (device % 256) → again ≡ again_flags (edited p i device) → stop ≡ stop_of (span_of p i)
-    → t' ≡ mended_by p' again first t (way_by p' t starter (stop - 1)) → count ≡ changed p' t t'
-    → RewritesAs p t first starter i device count p' t' again
-rewrites p t first starter i device count p' t' again stop b e f g m c =
+pub rewrites : (p t : List ℕ) (lent : Notes) (i device count : ℕ) (p' t' : List ℕ) (left : Notes) (stop : ℕ)
+    → device < devices → p' ≡ edited p i (device % 256) → left.again ≡ again_flags (edited p i device)
+    → stop ≡ stop_of (span_of p i)
+    → t' ≡ mended_by p' left.again lent.first t (way_by p' t lent.starter (stop - 1)) → count ≡ changed p' t t'
+    → left.first ≡ lent.first → left.starter ≡ lent.starter → left.holdings ≡ lent.holdings
+    → RewritesAs p t lent i device count p' t' left
+rewrites p t lent i device count p' t' left stop b e f g m c firsts starts holds =
     let z : device % 256 ≡ device = omega (arith, b) in
     let plan : p' ≡ edited p i device = e ∙ ap (edited p i) z in record {
       counts = c;
       plan = plan;
       agains = f ∙ ap again_flags (sym plan);
       sets = m ∙ rw (g, f, ← plan);
+      firsts = firsts;
+      starts = starts;
+      holds = holds;
     }

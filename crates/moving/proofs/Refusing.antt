@@ -1,5 +1,5 @@
 -- Which test of a move refuses, by what the code found; and what is known where none does.
-use Prim.Native.Nat.{ℕ, zero, suc, ◌+◌, ◌-◌, ◌<◌, ◌≤◌}
+use Prim.Native.Nat.{ℕ, zero, suc, ◌+◌, ◌-◌, ◌^◌, ◌<◌, ◌≤◌}
 use mathlib.Core.Bool.{Bool, true, false}
 use mathlib.Core.List.{List, ◌∷◌}
 use mathlib.Core.Option.{Option, none, some, none-ne-some}
@@ -26,8 +26,11 @@ use Rattle.theory.proofs.WellFormed.{no_fault_exactly}
 use Rattle.theory.proofs.Edited.{edited_well_formed}
 use Rattle.theory.proofs.Move.{asked_take, stale_exactly, nearest_may_change}
 use Rattle.theory.proofs.Way.{may_change_line}
-use Rattle.moving.specs.Tested.{Take, tested_by, last_tests, asked_tests}
-use Rattle.moving.specs.declared.TestAnswer.{TestAnswer}
+use Rattle.moving.specs.Tested.{Take, tested_by, stale_refusal, last_tests, asked_tests}
+use Rattle.std.specs.Prelude.{Result, Ok, Err, IfSome}
+use Rattle.std.specs.Prelude as code
+use Rattle.mates.specs.Found.{found}
+use Rattle.plan.specs.Checked.{checked}
 use Rattle.moving.proofs.SameScan.{at_midday_lem}
 
 -- ---- 14
@@ -54,14 +57,30 @@ module _ (p t : List ℕ) (i : ℕ) where
   then_under o e f = both_searched ∙ rw (e, f)
 
   pub stale_refuses : (span : Span) (k : ℕ) → first_of (stale p t) (may_change p i) ≡ some k
-      → TestAnswer.Refused (StaleTable (k + 1)) ≡ tested_by (first_refusal (last_tests p t i)) span
+      → Err (StaleTable (k + 1)) ≡ tested_by (first_refusal (last_tests p t i)) span
   unfolding first_refusal refuse_at line_number
   stale_refuses span k e = rw (e, add-one k)
 
   pub none_stale : (span s : Span) → s ≡ span → first_of (stale p t) (may_change p i) ≡ none
-      → TestAnswer.Passes s ≡ tested_by (first_refusal (last_tests p t i)) span
+      → Ok s ≡ tested_by (first_refusal (last_tests p t i)) span
   unfolding first_refusal refuse_at
   none_stale span s q e = rw (e, q)
+
+-- what the code found of one of the two searches
+pub number_fits : (o : Option ℕ) (x : code.Option ℕ) → x ≡ found o → ((k : ℕ) → o ≡ some k → k < 2 ^ 32 - 1)
+    → IfSome x (λ k. k < 2 ^ 32 - 1)
+number_fits none x e h = rw e tt
+number_fits (some k) x e h = rw e (h k refl)
+
+pub found_stale : (o : Option ℕ) (r : Refusal) → Err r ≡ checked (stale_refusal (found o))
+    → (k : ℕ) × (o ≡ some k) × (r ≡ StaleTable (k + 1))
+unfolding line_number
+found_stale none r e = cc
+found_stale (some k) r e = let z : r ≡ StaleTable (suc k) = cc in (k, refl, rw add-one z)
+
+pub found_no_stale : (o : Option ℕ) → Ok tt ≡ checked (stale_refusal (found o)) → o ≡ none
+found_no_stale none e = refl
+found_no_stale (some k) e = cc
 
 -- ---- 11, 12 and 13
 
@@ -77,34 +96,29 @@ take_asked p line device w k b =
     record { line = record { well_formed = w; in_plan = take_line p (line - 1) taken }; takes = taken; on_board = b }
 
 module _ (D : ℕ) (p t : List ℕ) (line device : ℕ) (span : Span) where
-  abbrev Answers : TestAnswer → Type 0
+  abbrev Answers : Result Span Refusal → Type 0
   Answers x = x ≡ tested_by (first_refusal (asked_tests D p t line device)) span
 
-  pub too_short_lem : length t < length p → Answers (TestAnswer.Refused (ListTooShort (length p)))
+  pub too_short_lem : length t < length p → Answers (Err (ListTooShort (length p)))
   unfolding first_refusal too_short refuse_if
   too_short_lem h = rw (lt-ltb (length t) (length p) h)
 
-  -- where the table has room, by whether the line is a take of the plan
-  module _ (room : length p ≤ length t) (taken : Bool) (e : taken ≡ is_take_of p line) where
-    pub not_a_take_lem : taken ≡ false → Answers (TestAnswer.Refused (NotATake line))
+  -- where the table has room
+  module _ (room : length p ≤ length t) where
+    pub not_a_take_lem : is_take_of p line ≡ false → Answers (Err (NotATake line))
     unfolding first_refusal too_short refuse_if
-    not_a_take_lem k = rw (le-ltb (length t) (length p) room, sym e ∙ k)
+    not_a_take_lem k = rw (le-ltb (length t) (length p) room, k)
 
-    pub no_device_lem : taken ≡ true → D ≤ device → Answers (TestAnswer.Refused (NoSuchDevice device))
+    pub no_device_lem : is_take_of p line ≡ true → D ≤ device → Answers (Err (NoSuchDevice device))
     unfolding first_refusal too_short refuse_if
-    no_device_lem k d = rw (le-ltb (length t) (length p) room, sym e ∙ k, le-leb D device d)
+    no_device_lem k d = rw (le-ltb (length t) (length p) room, k, le-leb D device d)
 
     -- 14 decides
-    pub last_left : taken ≡ true → device < D → (answer : TestAnswer)
+    pub last_left : is_take_of p line ≡ true → device < D → (answer : Result Span Refusal)
         → answer ≡ tested_by (first_refusal (last_tests p t (line - 1))) span → Answers answer
     unfolding first_refusal too_short refuse_if
     last_left k d answer a =
-        rw (
-          le-ltb (length t) (length p) room,
-          sym e ∙ k,
-          lt-leb D device d,
-          (asked_position p line (sym e ∙ k)).1,
-        ) a
+        rw (le-ltb (length t) (length p) room, k, lt-leb D device d, (asked_position p line k).1) a
 
 -- ---- all tests of a move
 
@@ -113,7 +127,7 @@ module _ (S : Settings) (p t : List ℕ) (line device : ℕ) where
   unfolding move_refusal first_refusal
   by_fault r e = rw e
 
-  pub by_asked : (span : Span) → fault S p ≡ none → (answer : TestAnswer)
+  pub by_asked : (span : Span) → fault S p ≡ none → (answer : Result Span Refusal)
       → answer ≡ tested_by (first_refusal (asked_tests S.devices p t line device)) span
       → answer ≡ tested_by (move_refusal S p t line device) span
   unfolding move_refusal first_refusal

@@ -15,7 +15,8 @@ use Rattle.model.specs.declared.Refusal.{Refusal}
 use Rattle.plan.specs.Ends.{left_by, ScansAs}
 use Rattle.plan.specs.Jobs.{number_of_first, number_of_found, first_lines, starters}
 use Rattle.plan.specs.Again.{again_flags}
-use Rattle.plan.specs.declared.Checked.{Checked}
+use Rattle.plan.specs.declared.Notes.{Notes}
+use Rattle.std.specs.Prelude.{Result}
 use Rattle.theory.proofs.Edited.{Alike, same_first, same_starts}
 use Rattle.theory.proofs.WellFormed.{no_fault_exactly, morning_midday}
 use Rattle.way.specs.Known.{Scanned}
@@ -25,14 +26,13 @@ pub at_midday_lem : (midday : Bool) (p : List ℕ) → WellFormed (board_at midd
 at_midday_lem true p w = w
 at_midday_lem false p w = morning_midday devices p w
 
-pub is_scanned : (p first starter again : List ℕ) (answer : Checked) (first' starter' again' : List ℕ)
-    → ScansAs board p first starter again answer first' starter' again' → fault board p ≡ none
-    → Scanned p first' starter' again'
-is_scanned p first starter again answer first' starter' again' s e = record {
+pub is_scanned : (p : List ℕ) (lent left : Notes) (answer : Result (Unit {0}) Refusal)
+    → ScansAs board p lent answer left → fault board p ≡ none → Scanned p left.first left.starter left.again
+is_scanned p lent left answer s e = record {
   well_formed = at_midday_lem false p ((no_fault_exactly board p).0 e);
-  firsts = s.firsts ∙ ap (λ (o : Option Refusal). left_by o (first_lines p) first) e;
-  starts = s.starts ∙ ap (λ (o : Option Refusal). left_by o (starters p) starter) e;
-  agains = s.agains ∙ ap (λ (o : Option Refusal). left_by o (again_flags p) again) e;
+  firsts = s.firsts ∙ ap (λ (o : Option Refusal). left_by o (first_lines p) lent.first) e;
+  starts = s.starts ∙ ap (λ (o : Option Refusal). left_by o (starters p) lent.starter) e;
+  agains = s.agains ∙ ap (λ (o : Option Refusal). left_by o (again_flags p) lent.again) e;
 }
 
 module _ (p q : List ℕ) (a : Alike p q) where

@@ -2,17 +2,25 @@
 -- are equal.
 use Prim.Native.Nat.{ℕ}
 use mathlib.Core.List.{List}
-use mathlib.Core.Path.{◌≡◌}
+use mathlib.Core.Path.{◌≡◌, sym, ◌∙◌}
+use Rattle.std.specs.Prelude.{Result}
+use Rattle.model.specs.declared.Refusal.{Refusal}
 use Rattle.model.specs.Line.{Settings}
-use Rattle.moving.specs.declared.Through.{Through}
+use Rattle.plan.specs.declared.Notes.{Notes}
+use Rattle.moving.specs.declared.Moved.{Moved}
 use Rattle.moving.specs.Through.{MovesThrough}
 
-module _ (S : Settings) (p t : List ℕ) (line device : ℕ) (first starter again of_jobs : List ℕ) where
-  pub through_one : (a b : Through)
-      (p₁ p₂ t₁ t₂ first₁ first₂ starter₁ starter₂ again₁ again₂ ofJobs₁ ofJobs₂ : List ℕ)
-      → MovesThrough S p t line device first starter again of_jobs a p₁ t₁ first₁ starter₁ again₁ ofJobs₁
-      → MovesThrough S p t line device first starter again of_jobs b p₂ t₂ first₂ starter₂ again₂ ofJobs₂
-      → (a ≡ b) × (p₁ ≡ p₂) × (t₁ ≡ t₂) × (first₁ ≡ first₂) × (starter₁ ≡ starter₂) × (again₁ ≡ again₂)
-      × (ofJobs₁ ≡ ofJobs₂)
-  through_one a b p₁ p₂ t₁ t₂ first₁ first₂ starter₁ starter₂ again₁ again₂ ofJobs₁ ofJobs₂ x y =
-      (cc, cc, cc, cc, cc, cc, cc)
+same_notes : (a b : Notes) → a.first ≡ b.first → a.starter ≡ b.starter → a.again ≡ b.again → a.holdings ≡ b.holdings
+    → a ≡ b
+same_notes a b e f g h = λ i. record { first = e i; starter = f i; again = g i; holdings = h i }
+
+module _ (S : Settings) (p t : List ℕ) (line device : ℕ) (lent : Notes) where
+  pub through_one : (a b : Result Moved Refusal) (p₁ p₂ t₁ t₂ : List ℕ) (left₁ left₂ : Notes)
+      → MovesThrough S p t line device lent a p₁ t₁ left₁ → MovesThrough S p t line device lent b p₂ t₂ left₂
+      → (a ≡ b) × (p₁ ≡ p₂) × (t₁ ≡ t₂) × (left₁ ≡ left₂)
+  through_one a b p₁ p₂ t₁ t₂ left₁ left₂ x y = (
+    cc,
+    cc,
+    cc,
+    same_notes left₁ left₂ (x.firsts ∙ sym y.firsts) (x.starts ∙ sym y.starts) (cc) (x.holds ∙ sym y.holds),
+  )

@@ -8,28 +8,34 @@ ghost use Rattle.model.specs.Board.{board};
 ghost use Rattle.model.specs.Printed.{printed};
 
 use board::{MOST_BYTES, MOST_LINES};
-use shell::Input;
+use shell::Failure;
+use std::io;
+use std::io::Read;
 
 // Writes what is printed for a text, which these bytes are, to standard output.
-fn write_printed(rt: &HostRuntime, text: &[u8], bytes: &[u8]) -> bool
+fn write_printed(rt: &impl Print, text: &[u8], bytes: &[u8]) -> io::Result<()>
     requires { bytes.now ≡ printed board text.now }
 {
     shell::write_output(rt, bytes)
 }
 
-fn main(rt: HostRuntime) {
+// Reads a plan, and prints its order or why it has none.
+fn run(stdin: &mut impl Read, rt: &impl Print) -> Result<(), Failure> {
     // one byte more than a plan's text may have: a longer input fills it, and is refused
     let mut input = [0; MOST_BYTES + 1];
     let mut plan = [0u32; MOST_LINES];
     let mut order = [0u16; MOST_LINES];
     let mut out = [0u8; screen::ROOM];
-    let Input::Bytes(n) = shell::read_input(&rt, &mut input) else {
-        shell::complain(&rt, b"order: standard input cannot be read\n");
-        return;
-    };
+    let n = shell::read_input(stdin, &mut input).map_err(|_| Failure::Reading)?;
     let text = &input[..n];
     let m = screen::print(text, &mut plan, &mut order, &mut out);
-    if !write_printed(&rt, text, &out[..m]) {
-        shell::complain(&rt, b"order: standard output cannot be written\n");
+    write_printed(rt, text, &out[..m]).map_err(|_| Failure::Writing)
+}
+
+// The program ends with status 0 also where something failed, so `main` answers no Result. (What `judge` has alike
+// stays there: each program says of its own bytes what they are.)
+fn main(rt: HostRuntime) {
+    if let Err(wrong) = run(&mut rt.stdin(), &rt) {
+        shell::complain(&rt, "order", &wrong);
     }
 }

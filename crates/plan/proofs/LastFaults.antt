@@ -1,6 +1,6 @@
 -- The tests after the last line find 5 and 6 of `model`: the tables tell which jobs have lines and which start.
 use Rattle.std.proofs.Common.{◌≡◌, ℕ, suc, ◌<◌, ◌≤◌, true, false, cond, not, ◌&&◌, eqb, ◌⊎◌, List, [], ◌∷◌, length}
-use Rattle.std.proofs.Common.{get_or, sym, refl, ap, ◌∙◌, inl, inr, arith, ne_eqb, eqb-true}
+use Rattle.std.proofs.Common.{Result, Ok, get_or, sym, refl, ap, ◌∙◌, inl, inr, arith, ne_eqb, eqb-true}
 use mathlib.Core.List.{head_d}
 use mathlib.Core.Option.{Option, none, some}
 use borrow.Author.Tests.{eqb-false, not-true, not-false}
@@ -19,7 +19,6 @@ use Rattle.theory.specs.WellFormed.{starts_empty, unstarted}
 use Rattle.plan.specs.Checked.{checked}
 use Rattle.plan.specs.Tables.{First, nothing, found, Tables}
 use Rattle.plan.specs.Ends.{Empty, Unstarted, EndsAs, empty, never, neither}
-use Rattle.plan.specs.declared.Checked.{Checked}
 use Rattle.plan.proofs.Tables as Tab
 
 -- the job that a start names
@@ -140,7 +139,7 @@ module _ (S : Settings) (p first starter : List ℕ) (t : Tables S p (length p) 
       (λ j a b. falsely (unstarted p j) (λ z. f j (same_job_lem j (omega arith) z a))))
 
   -- The theorem: where no line has a fault, the tests after the last line find the plan's.
-  pub ends_find : (r : Checked) → EndsAs S.midday first starter r → first_fault S [] p ≡ none
+  pub ends_find : (r : Result (Unit {0}) Refusal) → EndsAs S.midday first starter r → first_fault S [] p ≡ none
       → r ≡ checked (fault S p)
   unfolding fault first_refusal
   ends_find r (empty k e least) f = rw (f, found_5 k e least)
@@ -148,6 +147,6 @@ module _ (S : Settings) (p first starter : List ℕ) (t : Tables S p (length p) 
   ends_find r (neither g h) f = rw (f, none_5 g) (go (test S.midday))
     where
       go : (S.midday ≡ true) ⊎ (S.midday ≡ false)
-          → Checked.Fine ≡ checked (first_refusal (cond S.midday none (never_started p) ∷ []))
+          → Ok tt ≡ checked (first_refusal (cond S.midday none (never_started p) ∷ []))
       go (inl d) = rw d
       go (inr m) = rw (m, none_6 (h m))

@@ -1,12 +1,12 @@
 -- How the tests after the last line go from job to job, and what they find.
 use Rattle.std.proofs.Common.{◌≡◌, ℕ, suc, ◌+◌, ◌<◌, ◌≤◌, Bool, true, false, not, ◌&&◌, ◌||◌, eqb, ltb, ◌⊎◌, List}
-use Rattle.std.proofs.Common.{get_or, sym, refl, ◌∙◌, inl, inr, add-one, arith, ltb-false, ltb-true, ne_eqb, eqb-true}
+use Rattle.std.proofs.Common.{Ok, Err, get_or, sym, refl, ◌∙◌, inl, inr, add-one, arith, ltb-false, ltb-true, ne_eqb}
+use Rattle.std.proofs.Common.{eqb-true}
 use borrow.Author.Tests.{eqb-false, not-true, not-false}
 use Rattle.model.specs.Line.{max_job}
 use Rattle.theory.proofs.Tests.{test, and_split, and_true, or_split, or_neither}
 use Rattle.model.specs.declared.Refusal.TheVariants.{BadStart, NeverStarted}
 use Rattle.plan.specs.Ends.{Empty, Unstarted, lower_of, earlier_of, EndsAs, empty, never, neither}
-use Rattle.plan.specs.declared.Checked.{Checked}
 use Rattle.plan.proofs.Tables.{up_to}
 
 -- the lowest line that starts one of the jobs below j that have no lines; 0 is no line
@@ -106,7 +106,7 @@ module _ (first starter : List ℕ) (j : ℕ) (l : 2 ≤ j) (h : j ≤ max_job) 
 -- all jobs have come up
 module _ (midday : Bool) (first starter : List ℕ) where
   pub told_5 : (m : ℕ) → Low first starter (suc max_job) m → (m ≡ 0 → ⊥)
-      → EndsAs midday first starter (Checked.Refused (BadStart m))
+      → EndsAs midday first starter (Err (BadStart m))
   told_5 m (nothing none) n = absurd (n refl)
   told_5 m (found k e least) n = empty k e (λ i z. least i (omega (arith, z.high)) z)
 
@@ -117,18 +117,18 @@ module _ (midday : Bool) (first starter : List ℕ) where
   module _ (m n : ℕ) (low : Low first starter (suc max_job) m) (q : m ≡ 0) where
     -- 6 is asked for in the morning alone
     pub told_6 : Never first starter (suc max_job) n → (not (eqb n 0) && not midday) ≡ true
-        → EndsAs midday first starter (Checked.Refused (NeverStarted n))
+        → EndsAs midday first starter (Err (NeverStarted n))
     told_6 v z =
         let r = and_split (not (eqb n 0)) (not midday) z in
         go n v (eqb-false n 0 (not-true (eqb n 0) r.0)) (not-true midday r.1)
       where
         go : (n : ℕ) → Never first starter (suc max_job) n → (n ≡ 0 → ⊥) → midday ≡ false
-            → EndsAs midday first starter (Checked.Refused (NeverStarted n))
+            → EndsAs midday first starter (Err (NeverStarted n))
         go n (nothing none) z d = absurd (z refl)
         go n (found k u lowest) z d = never d (no_5 m low q) k u lowest
 
     pub told_none : Never first starter (suc max_job) n → (not (eqb n 0) && not midday) ≡ false
-        → EndsAs midday first starter Checked.Fine
+        → EndsAs midday first starter (Ok tt)
     told_none v z = neither (no_5 m low q) (λ d. go n v (zero d z))
       where
         zero : midday ≡ false → (not (eqb n 0) && not midday) ≡ false → n ≡ 0

@@ -11,7 +11,7 @@ pub mod Walks
 pub mod Flags
 pub mod Holdings
 pub mod Noting
-pub mod Notes
+pub mod NoteWalk
 pub mod LastTests
 pub mod LastFaults
 pub mod Scans

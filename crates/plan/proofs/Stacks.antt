@@ -1,7 +1,7 @@
 -- The stack of the devices held: what a do, a take and a give leave of it, and which case of `rule_of` the code's one
 -- test picks.
 use Rattle.std.proofs.Common.{◌≡◌, ℕ, zero, suc, ◌+◌, ◌-◌, ◌^◌, ◌<◌, ◌≤◌, Bool, true, false, cond, not, ◌&&◌, eqb, ◌⊎◌}
-use Rattle.std.proofs.Common.{List, ◌∷◌, length, get_or, set, sym, refl, ap, ◌∙◌, inl, inr, add-one, arith, length-set}
+use Rattle.std.proofs.Common.{List, ◌∷◌, length, get_or, set, sym, refl, ap, ◌∙◌, inl, inr, add-one, arith}
 use Rattle.std.proofs.Common.{get_or-set_other, get_or-set_same, eq-eqb, ne_eqb, eqb-true}
 use mathlib.Core.List.{tail}
 use borrow.Author.Tests.{not-true, not-false}
@@ -45,12 +45,6 @@ module _ (stack : List ℕ) (v : ℕ) where
   popped zero o e = clash false e refl
   popped (suc depth) o e =
       let q : suc depth - 1 ≡ depth = omega arith in rw q (below depth (suc depth) (omega arith))
-
-  pub stored : (depth : ℕ) → Stack stack → Stack (set stack (suc depth) v)
-  stored depth h = record {
-    long = length-set stack (suc depth) v ∙ h.long;
-    floor = get_or-set_other stack (suc depth) 0 v 0 (λ q. omega arith) ∙ h.floor;
-  }
 
 -- ---- the code's test
 

@@ -1,16 +1,14 @@
 -- One step of the walk, by the code's tests: `step_of` from what its parts found.
-use Rattle.std.proofs.Common.{◌≡◌, ℕ, suc, ◌+◌, ◌<◌, Bool, true, false, cond, ◌||◌, eqb, leb, List, [], length, get_or}
-use Rattle.std.proofs.Common.{set, sym, refl, ◌∙◌, add-one, length-set, leb-false}
+use Rattle.std.proofs.Common.{◌≡◌, ℕ, suc, ◌+◌, ◌<◌, Bool, true, false, cond, ◌||◌, eqb, leb, List, [], get_or}
+use Rattle.std.proofs.Common.{set, sym, refl, ◌∙◌, add-one, leb-false}
 use mathlib.Core.Option.{none, some, none-ne-some}
 use Rattle.model.specs.Answers.{refuse_if, first_refusal}
 use Rattle.model.specs.Board.{devices, board, board_at}
-use Rattle.model.specs.Line.{Settings, job, is_line, line_number, max_lines, max_job}
+use Rattle.model.specs.Line.{Settings, job, is_line, line_number, max_lines}
 use Rattle.model.specs.declared.Refusal.{Refusal}
 use Rattle.model.specs.declared.Refusal.TheVariants.{Malformed, TooManyLines, JobOutOfSequence}
 use Rattle.theory.proofs.Line.{morning_line, line_either}
-use Rattle.plan.specs.Walk.{placed_by, place_fault, held_fault, Next, bad, rule_of, step_of, held_in, StackBy}
-use Rattle.plan.specs.Walk.{WalkingBy}
-use Rattle.plan.specs.declared.After.{After}
+use Rattle.plan.specs.Walk.{placed_by, place_fault, held_fault, Next, bad, rule_of, step_of, held_in}
 
 -- the first three tests pass
 passed : (i : ℕ) (a b c : Bool) → placed_by i a b c ≡ none → (a ≡ false) × (b ≡ true) × (c ≡ true)
@@ -58,9 +56,3 @@ module _ (S : Settings) (n i prev named : ℕ) (early : Bool) (first starter : L
           starter
       go true = refl
       go false = refl
-
-pub walking : (i : ℕ) (r : After) (stack first starter : List ℕ) (o v : ℕ) → StackBy i r stack
-    → length first ≡ suc max_job → length starter ≡ suc max_job → WalkingBy i r stack (set first o v) starter
-walking i (After.On depth) stack first starter o v h f s =
-    (h.0, record { stacked = h.1; first_long = length-set first o v ∙ f; starter_long = s })
-walking i (After.Bad r) stack first starter o v h f s = tt

@@ -1,8 +1,8 @@
--- A definition's option as the code's enum, for a fault that a plan may have.
+-- A definition's option as the code's answer, for a fault that a plan may have.
+use Rattle.std.specs.Prelude.{Result, Ok, Err}
 use Rattle.std.proofs.Math.Option.{Option, none, some}
 use Rattle.model.specs.declared.Refusal.{Refusal}
-use Rattle.plan.specs.declared.Checked.{Checked}
 
-abbrev pub checked : Option Refusal → Checked
-checked none = Checked.Fine
-checked (some r) = Checked.Refused r
+abbrev pub checked : Option Refusal → Result (Unit {0}) Refusal
+checked none = Ok tt
+checked (some r) = Err r

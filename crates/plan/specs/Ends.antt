@@ -1,7 +1,7 @@
 -- The tests after the last line as the code makes them, over the jobs: of the tables of first lines and of starters.
 -- That they find 5 and 6 of `model` is shown in proofs/. Then the outcome of a scan of the whole plan.
-use Rattle.std.specs.Prelude.{◌≡◌, ℕ, ◌<◌, ◌≤◌, Bool, false, cond, not, ◌&&◌, ◌||◌, List, ◌==◌, nat_lt, slice_index}
-use Rattle.std.specs.Prelude.{slice_index_or}
+use Rattle.std.specs.Prelude.{◌≡◌, ℕ, ◌<◌, ◌≤◌, Bool, true, false, cond, not, ◌&&◌, ◌||◌, List, ◌==◌, nat_lt}
+use Rattle.std.specs.Prelude.{slice_index, slice_index_or, Result, Ok, Err}
 use Rattle.std.proofs.Math.Option.{Option, none, some}
 use Rattle.model.specs.Line.{Settings, max_job}
 use Rattle.model.specs.WellFormed.{fault}
@@ -12,7 +12,7 @@ use Rattle.plan.specs.Jobs.{first_lines, starters}
 use Rattle.plan.specs.Again.{again_flags}
 use Rattle.plan.specs.Holdings.{holdings}
 use Rattle.plan.specs.Noting.{NotesOf}
-use Rattle.plan.specs.declared.Checked.{Checked}
+use Rattle.plan.specs.declared.Notes.{Notes}
 
 -- job j starts somewhere and has no lines; has lines and starts nowhere. Job 1 is the one that nothing starts.
 pub record Empty (first starter : List ℕ) (j : ℕ) : Type 0 where
@@ -37,36 +37,34 @@ abbrev pub earlier_of : ℕ → ℕ → ℕ → ℕ
 earlier_of low first starter = cond (low == 0 && starter == 0) first low
 
 -- 5 at the lowest such line, 6 at the first line of the lowest such job, or neither; 6 is not given at midday
-pub data EndsAs (midday : Bool) (first starter : List ℕ) : Checked → Type 0 where
+pub data EndsAs (midday : Bool) (first starter : List ℕ) : Result (Unit {0}) Refusal → Type 0 where
   empty : (j : ℕ) → Empty first starter j
       → ((k : ℕ) → Empty first starter k → slice_index starter j ≤ slice_index starter k)
-      → EndsAs midday first starter (Checked.Refused (BadStart (slice_index starter j)))
+      → EndsAs midday first starter (Err (BadStart (slice_index starter j)))
   never : midday ≡ false → ((k : ℕ) → Empty first starter k → ⊥) → (j : ℕ) → Unstarted first starter j
       → ((k : ℕ) → k < j → Unstarted first starter k → ⊥)
-      → EndsAs midday first starter (Checked.Refused (NeverStarted (slice_index first j)))
+      → EndsAs midday first starter (Err (NeverStarted (slice_index first j)))
   neither : ((k : ℕ) → Empty first starter k → ⊥) → (midday ≡ false → (k : ℕ) → Unstarted first starter k → ⊥)
-      → EndsAs midday first starter Checked.Fine
+      → EndsAs midday first starter (Ok tt)
 
 -- what the walk and these tests find together: the fault, and the tables and notes where there is none
-pub record WholeAs (S : Settings) (p : List ℕ) (answer : Checked) (first starter again left : List ℕ) : Type 0 where
+pub record WholeAs (noting : Bool) (S : Settings) (p : List ℕ) (answer : Result (Unit {0}) Refusal) (left : Notes)
+    : Type 0 where
   pub answers : answer ≡ checked (fault S p)
-  pub tables : answer ≡ Checked.Fine → (first ≡ first_lines p) × (starter ≡ starters p) × NotesOf p again left
+  pub tables : answer ≡ Ok tt
+      → (left.first ≡ first_lines p) × (left.starter ≡ starters p)
+      × (noting ≡ true → NotesOf p left.again left.holdings)
 
 -- what a scan leaves in a lent list: the plan's, or, where it is refused, what stood there
 abbrev pub left_by : Option Refusal → List ℕ → List ℕ → List ℕ
 left_by none table lent = table
 left_by (some r) table lent = lent
 
--- the outcome of a scan: the fault, and the two tables and the flags where there is none
-pub record ScansAs (S : Settings) (plan first starter again : List ℕ) (answer : Checked)
-    (first' starter' again' : List ℕ) : Type 0 where
+-- the outcome of a scan: the fault, and the notes where there is none
+pub record ScansAs (S : Settings) (plan : List ℕ) (lent : Notes) (answer : Result (Unit {0}) Refusal) (left : Notes)
+    : Type 0 where
   pub answers : answer ≡ checked (fault S plan)
-  pub firsts : first' ≡ left_by (fault S plan) (first_lines plan) first
-  pub starts : starter' ≡ left_by (fault S plan) (starters plan) starter
-  pub agains : again' ≡ left_by (fault S plan) (again_flags plan) again
-
--- the outcome of a scan that also tells what each job holds after the last line
-pub record ScansHoldingAs (S : Settings) (plan first starter again lent : List ℕ) (answer : Checked)
-    (first' starter' again' holdings' : List ℕ) : Type 0 where
-  pub scanned : ScansAs S plan first starter again answer first' starter' again'
-  pub held : holdings' ≡ left_by (fault S plan) (holdings plan) lent
+  pub firsts : left.first ≡ left_by (fault S plan) (first_lines plan) lent.first
+  pub starts : left.starter ≡ left_by (fault S plan) (starters plan) lent.starter
+  pub agains : left.again ≡ left_by (fault S plan) (again_flags plan) lent.again
+  pub held : left.holdings ≡ left_by (fault S plan) (holdings plan) lent.holdings

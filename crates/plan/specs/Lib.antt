@@ -5,5 +5,6 @@ pub mod Again
 pub mod Holdings
 pub mod Tables
 pub mod Walk
+pub mod Standing
 pub mod Noting
 pub mod Ends

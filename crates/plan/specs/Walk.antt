@@ -2,14 +2,13 @@
 -- of the devices of held lines (02, request 5), whether the line before is one, the devices that its job holds (the
 -- latest first), and for each job the number of its first line and of the line that starts it. That it finds the fault
 -- of `model` is shown in proofs/.
-use Rattle.std.specs.Prelude.{◌≡◌, ℕ, zero, suc, ◌+◌, ◌-◌, ◌≤◌, Bool, cond, not, ◌&&◌, ◌||◌, List, [], ◌∷◌, length}
-use Rattle.std.specs.Prelude.{◌==◌, nat_le, nat_lt, slice_index, slice_index_or, slice_set}
+use Rattle.std.specs.Prelude.{◌≡◌, ℕ, zero, suc, ◌+◌, ◌-◌, Bool, cond, not, ◌&&◌, ◌||◌, List, [], ◌∷◌, length}
+use Rattle.std.specs.Prelude.{◌==◌, nat_le, nat_lt, slice_index, slice_index_or, slice_set, Result, Ok, Err}
 use mathlib.Core.List.{tail}
 use Rattle.std.proofs.Math.Option.{Option, none, some}
 use Rattle.model.specs.Answers.{refuse_if, first_refusal}
 use Rattle.model.specs.Board.{devices}
 use Rattle.model.specs.Line.{Settings, job, operand, opens, is_held, is_give, is_start, is_line, line_number, max_lines}
-use Rattle.model.specs.Line.{max_job}
 use Rattle.model.specs.Sets.{empty, union, member}
 use Rattle.model.specs.WellFormed.{is_last, first_fault}
 use Rattle.model.specs.declared.Refusal.{Refusal}
@@ -20,8 +19,7 @@ use Rattle.sets.specs.Both.{without}
 use Rattle.sets.specs.Only.{only_of}
 use Rattle.plan.specs.Checked.{checked}
 use Rattle.plan.specs.Tables.{Tables}
-use Rattle.plan.specs.declared.After.{After}
-use Rattle.plan.specs.declared.Checked.{Checked}
+use Rattle.plan.specs.declared.Notes.{Notes}
 
 -- ---- one line, at position i
 
@@ -104,27 +102,12 @@ misgiven n latest = not (without (given_by n) (only_of devices latest) == empty)
 abbrev pub depth_after : ℕ → ℕ → ℕ
 depth_after n depth = cond (opens n) (depth + 1) (cond (is_give n) (depth - 1) depth)
 
--- the whole state: beside the stack, the two tables
-pub record Walking (stack first starter : List ℕ) : Type 0 where
-  pub stacked : Stack stack
-  pub first_long : length first ≡ suc max_job
-  pub starter_long : length starter ≡ suc max_job
-
 -- what the code's answers say of its arrays; nothing after a refusal
-abbrev pub next_by : After → List ℕ → List ℕ → List ℕ → Next
-next_by (After.On depth) stack first starter = on (held_in depth stack) first starter
-next_by (After.Bad r) stack first starter = bad r
-
--- after the line at position i no more takes are open than there were lines
-abbrev pub StackBy : ℕ → After → List ℕ → Type 0
-StackBy i (After.On depth) stack = (depth ≤ suc i) × Stack stack
-StackBy i (After.Bad r) stack = Unit
-
-abbrev pub WalkingBy : ℕ → After → List ℕ → List ℕ → List ℕ → Type 0
-WalkingBy i (After.On depth) stack first starter = (depth ≤ suc i) × Walking stack first starter
-WalkingBy i (After.Bad r) stack first starter = Unit
+abbrev pub next_by : Result ℕ Refusal → List ℕ → List ℕ → List ℕ → Next
+next_by (Ok depth) stack first starter = on (held_in depth stack) first starter
+next_by (Err r) stack first starter = bad r
 
 -- what the whole walk finds: the fault of the first line that has one, or the tables
-pub record Walked (S : Settings) (p : List ℕ) (answer : Checked) (first starter : List ℕ) : Type 0 where
+pub record Walked (S : Settings) (p : List ℕ) (answer : Result (Unit {0}) Refusal) (left : Notes) : Type 0 where
   pub answers : answer ≡ checked (first_fault S [] p)
-  pub tables : answer ≡ Checked.Fine → Tables S p (length p) first starter
+  pub tables : answer ≡ Ok tt → Tables S p (length p) left.first left.starter

@@ -2,22 +2,32 @@
 // what a success counts, or a refusal's number times 2^32 plus its place (01, "Refusal numbers"; 02, requests 1 and 4).
 #![tactic(auto)]
 
+ghost use Rattle.std.specs.Prelude.{◌≡◌};
+ghost use Rattle.model.specs.Answers.{answer_values};
 ghost use Rattle.model.specs.Board.{board};
+ghost use Rattle.model.specs.InOne.{in_one};
 ghost use Rattle.promises.specs.ForC.{ReadsForC, WritesForC, TablesForC, OrdersForC, MovesForC, JudgesForC};
 ghost use Rattle.promises.specs.ForC.{BuildsForC, MovesKeptForC, QuickForC};
 
 use board::Set;
-use model::{JudgeAnswer, MoveAnswer, ReadAnswer, TableAnswer, VerdictAnswer, WriteAnswer};
+use model::Refusal;
+
+// An answer as one number: what a success counts, or both numbers of a refusal.
+fn in_one(answer: Result<u32, Refusal>) -> u64
+    ensures { result ≡ in_one (answer_values answer) }
+{
+    match answer {
+        Ok(n) => u64::from(n),
+        Err(r) => refusals::in_one(r),
+    }
+}
 
 // A text into a lent list of packed numbers: the number of lines.
 #[unsafe(no_mangle)]
 pub extern "C" fn gimmerskip_read(text: &[u8], plan: &mut [u32]) -> u64
     ensures { ReadsForC board text.now plan.old result plan.new }
 {
-    match reading::read(text, plan) {
-        ReadAnswer::Lines(n) => n as u64,
-        ReadAnswer::Refused(r) => refusals::in_one(r),
-    }
+    in_one(reading::read(text, plan))
 }
 
 // A packed plan into a lent buffer of bytes: the number of bytes.
@@ -25,10 +35,7 @@ pub extern "C" fn gimmerskip_read(text: &[u8], plan: &mut [u32]) -> u64
 pub extern "C" fn gimmerskip_write(plan: &[u32], text: &mut [u8]) -> u64
     ensures { WritesForC board plan.now text.old result text.new }
 {
-    match writing::write(plan, text) {
-        WriteAnswer::Bytes(n) => n as u64,
-        WriteAnswer::Refused(r) => refusals::in_one(r),
-    }
+    in_one(writing::write(plan, text))
 }
 
 // The table of a packed plan's claims into a lent list of sets: the number of lines.
@@ -36,10 +43,7 @@ pub extern "C" fn gimmerskip_write(plan: &[u32], text: &mut [u8]) -> u64
 pub extern "C" fn gimmerskip_table(plan: &[u32], sets: &mut [Set]) -> u64
     ensures { TablesForC board plan.now sets.old result sets.new }
 {
-    match claims::table(plan, sets) {
-        TableAnswer::Lines(n) => n as u64,
-        TableAnswer::Refused(r) => refusals::in_one(r),
-    }
+    in_one(claims::table(plan, sets))
 }
 
 // The verdict on a packed plan, with the order in a lent list of line numbers: the number of devices still held.
@@ -47,10 +51,7 @@ pub extern "C" fn gimmerskip_table(plan: &[u32], sets: &mut [Set]) -> u64
 pub extern "C" fn gimmerskip_verdict(plan: &[u32], order: &mut [u16]) -> u64
     ensures { OrdersForC board plan.now order.old result order.new }
 {
-    match verdict::verdict(plan, order) {
-        VerdictAnswer::Held(n) => n as u64,
-        VerdictAnswer::Refused(r) => refusals::in_one(r),
-    }
+    in_one(verdict::verdict(plan, order))
 }
 
 // The claim of a line, by its number from 1, moved to a device, in the lent plan and table: the number of sets that
@@ -60,10 +61,7 @@ pub extern "C" fn gimmerskip_move(plan: &mut [u32], sets: &mut [Set], line: u32,
     ensures { MovesForC board plan.old sets.old line device result plan.new
         sets.new }
 {
-    match moving::move_claim(plan, sets, line, device) {
-        MoveAnswer::Changed(n) => n as u64,
-        MoveAnswer::Refused(r) => refusals::in_one(r),
-    }
+    in_one(moving::move_claim(plan, sets, line, device))
 }
 
 // An order from elsewhere, as line numbers, judged against a packed plan: 0 if it is legal.
@@ -71,10 +69,7 @@ pub extern "C" fn gimmerskip_move(plan: &mut [u32], sets: &mut [Set], line: u32,
 pub extern "C" fn gimmerskip_judge(plan: &[u32], order: &[u16]) -> u64
     ensures { JudgesForC board plan.now order.now result }
 {
-    match legal::judge(plan, order) {
-        JudgeAnswer::Legal => 0,
-        JudgeAnswer::Refused(r) => refusals::in_one(r),
-    }
+    in_one(legal::judge(plan, order).map(|()| 0))
 }
 
 // A plan's table, its rows and the set of the devices held to the end into lent lists: the number of lines.
@@ -88,10 +83,7 @@ pub extern "C" fn gimmerskip_build(
     ensures { BuildsForC plan.now sets.old rows.old held.old
         result sets.new rows.new held.new }
 {
-    match kept::build(plan, sets, rows, held) {
-        TableAnswer::Lines(n) => n as u64,
-        TableAnswer::Refused(r) => refusals::in_one(r),
-    }
+    in_one(kept::build(plan, sets, rows, held))
 }
 
 // The claim of a line moved as above, with rows and held set kept beside plan and table: the number of sets that are
@@ -108,10 +100,7 @@ pub extern "C" fn gimmerskip_move_kept(
     ensures { MovesKeptForC plan.old sets.old rows.old held.old line
         device result plan.new sets.new rows.new held.new }
 {
-    match kept::move_kept(plan, sets, rows, held, line, device) {
-        MoveAnswer::Changed(n) => n as u64,
-        MoveAnswer::Refused(r) => refusals::in_one(r),
-    }
+    in_one(kept::move_kept(plan, sets, rows, held, line, device))
 }
 
 // The verdict on a packed plan by kept rows, without an order: the number of devices held to the end.
@@ -119,8 +108,5 @@ pub extern "C" fn gimmerskip_move_kept(
 pub extern "C" fn gimmerskip_quick(plan: &[u32], rows: &[Set]) -> u64
     ensures { QuickForC plan.now rows.now result }
 {
-    match kept::quick(plan, rows) {
-        VerdictAnswer::Held(n) => n as u64,
-        VerdictAnswer::Refused(r) => refusals::in_one(r),
-    }
+    in_one(kept::quick(plan, rows))
 }

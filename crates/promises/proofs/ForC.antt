@@ -4,6 +4,7 @@
 -- entry gives 0 exactly at the end, and the judge exactly of a legal order. For no count, length, place or position of
 -- an entry has more than 32 bits.
 use Prim.Native.Nat.{ℕ, suc, ◌+◌, ◌*◌, ◌<◌, ◌≤◌}
+use Rattle.std.specs.Prelude.{Result, Ok, Err}
 use mathlib.Core.Bool.{true, not}
 use mathlib.Core.List.{List}
 use mathlib.Core.Logic.{◌↔◌}
@@ -14,9 +15,8 @@ use lib.Dec.{lit≤, eqb}
 use lib.ListN.{length, get_or, take}
 use Rattle.model.specs.Board.{devices, board}
 use Rattle.model.specs.Lists.{up_from, positions}
-use Rattle.model.specs.Answers.{number_of, place_of, line_values, read_values, write_values, table_values}
-use Rattle.model.specs.Answers.{verdict_values}
-use Rattle.model.specs.Answers.{move_values, judge_values}
+use Rattle.model.specs.Answers.{number_of, place_of, line_values, answer_values}
+use Rattle.model.specs.Answers.{judge_values}
 use Rattle.model.specs.Line.{Settings, job, is_line, line_number, held_from}
 use Rattle.model.specs.Text.{spelt, cursor_after, cursor_from, line_from}
 use Rattle.model.specs.WellFormed.{WellFormed}
@@ -27,12 +27,6 @@ use Rattle.model.specs.Kept.{lasts_in, held_number, Beside, building, moving_kep
 use Rattle.model.specs.Judged.{judging}
 use Rattle.model.specs.declared.Refusal.{Refusal}
 use Rattle.model.specs.declared.LineAnswer.{LineAnswer}
-use Rattle.model.specs.declared.ReadAnswer.{ReadAnswer}
-use Rattle.model.specs.declared.WriteAnswer.{WriteAnswer}
-use Rattle.model.specs.declared.TableAnswer.{TableAnswer}
-use Rattle.model.specs.declared.VerdictAnswer.{VerdictAnswer}
-use Rattle.model.specs.declared.MoveAnswer.{MoveAnswer}
-use Rattle.model.specs.declared.JudgeAnswer.{JudgeAnswer}
 use Rattle.theory.specs.WellFormed.{Broken}
 use Rattle.theory.specs.Verdict.{NoOrderBy, twice, back, NoOrder, by_rows, by_held}
 use Rattle.theory.specs.Text.{TextBroken, too_long, spells}
@@ -152,7 +146,7 @@ fault_small : (S : Settings) (p : List ℕ) (r : Refusal) → Broken S p r → p
 fault_small S p r b = omega (arith, (broken_bounds S p r b).1)
 
 pub read_number : (S : Settings) (text lent : List ℕ) (n : ℕ) (left : List ℕ) → ReadsForC S text lent n left
-    → ReadOff read_values ReadAnswer.Lines ReadAnswer.Refused (reading S text lent) lent n left
+    → ReadOff answer_values Ok Err (reading S text lent) lent n left
 unfolding reading
 read_number S text lent = says (read_entry S text lent) (record {
   broken = text_small;
@@ -166,7 +160,7 @@ read_number S text lent = says (read_entry S text lent) (record {
     text_small r (spells q h b) = fault_small S (spelt S text) q b
 
 pub write_number : (S : Settings) (plan lent : List ℕ) (n : ℕ) (left : List ℕ) → WritesForC S plan lent n left
-    → ReadOff write_values WriteAnswer.Bytes WriteAnswer.Refused (writing S plan lent) lent n left
+    → ReadOff answer_values Ok Err (writing S plan lent) lent n left
 unfolding writing
 write_number S plan lent = says (write_entry S plan lent) (record {
   broken = fault_small S plan;
@@ -176,7 +170,7 @@ write_number S plan lent = says (write_entry S plan lent) (record {
 })
 
 pub table_number : (S : Settings) (plan lent : List ℕ) (n : ℕ) (left : List ℕ) → TablesForC S plan lent n left
-    → ReadOff table_values TableAnswer.Lines TableAnswer.Refused (tabling S plan lent) lent n left
+    → ReadOff answer_values Ok Err (tabling S plan lent) lent n left
 unfolding tabling
 table_number S plan lent = says (table.entry S plan lent) (record {
   broken = fault_small S plan;
@@ -196,7 +190,7 @@ no_order_small D small p r (by_held d t b h l n f) = omega arith
 
 pub verdict_number : (S : Settings) → S.devices ≤ held_from → (plan lent : List ℕ) (n : ℕ) (left : List ℕ)
     → OrdersForC S plan lent n left
-    → ReadOff verdict_values VerdictAnswer.Held VerdictAnswer.Refused (ordering S plan lent) lent n left
+    → ReadOff answer_values Ok Err (ordering S plan lent) lent n left
 unfolding ordering
 verdict_number S small plan lent = says (verdict.entry S plan lent) (record {
   broken = fault_small S plan;
@@ -207,8 +201,8 @@ verdict_number S small plan lent = says (verdict.entry S plan lent) (record {
 
 -- what is read off the quick verdict's number is its answer
 pub quick_number : (plan rs : List ℕ) (n : ℕ) → QuickForC plan rs n
-    → (a : VerdictAnswer) × QuickAs plan rs a × StandsFor VerdictAnswer.Held VerdictAnswer.Refused n a
-    × ((n < half) ↔ ((k : ℕ) × (a ≡ VerdictAnswer.Held k)))
+    → (a : Result ℕ Refusal) × QuickAs plan rs a × StandsFor Ok Err n a
+    × ((n < half) ↔ ((k : ℕ) × (a ≡ Ok k)))
 unfolding held_number
 quick_number plan rs n m =
     let r =
@@ -220,8 +214,8 @@ quick_number plan rs n m =
       count = λ w. omega (arith, those_length (lasts_in plan) (up_from 0 devices), length_up_from 0 devices);
     })
     n tt
-    (record { answers = m.answers ∙ ap (λ (a : VerdictAnswer). in_one (verdict_values a)) is; leaves = refl }) in
-    (r.answer, record { answers = r.behind.answers ∙ ap verdict_values (sym is) }, r.stands, r.below)
+    (record { answers = m.answers ∙ ap (λ (a : Result ℕ Refusal). in_one (answer_values a)) is; leaves = refl }) in
+    (r.answer, record { answers = r.behind.answers ∙ ap answer_values (sym is) }, r.stands, r.below)
   where
     is : quick devices plan rs ≡ (outcome_of (kept.quick_entry plan rs)).answer
     is = kept.quick_is plan rs
@@ -235,7 +229,7 @@ after_table_small lent F small r (beyond q h (beyond s k f)) = small s f
 
 pub build_number : (plan sets rs held : List ℕ) (n : ℕ) (sets' rs' held' : List ℕ)
     → BuildsForC plan sets rs held n sets' rs' held'
-    → ReadOff table_values TableAnswer.Lines TableAnswer.Refused (building devices plan (beside sets rs held))
+    → ReadOff answer_values Ok Err (building devices plan (beside sets rs held))
     (beside sets rs held) n (beside sets' rs' held')
 build_number plan sets rs held n sets' rs' held' =
     let lent = beside sets rs held in
@@ -272,7 +266,7 @@ module _ (S : Settings) (p t : List ℕ) (line device : ℕ) (line_small : line 
       omega (arith, may_change_line p i in_plan k (nearest_may_change p t i k s), w.few)
 
   pub move_number : (n : ℕ) (p' t' : List ℕ) → MovesForC S p t line device n p' t'
-      → ReadOff move_values MoveAnswer.Changed MoveAnswer.Refused (moving S p t line device)
+      → ReadOff answer_values Ok Err (moving S p t line device)
       (record { plan = p; sets = t }) n (record { plan = p'; sets = t' })
   unfolding moving move_refusal
   move_number n p' t' =
@@ -287,7 +281,7 @@ module _ (S : Settings) (p t : List ℕ) (line device : ℕ) (line_small : line 
 module _ (p t : List ℕ) (line device : ℕ) (line_small : line < half) (device_small : device < half) where
   pub move_kept_number : (rs held : List ℕ) (n : ℕ) (p' t' rs' held' : List ℕ)
       → MovesKeptForC p t rs held line device n p' t' rs' held'
-      → ReadOff move_values MoveAnswer.Changed MoveAnswer.Refused
+      → ReadOff answer_values Ok Err
       (moving_kept devices p (beside t rs held) line device) (record { plan = p; beside = beside t rs held }) n
       (record { plan = p'; beside = beside t' rs' held' })
   move_kept_number rs held n p' t' rs' held' =
@@ -360,7 +354,7 @@ module _ (S : Settings) (small : S.devices ≤ held_from) (text : List ℕ) (off
       go k a (no_line r h f g) s = asked.refused k h
 
   -- and a text that is read comes number by number, and then noughts
-  pub numbers_come : (lent left : List ℕ) (n : ℕ) → ReadsAs S text lent (ReadAnswer.Lines n) left
+  pub numbers_come : (lent left : List ℕ) (n : ℕ) → ReadsAs S text lent (Ok n) left
       → ((i : ℕ) → i < n → number i ≡ get_or left i 0) × ((k : ℕ) → n ≤ k → number k ≡ 0)
   numbers_come lent left n m =
       let r = read_line_by_line S text offset (λ k. line_from S text (offset k)) asked_so lent left n m in (
@@ -371,12 +365,12 @@ module _ (S : Settings) (small : S.devices ≤ held_from) (text : List ℕ) (off
 -- ---- the judge
 
 -- a number stands for one answer
-pub one_judge_number : (n : ℕ) (a b : JudgeAnswer) → JudgeStandsFor n a → JudgeStandsFor n b → a ≡ b
+pub one_judge_number : (n : ℕ) (a b : Result (Unit {0}) Refusal) → JudgeStandsFor n a → JudgeStandsFor n b → a ≡ b
 one_judge_number n a b (a_legal e) (a_legal f) = refl
 one_judge_number n a b (a_legal e) (not_passed r h f g) = absurd (omega arith)
 one_judge_number n a b (not_passed r h f g) (a_legal e) = absurd (omega arith)
 one_judge_number n a b (not_passed r h f g) (not_passed s k u v) =
-    ap JudgeAnswer.Refused (one_refusal r s (f ∙ sym u) (g ∙ sym v))
+    ap Err (one_refusal r s (f ∙ sym u) (g ∙ sym v))
 
 -- a list goes wrong at most one past as many entries as there are lines
 not_passed_small : (S : Settings) (plan entries : List ℕ) (r : Refusal) → NotPassed S plan entries r → place_of r < half
@@ -386,15 +380,16 @@ not_passed_small S plan entries r (judge.astray q w s) =
 
 module _ (S : Settings) (plan entries : List ℕ) (n : ℕ) (m : JudgesForC S plan entries n) where
   -- what a caller reads off is the answer of the judge behind
-  pub judge_number : (a : JudgeAnswer) × JudgesAs S plan entries a × JudgeStandsFor n a
+  pub judge_number : (a : Result (Unit {0}) Refusal) × JudgesAs S plan entries a × JudgeStandsFor n a
   judge_number =
       let a = judging S plan entries in
       let behind : JudgesAs S plan entries a = record { answers = refl } in (a, behind, go a behind m.answers)
     where
-      go : (a : JudgeAnswer) → JudgesAs S plan entries a → n ≡ in_one (judge_values a) → JudgeStandsFor n a
-      go JudgeAnswer.Legal j e = a_legal e
-      go (JudgeAnswer.Refused r) j e =
-          let no = (refused_exactly S plan entries (JudgeAnswer.Refused r) j r).0 refl in
+      go : (a : Result (Unit {0}) Refusal) → JudgesAs S plan entries a → n ≡ in_one (judge_values a)
+          → JudgeStandsFor n a
+      go (Ok tt) j e = a_legal e
+      go (Err r) j e =
+          let no = (refused_exactly S plan entries (Err r) j r).0 refl in
           let small = not_passed_small S plan entries r no in
           not_passed r (omega (arith, (number_range r).0)) (omega arith) (omega arith)
 
@@ -405,11 +400,11 @@ module _ (S : Settings) (plan entries : List ℕ) (n : ℕ) (m : JudgesForC S pl
     λ l. from r.0 ((accepted_exactly S plan entries r.0 r.1).1 l) r.2,
   )
     where
-      to : (a : JudgeAnswer) → JudgesAs S plan entries a → n ≡ 0 → JudgeStandsFor n a
+      to : (a : Result (Unit {0}) Refusal) → JudgesAs S plan entries a → n ≡ 0 → JudgeStandsFor n a
           → WellFormed S plan × LegalEntries plan entries
       to a j e (a_legal f) = (accepted_exactly S plan entries a j).0 refl
       to a j e (not_passed r h f g) = absurd (omega arith)
 
-      from : (a : JudgeAnswer) → a ≡ JudgeAnswer.Legal → JudgeStandsFor n a → n ≡ 0
+      from : (a : Result (Unit {0}) Refusal) → a ≡ (Ok tt) → JudgeStandsFor n a → n ≡ 0
       from a e (a_legal f) = f
       from a e (not_passed r h f g) = let z : ◌≡◌ {A = ℕ} 0 1 = cc in absurd (omega arith)

@@ -2,6 +2,7 @@
 -- without a fault, from whatever maker, and so what the verdict hands out; it refuses exactly for a listed reason, and
 -- 15 names the place up to which all may follow and at which the list goes wrong or stops.
 use Prim.Native.Nat.{ℕ}
+use Rattle.std.specs.Prelude.{Result, Ok, Err}
 use mathlib.Core.List.{List, map}
 use mathlib.Core.Logic.{◌↔◌}
 use mathlib.Core.Option.{Option, none, some}
@@ -19,8 +20,6 @@ use Rattle.model.specs.Entries.{ordering}
 use Rattle.model.specs.Judged.{judge_refusal, judged_by, judging}
 use Rattle.model.specs.declared.Refusal.{Refusal}
 use Rattle.model.specs.declared.Refusal.TheVariants.{IllegalStep}
-use Rattle.model.specs.declared.VerdictAnswer.{VerdictAnswer}
-use Rattle.model.specs.declared.JudgeAnswer.{JudgeAnswer}
 use Rattle.theory.specs.Judged.{LegalEntries, StrayAt}
 use Rattle.theory.proofs.WellFormed.{fault_exactly, no_fault_exactly}
 use Rattle.theory.proofs.Judged.{Reason, first, second, tests_refuse_exactly, tests_pass_exactly}
@@ -34,17 +33,17 @@ use Rattle.promises.proofs.Outcome as one
 -- ---- what is accepted and refused
 
 -- an answer tells what was refused
-told_legal : (o : Option Refusal) → judged_by o ≡ JudgeAnswer.Legal → o ≡ none
+told_legal : (o : Option Refusal) → judged_by o ≡ (Ok tt) → o ≡ none
 unfolding judged_by
 told_legal none e = refl
 told_legal (some r) e = cc
 
-told_refused : (o : Option Refusal) (r : Refusal) → judged_by o ≡ JudgeAnswer.Refused r → o ≡ some r
+told_refused : (o : Option Refusal) (r : Refusal) → judged_by o ≡ Err r → o ≡ some r
 unfolding judged_by
 told_refused none r e = cc
 told_refused (some q) r e = cc
 
-module _ (S : Settings) (p es : List ℕ) (a : JudgeAnswer) (m : JudgesAs S p es a) where
+module _ (S : Settings) (p es : List ℕ) (a : Result (Unit {0}) Refusal) (m : JudgesAs S p es a) where
   abbrev refusal : Option Refusal
   refusal = judge_refusal S p es
 
@@ -53,7 +52,7 @@ module _ (S : Settings) (p es : List ℕ) (a : JudgeAnswer) (m : JudgesAs S p es
   answer_is = the_judgement S p es a m
 
   -- accepted are exactly the legal orders of plans without a fault
-  pub accepted_exactly : (a ≡ JudgeAnswer.Legal) ↔ (WellFormed S p × LegalEntries p es)
+  pub accepted_exactly : (a ≡ (Ok tt)) ↔ (WellFormed S p × LegalEntries p es)
   unfolding judged_by judge_refusal
   accepted_exactly = (
     λ e. let h = tests.0 (told_legal refusal (sym answer_is ∙ e)) in ((no_fault_exactly S p).0 h.0, h.1),
@@ -63,12 +62,12 @@ module _ (S : Settings) (p es : List ℕ) (a : JudgeAnswer) (m : JudgesAs S p es
       tests : (refusal ≡ none) ↔ ((fault S p ≡ none) × LegalEntries p es)
       tests = tests_pass_exactly (fault S p) p es
 
-  pub judged_exactly : fault S p ≡ none → (a ≡ JudgeAnswer.Legal) ↔ LegalEntries p es
+  pub judged_exactly : fault S p ≡ none → (a ≡ (Ok tt)) ↔ LegalEntries p es
   judged_exactly sound =
       (λ e. (accepted_exactly.0 e).1, λ l. accepted_exactly.1 ((no_fault_exactly S p).0 sound, l))
 
   -- a refusal exactly for its reason
-  pub refused_exactly : (r : Refusal) → (a ≡ JudgeAnswer.Refused r) ↔ NotPassed S p es r
+  pub refused_exactly : (r : Refusal) → (a ≡ Err r) ↔ NotPassed S p es r
   unfolding judged_by judge_refusal
   refused_exactly r = (
     λ e. to r (tests.0 (told_refused refusal r (sym answer_is ∙ e))),
@@ -88,7 +87,7 @@ module _ (S : Settings) (p es : List ℕ) (a : JudgeAnswer) (m : JudgesAs S p es
 
   -- 15, exactly at the first entry that goes wrong of a plan without a fault: all before it may follow, one after
   -- another, and it may not, or the list stops there
-  pub astray_exactly : (q : ℕ) → (a ≡ JudgeAnswer.Refused (IllegalStep q)) ↔ (WellFormed S p × StrayAt p es q)
+  pub astray_exactly : (q : ℕ) → (a ≡ Err (IllegalStep q)) ↔ (WellFormed S p × StrayAt p es q)
   astray_exactly q = (
     λ e. to (IllegalStep q) refl ((refused_exactly (IllegalStep q)).0 e),
     λ s. (refused_exactly (IllegalStep q)).1 (astray q s.0 s.1),
@@ -101,17 +100,17 @@ module _ (S : Settings) (p es : List ℕ) (a : JudgeAnswer) (m : JudgesAs S p es
 -- ---- orders from here and elsewhere
 
 -- any legal order is accepted, whether or not it is the one that is handed out
-pub any_legal : (S : Settings) (p o : List ℕ) → WellFormed S p → Legal p o → (a : JudgeAnswer)
-    → JudgesAs S p (map line_number o) a → a ≡ JudgeAnswer.Legal
+pub any_legal : (S : Settings) (p o : List ℕ) → WellFormed S p → Legal p o → (a : Result (Unit {0}) Refusal)
+    → JudgesAs S p (map line_number o) a → a ≡ (Ok tt)
 any_legal S p o w l a m =
     (accepted_exactly S p (map line_number o) a m).1 (w, record { order = o; numbers = refl; legal = l })
 
 -- what the verdict hands out, one entry a step, is accepted
-pub handed_out_lem : (S : Settings) (p lent left : List ℕ) (n : ℕ) → OrdersAs S p lent (VerdictAnswer.Held n) left
-    → (a : JudgeAnswer) → JudgesAs S p (take (length (steps p)) left) a → a ≡ JudgeAnswer.Legal
+pub handed_out_lem : (S : Settings) (p lent left : List ℕ) (n : ℕ) → OrdersAs S p lent (Ok n) left
+    → (a : Result (Unit {0}) Refusal) → JudgesAs S p (take (length (steps p)) left) a → a ≡ (Ok tt)
 unfolding ordering over
 handed_out_lem S p lent left n v a m =
-    any_legal S p d.order ((one.done_exactly (entry S p lent) (VerdictAnswer.Held n) left v).0 (n, refl)).0
+    any_legal S p d.order ((one.done_exactly (entry S p lent) (Ok n) left v).0 (n, refl)).0
     d.legal a (rw written at m)
   where
     d : Ordered S p lent n left

@@ -4,6 +4,7 @@
 -- would leave, and so on over any list of moves (demand 3, with rows); by such rows `quick` is the verdict's answer,
 -- and by any rows 9 and 10 have their reason in the plan and in the rows as lent.
 use Prim.Native.Nat.{ℕ, ◌≤◌}
+use Rattle.std.specs.Prelude.{Result, Ok, Err}
 use mathlib.Core.Bool.{Bool, true, false}
 use mathlib.Core.List.{List, [], ◌∷◌}
 use mathlib.Core.Logic.{◌≢◌, ◌↔◌}
@@ -14,7 +15,7 @@ use lib.Dec.{lit≤, ltb}
 use lib.ListN.{length, get_or, take}
 use borrow.Author.Tests.{ltb-true, ltb-false, lt-ltb, le-ltb}
 use Rattle.model.specs.Lists.{over}
-use Rattle.model.specs.Answers.{number_of, verdict_values, move_values, refuse_if, first_refusal, too_short}
+use Rattle.model.specs.Answers.{number_of, answer_values, refuse_if, first_refusal, too_short}
 use Rattle.model.specs.WellFormed.{WellFormed, fault}
 use Rattle.model.specs.Rows.{rows}
 use Rattle.model.specs.Mate.{device_at}
@@ -27,15 +28,12 @@ use Rattle.model.specs.Kept.{quick_refusal, quick_by, quick}
 use Rattle.model.specs.Board.{devices, board}
 use Rattle.model.specs.declared.Refusal.{Refusal}
 use Rattle.model.specs.declared.Refusal.TheVariants.{ListTooShort}
-use Rattle.model.specs.declared.TableAnswer.{TableAnswer}
-use Rattle.model.specs.declared.VerdictAnswer.{VerdictAnswer}
-use Rattle.model.specs.declared.MoveAnswer.{MoveAnswer}
 use Rattle.theory.specs.WellFormed.{Broken}
 use Rattle.theory.specs.Verdict.{NoOrderBy}
 use Rattle.theory.specs.Move.{differing, Ask}
 use Rattle.theory.specs.Kept.{Own, less_rows, without_rows, WritesOnly, MadeBy, StepKept, refused, accepted}
 use Rattle.theory.specs.Kept.{moved_kept, moved_kept_by, StillOwn}
-use Rattle.theory.proofs.Answers.{one_verdict_answer, one_move_answer, none_refuses, long_enough}
+use Rattle.theory.proofs.Answers.{one_answer, none_refuses, long_enough}
 use Rattle.theory.proofs.WellFormed.{fault_exactly, no_fault_exactly, morning_number}
 use Rattle.theory.proofs.Claims.{length_table}
 use Rattle.theory.proofs.OnlyIf.{length_rows}
@@ -54,7 +52,7 @@ use Rattle.promises.specs.Kept.{NoBuild, NoMoveKept, NoQuick, HasRoom, IsBuilt, 
 use Rattle.promises.specs.Kept.{MovedKept, not_moved, is_moved, MovesKept, none_asked, one_more, StaysRightKept}
 use Rattle.promises.proofs.Tight.{by_refusal, by_none, the_outcome, the_quick}
 use Rattle.promises.proofs.Outcome as one
-use Rattle.promises.proofs.Outcome.{Entry, tables, orders, moves, none_after}
+use Rattle.promises.proofs.Outcome.{Entry, counts, none_after}
 use Rattle.promises.proofs.Move as move
 
 -- ---- the room of three lists
@@ -108,9 +106,9 @@ rooms_one_by_one p lent tests =
 -- ---- building
 
 abbrev pub build_entry : (plan : List ℕ) (lent : Beside)
-    → Entry TableAnswer Beside (WellFormed board plan) (Broken board plan) (AfterTable lent NoFurther)
+    → Entry (Result ℕ Refusal) Beside (WellFormed board plan) (Broken board plan) (AfterTable lent NoFurther)
 build_entry plan lent = record {
-  answers = tables;
+  answers = counts;
   fault = fault board plan;
   rest = later_rooms lent [];
   sound = no_fault_exactly board plan;
@@ -140,26 +138,26 @@ module _ (plan : List ℕ) (lent : Beside) where
   building_is = rw (rooms_one_by_one plan lent [])
 
   -- a refusal exactly in a listed case; it leaves the lists
-  pub build_refused_exactly : (a : TableAnswer) (left : Beside) → BuildsWith plan lent a left → (r : Refusal)
-      → (a ≡ TableAnswer.Refused r) ↔ NoBuild plan lent r
+  pub build_refused_exactly : (a : Result ℕ Refusal) (left : Beside) → BuildsWith plan lent a left → (r : Refusal)
+      → (a ≡ Err r) ↔ NoBuild plan lent r
   build_refused_exactly a left m = one.refused_exactly (build_entry plan lent) a left (rw building_is at m)
 
-  pub build_refused_leaves : (r : Refusal) (left : Beside) → BuildsWith plan lent (TableAnswer.Refused r) left
+  pub build_refused_leaves : (r : Refusal) (left : Beside) → BuildsWith plan lent (Err r) left
       → Refuses (NoBuild plan lent) lent r left
   build_refused_leaves r left m =
-      one.refused_leaves (build_entry plan lent) (TableAnswer.Refused r) left (rw building_is at m) r refl
+      one.refused_leaves (build_entry plan lent) (Err r) left (rw building_is at m) r refl
 
   -- a success fills the three lists, each with what is the plan's own
-  written : (n : ℕ) (left : Beside) → BuildsWith plan lent (TableAnswer.Lines n) left
+  written : (n : ℕ) (left : Beside) → BuildsWith plan lent (Ok n) left
       → left ≡ over_all (beside_of devices plan) lent
   written n left m =
-      (one.done_leaves (build_entry plan lent) (TableAnswer.Lines n) left (rw building_is at m) n refl).2
+      (one.done_leaves (build_entry plan lent) (Ok n) left (rw building_is at m) n refl).2
 
-  pub built_leaves : (n : ℕ) (left : Beside) → BuildsWith plan lent (TableAnswer.Lines n) left
+  pub built_leaves : (n : ℕ) (left : Beside) → BuildsWith plan lent (Ok n) left
       → IsBuilt plan lent n left
   unfolding over_all beside_of
   built_leaves n left m =
-      let d = one.done_leaves (build_entry plan lent) (TableAnswer.Lines n) left (rw building_is at m) n refl in
+      let d = one.done_leaves (build_entry plan lent) (Ok n) left (rw building_is at m) n refl in
       let r = rooms_passed lent [] d.0.2 in
       record {
         of_table = record {
@@ -183,8 +181,8 @@ module _ (plan : List ℕ) (lent : Beside) where
       }
 
   -- a plan without a fault is built exactly if there is room, and that it is so is promised
-  pub built_exactly : (a : TableAnswer) (left : Beside) → BuildsWith plan lent a left
-      → ((n : ℕ) × (a ≡ TableAnswer.Lines n)) ↔ (WellFormed board plan × HasRoom plan lent)
+  pub built_exactly : (a : Result ℕ Refusal) (left : Beside) → BuildsWith plan lent a left
+      → ((n : ℕ) × (a ≡ Ok n)) ↔ (WellFormed board plan × HasRoom plan lent)
   built_exactly a left m =
       let d = one.done_exactly (build_entry plan lent) a left (rw building_is at m) in (
         λ h. let p = d.0 h in let r = rooms_passed lent [] p.2 in (p.0, (p.1, r.0, r.1)),
@@ -192,26 +190,26 @@ module _ (plan : List ℕ) (lent : Beside) where
       )
 
   pub builds_with : (left : Beside) → WellFormed board plan → HasRoom plan lent
-      → left ≡ over_all (beside_of devices plan) lent → BuildsWith plan lent (TableAnswer.Lines (length plan)) left
+      → left ≡ over_all (beside_of devices plan) lent → BuildsWith plan lent (Ok (length plan)) left
   builds_with left w h e =
       rw building_is
-      (by_none TableAnswer.Refused (TableAnswer.Lines (length plan)) (over_all (beside_of devices plan) lent) lent
+      (by_none Err (Ok (length plan)) (over_all (beside_of devices plan) lent) lent
       (one.tests (build_entry plan lent)) left
       ((one.passed_exactly (build_entry plan lent)).1 (w, h.0, rooms_pass lent h.1 h.2)) e)
 
   -- what is built is the plan's own
-  pub built_own : (n : ℕ) (left : Beside) → BuildsWith plan lent (TableAnswer.Lines n) left → OwnBeside plan left
+  pub built_own : (n : ℕ) (left : Beside) → BuildsWith plan lent (Ok n) left → OwnBeside plan left
   built_own n left m =
-      let d = one.done_leaves (build_entry plan lent) (TableAnswer.Lines n) left (rw building_is at m) n refl in
+      let d = one.done_leaves (build_entry plan lent) (Ok n) left (rw building_is at m) n refl in
       record { sound = d.0.0; own = rw d.2 (own_written devices plan lent) }
 
 -- ---- the quick verdict
 
 abbrev pub quick_entry : (plan rs : List ℕ)
-    → Entry VerdictAnswer (Unit {0}) (WellFormed board plan) (Broken board plan)
+    → Entry (Result ℕ Refusal) (Unit {0}) (WellFormed board plan) (Broken board plan)
     (NoOrderBy devices plan (take devices rs))
 quick_entry plan rs = record {
-  answers = orders;
+  answers = counts;
   fault = fault board plan;
   rest = two_lasting devices plan ∷ circle_of devices (take devices rs) ∷ [];
   sound = no_fault_exactly board plan;
@@ -233,39 +231,39 @@ module _ (plan rs : List ℕ) where
     where
       go : (x : Option Refusal)
           → quick_by x (held_number devices plan)
-          ≡ (outcome {L = Unit {0}} VerdictAnswer.Refused x
-          (VerdictAnswer.Held (held_number devices plan)) tt tt).answer
+          ≡ (outcome {L = Unit {0}} Err x
+          (Ok (held_number devices plan)) tt tt).answer
       go none = refl
       go (some r) = refl
 
-  pub quick_meets : (a : VerdictAnswer) → QuickAs plan rs a
-      → Meets verdict_values (one.outcome_of (quick_entry plan rs)) a tt
-  quick_meets a m = record { answers = m.answers ∙ ap verdict_values quick_is; leaves = refl }
+  pub quick_meets : (a : Result ℕ Refusal) → QuickAs plan rs a
+      → Meets answer_values (one.outcome_of (quick_entry plan rs)) a tt
+  quick_meets a m = record { answers = m.answers ∙ ap answer_values quick_is; leaves = refl }
 
   -- a refusal exactly in a listed case, 9 by the plan and 10 by the rows as lent
-  pub quick_refused_exactly : (a : VerdictAnswer) → QuickAs plan rs a → (r : Refusal)
-      → (a ≡ VerdictAnswer.Refused r) ↔ NoQuick plan rs r
+  pub quick_refused_exactly : (a : Result ℕ Refusal) → QuickAs plan rs a → (r : Refusal)
+      → (a ≡ Err r) ↔ NoQuick plan rs r
   quick_refused_exactly a m = one.refused_exactly (quick_entry plan rs) a tt (quick_meets a m)
 
   -- otherwise the number of the devices held to the end, by the plan
-  pub quick_held : (n : ℕ) → QuickAs plan rs (VerdictAnswer.Held n) → n ≡ held_number devices plan
-  quick_held n m = (one.done_leaves (quick_entry plan rs) (VerdictAnswer.Held n) tt (quick_meets _ m) n refl).1
+  pub quick_held : (n : ℕ) → QuickAs plan rs (Ok n) → n ≡ held_number devices plan
+  quick_held n m = (one.done_leaves (quick_entry plan rs) (Ok n) tt (quick_meets _ m) n refl).1
 
   -- by the plan's own rows it is the verdict's answer
   pub own_rows_agree : take devices rs ≡ rows devices plan → Agrees plan rs
   own_rows_agree own a b lent left long q o =
       the_quick plan rs a q ∙ quick_agrees devices plan rs lent own long
-      ∙ sym (the_outcome one_verdict_answer b left o).0
+      ∙ sym (the_outcome one_answer b left o).0
 
 -- ---- any move
 
 abbrev pub move_entry : (p : List ℕ) (lent : Beside) (line device : ℕ)
-    → Entry MoveAnswer LentBeside (WellFormed board p) (Broken board p)
+    → Entry (Result ℕ Refusal) LentBeside (WellFormed board p) (Broken board p)
     (AfterTable lent (NotMoved board p lent.sets line device))
 move_entry p lent line device =
     let new : Beside = beside_after devices p lent (asked_at line) device in
     record {
-      answers = moves;
+      answers = counts;
       fault = fault board p;
       rest = later_rooms lent (move.rest board p lent.sets line device);
       sound = no_fault_exactly board p;
@@ -288,30 +286,30 @@ module _ (p : List ℕ) (lent : Beside) (line device : ℕ) where
   left p' b = record { plan = p'; beside = b }
 
   -- a refusal exactly in a listed case; it changes nothing
-  pub move_refused_exactly : (a : MoveAnswer) (p' : List ℕ) (b : Beside) → MovesKeptWith p lent line device a p' b
-      → (r : Refusal) → (a ≡ MoveAnswer.Refused r) ↔ NoMoveKept p lent line device r
+  pub move_refused_exactly : (a : Result ℕ Refusal) (p' : List ℕ) (b : Beside) → MovesKeptWith p lent line device a p' b
+      → (r : Refusal) → (a ≡ Err r) ↔ NoMoveKept p lent line device r
   move_refused_exactly a p' b m =
       one.refused_exactly (move_entry p lent line device) a (left p' b) (rw moving_is at m)
 
   pub move_refused_leaves : (r : Refusal) (p' : List ℕ) (b : Beside)
-      → MovesKeptWith p lent line device (MoveAnswer.Refused r) p' b
+      → MovesKeptWith p lent line device (Err r) p' b
       → Refuses (NoMoveKept p lent line device) (left p lent) r (left p' b)
   move_refused_leaves r p' b m =
-      one.refused_leaves (move_entry p lent line device) (MoveAnswer.Refused r) (left p' b) (rw moving_is at m) r refl
+      one.refused_leaves (move_entry p lent line device) (Err r) (left p' b) (rw moving_is at m) r refl
 
   -- whatever rows and held set are lent, given room: answer, plan and table are what a move without them promises
-  pub moves_as_before : devices ≤ length lent.rows → 1 ≤ length lent.held → (a : MoveAnswer) (p' : List ℕ)
+  pub moves_as_before : devices ≤ length lent.rows → 1 ≤ length lent.held → (a : Result ℕ Refusal) (p' : List ℕ)
       (b : Beside) → MovesKeptWith p lent line device a p' b → MovesAs board p lent.sets line device a p' b.sets
   unfolding without_rows less_rows
   moves_as_before h k a p' b m =
       let e = as_before devices p lent line device h k in
       record {
-        answers = m.answers ∙ ap (λ (o : Outcome MoveAnswer Lent). move_values o.answer) e;
-        leaves = ap less_rows m.leaves ∙ ap (λ (o : Outcome MoveAnswer Lent). o.left) e;
+        answers = m.answers ∙ ap (λ (o : Outcome (Result ℕ Refusal) Lent). answer_values o.answer) e;
+        leaves = ap less_rows m.leaves ∙ ap (λ (o : Outcome (Result ℕ Refusal) Lent). o.left) e;
       }
 
   -- no row but those of the devices concerned is written, and nothing past the rows and the held set
-  pub moves_write_only : (a : MoveAnswer) (p' : List ℕ) (b : Beside) → MovesKeptWith p lent line device a p' b
+  pub moves_write_only : (a : Result ℕ Refusal) (p' : List ℕ) (b : Beside) → MovesKeptWith p lent line device a p' b
       → WritesOnly devices p lent line device b
   moves_write_only a p' b m =
       let e : b ≡ (moving_kept devices p lent line device).left.beside =
@@ -320,16 +318,16 @@ module _ (p : List ℕ) (lent : Beside) (line device : ℕ) where
 
   -- what an accepted move writes there is by the edited plan and the table as it has become, whatever was lent
   pub moves_make : (n : ℕ) (p' : List ℕ) (b : Beside)
-      → MovesKeptWith p lent line device (MoveAnswer.Changed n) p' b → MadeBy devices p line device p' b
+      → MovesKeptWith p lent line device (Ok n) p' b → MadeBy devices p line device p' b
   moves_make n p' b m =
       let d =
-      one.done_leaves (move_entry p lent line device) (MoveAnswer.Changed n) (left p' b) (rw moving_is at m) n refl in
+      one.done_leaves (move_entry p lent line device) (Ok n) (left p' b) (rw moving_is at m) n refl in
       rw (ap (λ (s : LentBeside). s.plan) d.2, ap (λ (s : LentBeside). s.beside) d.2)
       (made_after devices p lent line device)
 
   -- a move is never refused by 9 or 10
   pub no_verdict_bars : (r : Refusal) (p' : List ℕ) (b : Beside)
-      → MovesKeptWith p lent line device (MoveAnswer.Refused r) p' b → (number_of r ≢ 9) × (number_of r ≢ 10)
+      → MovesKeptWith p lent line device (Err r) p' b → (number_of r ≢ 9) × (number_of r ≢ 10)
   no_verdict_bars r p' b m = go r (move_refused_leaves r p' b m).listed
     where
       far : (r : Refusal) → NotMoved board p lent.sets line device r → 12 ≤ number_of r
@@ -361,33 +359,33 @@ module _ (p : List ℕ) (lent : Beside) (line device : ℕ) where
   abbrev i : ℕ
   i = asked_at line
 
-  abbrev plain_entry : Entry MoveAnswer Lent (WellFormed board p) (Broken board p)
+  abbrev plain_entry : Entry (Result ℕ Refusal) Lent (WellFormed board p) (Broken board p)
       (NotMoved board p lent.sets line device)
   plain_entry = move.entry board p lent.sets line device
 
   abbrev new : LentBeside
   new = (move_entry p lent line device).new
 
-  abbrev done : MoveAnswer
-  done = MoveAnswer.Changed (move_entry p lent line device).count
+  abbrev done : Result ℕ Refusal
+  done = Ok (move_entry p lent line device).count
 
   met_by_refusal : (r : Refusal) → kept_refusal devices p lent line device ≡ some r
-      → MovesKeptWith p lent line device (MoveAnswer.Refused r) p lent
+      → MovesKeptWith p lent line device (Err r) p lent
   unfolding moving_kept
   met_by_refusal r h =
-      by_refusal MoveAnswer.Refused done new (record { plan = p; beside = lent })
+      by_refusal Err done new (record { plan = p; beside = lent })
       (kept_refusal devices p lent line device) r h
 
   met_by_none : kept_refusal devices p lent line device ≡ none
       → MovesKeptWith p lent line device done new.plan new.beside
   unfolding moving_kept
   met_by_none h =
-      by_none MoveAnswer.Refused done new (record { plan = p; beside = lent }) (kept_refusal devices p lent line device)
+      by_none Err done new (record { plan = p; beside = lent }) (kept_refusal devices p lent line device)
       new h refl
 
   -- where building would be refused, so is the move
   pub met_as_building : (r : Refusal) → first_refusal (fault board p ∷ room_for devices p lent ∷ []) ≡ some r
-      → MovesKeptWith p lent line device (MoveAnswer.Refused r) p lent
+      → MovesKeptWith p lent line device (Err r) p lent
   unfolding kept_refusal
   met_as_building r h =
       met_by_refusal r
@@ -396,23 +394,23 @@ module _ (p : List ℕ) (lent : Beside) (line device : ℕ) where
   module _ (rows_room : devices ≤ length lent.rows) (held_room : 1 ≤ length lent.held) where
     -- a move without rows was refused: nothing more is written
     pub met_refused : (r : Refusal) (p' t' : List ℕ)
-        → MovesAs board p lent.sets line device (MoveAnswer.Refused r) p' t'
-        → MovesKeptWith p lent line device (MoveAnswer.Refused r) p' (beside t' lent.rows lent.held)
+        → MovesAs board p lent.sets line device (Err r) p' t'
+        → MovesKeptWith p lent line device (Err r) p' (beside t' lent.rows lent.held)
     unfolding moving move_refusal
     met_refused r p' t' m =
-        let e = one.refused_leaves plain_entry (MoveAnswer.Refused r) (record { plan = p'; sets = t' }) m r refl in
+        let e = one.refused_leaves plain_entry (Err r) (record { plan = p'; sets = t' }) m r refl in
         rw (ap (λ (l : Lent). l.plan) e.leaves, ap (λ (l : Lent). l.sets) e.leaves)
         (met_by_refusal r
         (same_tests devices p lent line device rows_room held_room ∙ (one.listed_exactly plain_entry r).1 e.listed))
 
     -- it was accepted: the rows of the devices concerned are written, and two bits of the held set
-    pub met_accepted : (n : ℕ) (p' t' : List ℕ) → MovesAs board p lent.sets line device (MoveAnswer.Changed n) p' t'
-        → MovesKeptWith p lent line device (MoveAnswer.Changed n) p'
+    pub met_accepted : (n : ℕ) (p' t' : List ℕ) → MovesAs board p lent.sets line device (Ok n) p' t'
+        → MovesKeptWith p lent line device (Ok n) p'
         (beside t' (over (kept_rows devices p' t' (concerned p i device) lent.rows) lent.rows)
         (over (kept_held p' (device_at p i) device (get_or lent.held 0 0) ∷ []) lent.held))
     unfolding moving move_refusal
     met_accepted n p' t' m =
-        let d = one.done_leaves plain_entry (MoveAnswer.Changed n) (record { plan = p'; sets = t' }) m n refl in
+        let d = one.done_leaves plain_entry (Ok n) (record { plan = p'; sets = t' }) m n refl in
         rw (ap (λ (l : Lent). l.plan) d.2, ap (λ (l : Lent). l.sets) d.2, d.1)
         (met_by_none
         (same_tests devices p lent line device rows_room held_room ∙ (one.passed_exactly plain_entry).1 d.0))
@@ -424,7 +422,7 @@ own_has_room p lent own =
     (own_long p lent.sets own.own_table, rows_room_lem devices p lent own, held_room_lem devices p lent own)
 
 -- a move that is right without rows, and counts
-moved_afresh : (p t : List ℕ) (line device : ℕ) (a : MoveAnswer) (p' t' : List ℕ) (n : ℕ) → a ≡ MoveAnswer.Changed n
+moved_afresh : (p t : List ℕ) (line device : ℕ) (a : Result ℕ Refusal) (p' t' : List ℕ) (n : ℕ) → a ≡ Ok n
     → Moved board p t line device a p' t' → Afresh board p t line device n p' t'
 moved_afresh p t line device a p' t' n e (plainly.not_moved r x) =
     let z : ◌≡◌ {A = ℕ} 0 1 = cc in absurd (omega arith)
@@ -432,16 +430,16 @@ moved_afresh p t line device a p' t' n e (plainly.is_moved k q u f) = let z : k 
 
 module _ (p : List ℕ) (lent : Beside) (line device : ℕ) (mine : OwnBeside p lent) where
   -- a move is refused by 12 or 13 and changes nothing, or leaves what `build` would
-  pub moves_right : (a : MoveAnswer) (p' : List ℕ) (b : Beside) → MovesKeptWith p lent line device a p' b
+  pub moves_right : (a : Result ℕ Refusal) (p' : List ℕ) (b : Beside) → MovesKeptWith p lent line device a p' b
       → MovedKept p lent line device a p' b
   unfolding without_rows less_rows
   moves_right a p' b m = go (kept_step devices p lent line device mine.sound (lit≤ tt) mine.own)
     where
-      o : Outcome MoveAnswer LentBeside
+      o : Outcome (Result ℕ Refusal) LentBeside
       o = moving_kept devices p lent line device
 
       same : (a ≡ o.answer) × (record { plan = p'; beside = b } ≡ o.left)
-      same = the_outcome one_move_answer a (record { plan = p'; beside = b }) m
+      same = the_outcome one_answer a (record { plan = p'; beside = b }) m
 
       plan_is : p' ≡ o.left.plan
       plan_is = ap (λ (s : LentBeside). s.plan) same.1
@@ -461,7 +459,7 @@ module _ (p : List ℕ) (lent : Beside) (line device : ℕ) (mine : OwnBeside p 
           (not_moved u.as_before.refusal u.as_before.reason)
       go (accepted c) =
           let n : ℕ = differing o.left.beside.sets lent.sets in
-          let e : a ≡ MoveAnswer.Changed n = same.0 ∙ c.as_before.count in
+          let e : a ≡ Ok n = same.0 ∙ c.as_before.count in
           let f =
           moved_afresh p lent.sets line device a p' b.sets n e
           (move.moves_right board (lit≤ tt) p lent.sets line device
@@ -477,8 +475,8 @@ module _ (p : List ℕ) (lent : Beside) (line device : ℕ) (mine : OwnBeside p 
           }))
 
   -- a take moved to the device that it has is never refused: 0, and nothing changes
-  pub stays_put : is_take_of p line ≡ true → device_at p (asked_at line) ≡ device → (a : MoveAnswer) (p' : List ℕ)
-      (b : Beside) → MovesKeptWith p lent line device a p' b → (a ≡ MoveAnswer.Changed 0) × (p' ≡ p) × (b ≡ lent)
+  pub stays_put : is_take_of p line ≡ true → device_at p (asked_at line) ≡ device → (a : Result ℕ Refusal) (p' : List ℕ)
+      (b : Beside) → MovesKeptWith p lent line device a p' b → (a ≡ Ok 0) × (p' ≡ p) × (b ≡ lent)
   stays_put taken present a p' b m =
       let room = own_has_room p lent mine.own in
       let own : OwnTable board p lent.sets = record { sound = mine.sound; own = mine.own.own_table } in
@@ -487,7 +485,7 @@ module _ (p : List ℕ) (lent : Beside) (line device : ℕ) (mine : OwnBeside p 
       (moves_as_before p lent line device room.1 room.2 a p' b m) in
       (r.0, r.1, go a p' b r.1 (moves_right a p' b m))
     where
-      go : (a : MoveAnswer) (p' : List ℕ) (b : Beside) → p' ≡ p → MovedKept p lent line device a p' b → b ≡ lent
+      go : (a : Result ℕ Refusal) (p' : List ℕ) (b : Beside) → p' ≡ p → MovedKept p lent line device a p' b → b ≡ lent
       go a p' b e (not_moved r x) = refl
       go a p' b e (is_moved n q c f) =
           written q lent (length q) c f.builds ∙ rw e (own_stays devices p lent mine.own)
@@ -499,7 +497,7 @@ unfolding moved_kept_by moved_kept
 moves_are s v asks (none_asked u) = refl
 moves_are s v asks (one_more s' u w a rest answer m ms) =
     moves_are u w rest ms
-    ∙ ap (λ (x : LentBeside). moved_kept_by devices x rest) (the_outcome one_move_answer answer u m).1
+    ∙ ap (λ (x : LentBeside). moved_kept_by devices x rest) (the_outcome one_answer answer u m).1
 
 -- The theorem: from a plan without a fault and what is its own beside it, after any list of moves, refused ones among
 -- them, the plan has no fault, the three lists have what `build` would leave, `quick` agrees with the verdict, and the
@@ -530,7 +528,7 @@ moves_stay_right s v asks own ms = record {
     }
 
 -- and from building on
-pub built_moves_stay_right : (plan : List ℕ) (lent b : Beside) (n : ℕ) → BuildsWith plan lent (TableAnswer.Lines n) b
+pub built_moves_stay_right : (plan : List ℕ) (lent b : Beside) (n : ℕ) → BuildsWith plan lent (Ok n) b
     → (v : LentBeside) (asks : List Ask) → MovesKept (record { plan = plan; beside = b }) asks v
     → StaysRightKept (record { plan = plan; beside = b }) v
 built_moves_stay_right plan lent b n m v asks =

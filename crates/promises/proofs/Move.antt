@@ -4,6 +4,7 @@
 -- without a fault and its own table, an accepted move leaves what would be worked out afresh, with the count of the
 -- sets that differ; and so on over any list of moves (demand 3).
 use Prim.Native.Nat.{ℕ, ◌<◌, ◌≤◌}
+use Rattle.std.specs.Prelude.{Result, Ok, Err}
 use mathlib.Core.Bool.{Bool, true, false, not}
 use mathlib.Core.List.{List, [], ◌∷◌}
 use mathlib.Core.Logic.{◌≢◌, ◌↔◌}
@@ -25,12 +26,11 @@ use Rattle.model.specs.Move.{move_refusal}
 use Rattle.model.specs.Entries.{Outcome, Lent, moving}
 use Rattle.model.specs.declared.Refusal.{Refusal}
 use Rattle.model.specs.declared.Refusal.TheVariants.{NotATake, NoSuchDevice, StaleTable}
-use Rattle.model.specs.declared.MoveAnswer.{MoveAnswer}
 use Rattle.theory.specs.WellFormed.{Broken}
 use Rattle.theory.specs.Move.{differing, Accepted, Step, refused, accepted, Ask, moved, moved_by, Kept}
 use Rattle.theory.proofs.WellFormed.{fault_exactly, no_fault_exactly}
 use Rattle.theory.proofs.Claims.{length_table}
-use Rattle.theory.proofs.Answers.{one_move_answer}
+use Rattle.theory.proofs.Answers.{one_answer}
 use Rattle.theory.proofs.Line.{take_line}
 use Rattle.theory.proofs.Way.{way_ends, before_last_kept, from_last_same}
 use Rattle.theory.proofs.Move.{asked_take, stale_exactly, tests_passed, move_step, rewritten_off, length_rewritten}
@@ -42,7 +42,7 @@ use Rattle.promises.specs.Move.{MovesAs, NotMoved, not_a_take, no_such_device, s
 use Rattle.promises.specs.Move.{Afresh, Moved, not_moved, is_moved, Moves, none_asked, one_more, StaysRight}
 use Rattle.promises.proofs.Tight.{the_outcome}
 use Rattle.promises.proofs.Outcome as one
-use Rattle.promises.proofs.Outcome.{Entry, moves, not_both, Came, kept, passed}
+use Rattle.promises.proofs.Outcome.{Entry, counts, not_both, Came, kept, passed}
 use Rattle.promises.proofs.Table.{tables_as}
 use Rattle.promises.proofs.Verdict.{decided}
 
@@ -89,12 +89,12 @@ module _ (S : Settings) (p t : List ℕ) (line device : ℕ) where
 -- ---- for every plan, table, line and device
 
 abbrev pub entry : (S : Settings) (p t : List ℕ) (line device : ℕ)
-    → Entry MoveAnswer Lent (WellFormed S p) (Broken S p) (NotMoved S p t line device)
+    → Entry (Result ℕ Refusal) Lent (WellFormed S p) (Broken S p) (NotMoved S p t line device)
 entry S p t line device =
     let plan : List ℕ = edited p (asked_at line) device in
     let sets : List ℕ = rewritten plan t (from_last p (asked_at line)) in
     record {
-      answers = moves;
+      answers = counts;
       fault = fault S p;
       rest = rest S p t line device;
       sound = no_fault_exactly S p;
@@ -112,18 +112,18 @@ module _ (S : Settings) (p t : List ℕ) (line device : ℕ) where
   left p' t' = record { plan = p'; sets = t' }
 
   -- a refusal exactly in a listed case; it changes nothing
-  pub refused_exactly : (a : MoveAnswer) (p' t' : List ℕ) → MovesAs S p t line device a p' t' → (r : Refusal)
-      → (a ≡ MoveAnswer.Refused r) ↔ NoMove S p t line device r
+  pub refused_exactly : (a : Result ℕ Refusal) (p' t' : List ℕ) → MovesAs S p t line device a p' t' → (r : Refusal)
+      → (a ≡ Err r) ↔ NoMove S p t line device r
   unfolding moving move_refusal
   refused_exactly a p' t' = one.refused_exactly (entry S p t line device) a (left p' t')
 
-  pub refused_leaves : (r : Refusal) (p' t' : List ℕ) → MovesAs S p t line device (MoveAnswer.Refused r) p' t'
+  pub refused_leaves : (r : Refusal) (p' t' : List ℕ) → MovesAs S p t line device (Err r) p' t'
       → Refuses (NoMove S p t line device) (left p t) r (left p' t')
   unfolding moving move_refusal
-  refused_leaves r p' t' m = one.refused_leaves (entry S p t line device) (MoveAnswer.Refused r) (left p' t') m r refl
+  refused_leaves r p' t' m = one.refused_leaves (entry S p t line device) (Err r) (left p' t') m r refl
 
   -- a move is never refused by 9 or 10
-  pub no_verdict_bars : (r : Refusal) (p' t' : List ℕ) → MovesAs S p t line device (MoveAnswer.Refused r) p' t'
+  pub no_verdict_bars : (r : Refusal) (p' t' : List ℕ) → MovesAs S p t line device (Err r) p' t'
       → (number_of r ≢ 9) × (number_of r ≢ 10)
   unfolding move_refusal
   no_verdict_bars r p' t' m =
@@ -131,7 +131,7 @@ module _ (S : Settings) (p t : List ℕ) (line device : ℕ) where
       ((one.listed_exactly (entry S p t line device) r).1 (refused_leaves r p' t' m).listed)
 
   -- at lines that the move may not change sets stay what they were, and there are as many as before
-  pub elsewhere_stays : (a : MoveAnswer) (p' t' : List ℕ) → MovesAs S p t line device a p' t' → (k : ℕ)
+  pub elsewhere_stays : (a : Result ℕ Refusal) (p' t' : List ℕ) → MovesAs S p t line device a p' t' → (k : ℕ)
       → has k (may_change p (asked_at line)) ≡ false → get_or t' k 0 ≡ get_or t k 0
   unfolding moving move_refusal
   elsewhere_stays a p' t' m k off = go (one.came (entry S p t line device) a (left p' t') m)
@@ -144,7 +144,7 @@ module _ (S : Settings) (p t : List ℕ) (line device : ℕ) where
           ∙ rewritten_off (edited p (asked_at line) device) t (from_last p (asked_at line)) k
           (from_last_same p rules (asked_at line) k ∙ off)
 
-  pub as_many_sets : (a : MoveAnswer) (p' t' : List ℕ) → MovesAs S p t line device a p' t' → length t' ≡ length t
+  pub as_many_sets : (a : Result ℕ Refusal) (p' t' : List ℕ) → MovesAs S p t line device a p' t' → length t' ≡ length t
   unfolding moving move_refusal
   as_many_sets a p' t' m = go (one.came (entry S p t line device) a (left p' t') m)
     where
@@ -155,30 +155,30 @@ module _ (S : Settings) (p t : List ℕ) (line device : ℕ) where
           ∙ length_rewritten (edited p (asked_at line) device) t (from_last p (asked_at line))
 
   -- so it is at all lines before the way's end
-  pub before_running : (a : MoveAnswer) (p' t' : List ℕ) → MovesAs S p t line device a p' t' → (k : ℕ)
+  pub before_running : (a : Result ℕ Refusal) (p' t' : List ℕ) → MovesAs S p t line device a p' t' → (k : ℕ)
       → k < last_or (asked_at line) (way p (asked_at line)) → get_or t' k 0 ≡ get_or t k 0
   before_running a p' t' m k lt = elsewhere_stays a p' t' m k (before_last_kept p (asked_at line) k lt)
 
   -- a line whose claim is moved is one of the plan
-  moved_line : (a : MoveAnswer) (p' t' : List ℕ) → MovesAs S p t line device a p' t' → (n : ℕ)
-      → a ≡ MoveAnswer.Changed n → asked_at line < length p
+  moved_line : (a : Result ℕ Refusal) (p' t' : List ℕ) → MovesAs S p t line device a p' t' → (n : ℕ)
+      → a ≡ Ok n → asked_at line < length p
   unfolding moving move_refusal
   moved_line a p' t' m n q = go (one.came (entry S p t line device) a (left p' t') m)
     where
       go : Came (entry S p t line device) a (left p' t') → asked_at line < length p
-      go (kept r h e f) = absurd (not_both moves n r (sym q ∙ e))
+      go (kept r h e f) = absurd (not_both counts n r (sym q ∙ e))
       go (passed h e f) =
           take_line p (asked_at line) (asked_take p line (tests_passed S p t line device h).1)
 
   -- unless a test refuses, a claim moved to where it is counts 0, and all stays
   pub unrefused_stays_put : move_refusal S p t line device ≡ none → device_at p (asked_at line) ≡ device
-      → (a : MoveAnswer) (p' t' : List ℕ) → MovesAs S p t line device a p' t'
-      → (a ≡ MoveAnswer.Changed 0) × (p' ≡ p) × (t' ≡ t)
+      → (a : Result ℕ Refusal) (p' t' : List ℕ) → MovesAs S p t line device a p' t'
+      → (a ≡ Ok 0) × (p' ≡ p) × (t' ≡ t)
   unrefused_stays_put h present a p' t' m =
-      let u = the_outcome one_move_answer a (left p' t') m in
+      let u = the_outcome one_answer a (left p' t') m in
       let e = same_device_stays S p t line device present h in
-      let l = u.1 ∙ ap (λ (o : Outcome MoveAnswer Lent). o.left) e in
-      let b = u.0 ∙ ap (λ (o : Outcome MoveAnswer Lent). o.answer) e in
+      let l = u.1 ∙ ap (λ (o : Outcome (Result ℕ Refusal) Lent). o.left) e in
+      let b = u.0 ∙ ap (λ (o : Outcome (Result ℕ Refusal) Lent). o.answer) e in
       (b, ap (λ (x : Lent). x.plan) l, ap (λ (x : Lent). x.sets) l)
 
 -- ---- from a plan without a fault and its own table
@@ -186,16 +186,16 @@ module _ (S : Settings) (p t : List ℕ) (line device : ℕ) where
 module _ (S : Settings) (small : S.devices ≤ held_from) (p t : List ℕ) (line device : ℕ)
     (own : OwnTable S p t) where
   -- a move is refused by 12 or 13 and changes nothing, or leaves what would be worked out afresh
-  pub moves_right : (a : MoveAnswer) (p' t' : List ℕ) → MovesAs S p t line device a p' t'
+  pub moves_right : (a : Result ℕ Refusal) (p' t' : List ℕ) → MovesAs S p t line device a p' t'
       → Moved S p t line device a p' t'
   unfolding over
   moves_right a p' t' m = go (move_step S p t line device own.sound small own.own)
     where
-      o : Outcome MoveAnswer Lent
+      o : Outcome (Result ℕ Refusal) Lent
       o = moving S p t line device
 
       same : (a ≡ o.answer) × (record { plan = p'; sets = t' } ≡ o.left)
-      same = the_outcome one_move_answer a (record { plan = p'; sets = t' }) m
+      same = the_outcome one_answer a (record { plan = p'; sets = t' }) m
 
       plan_is : p' ≡ o.left.plan
       plan_is = ap (λ (l : Lent). l.plan) same.1
@@ -234,8 +234,8 @@ module _ (S : Settings) (small : S.devices ≤ held_from) (p t : List ℕ) (line
 
 -- a take moved to the device that it has is never refused: 0, and nothing changes
 pub stays_put : (S : Settings) (p t : List ℕ) (line device : ℕ) → OwnTable S p t → is_take_of p line ≡ true
-    → device_at p (asked_at line) ≡ device → (a : MoveAnswer) (p' t' : List ℕ) → MovesAs S p t line device a p' t'
-    → (a ≡ MoveAnswer.Changed 0) × (p' ≡ p) × (t' ≡ t)
+    → device_at p (asked_at line) ≡ device → (a : Result ℕ Refusal) (p' t' : List ℕ) → MovesAs S p t line device a p' t'
+    → (a ≡ Ok 0) × (p' ≡ p) × (t' ≡ t)
 stays_put S p t line device own taken present =
     unrefused_stays_put S p t line device
     (same_device_passes S p t line device present own.sound own.own taken) present
@@ -247,7 +247,7 @@ unfolding moved_by moved
 moves_are S s v asks (none_asked u) = refl
 moves_are S s v asks (one_more s' u w a rest answer m ms) =
     moves_are S u w rest ms
-    ∙ ap (λ (x : Lent). moved_by S x rest) (the_outcome one_move_answer answer u m).1
+    ∙ ap (λ (x : Lent). moved_by S x rest) (the_outcome one_answer answer u m).1
 
 -- The theorem: from a plan without a fault and its own table, after any list of moves, refused ones among them, the
 -- plan has no fault, the sets are its own table, and the next move is right.

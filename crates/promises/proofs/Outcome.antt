@@ -2,6 +2,7 @@
 -- leaves what was lent; otherwise it answers and leaves what `model` says. What is needed of an entry is that its
 -- answer is a count or a refusal, known by its values, and what its tests find.
 use Prim.Native.Nat.{ℕ, ◌≤◌}
+use Rattle.std.specs.Prelude.{Result, Ok, Err}
 use mathlib.Core.Bool.{Bool, true, false}
 use mathlib.Core.List.{List, [], ◌∷◌}
 use mathlib.Core.Logic.{◌↔◌}
@@ -10,18 +11,11 @@ use mathlib.Core.Path.{◌≡◌, refl, sym, ◌∙◌, ap}
 use native.Mathlib.Omega.{arith}
 use lib.Dec.{ltb}
 use borrow.Author.Tests.{ltb-true, ltb-false, lt-ltb, le-ltb}
-use Rattle.model.specs.Answers.{number_of, refusal_values, read_values, write_values, table_values, verdict_values}
-use Rattle.model.specs.Answers.{move_values, refuse_if, first_refusal, too_short}
+use Rattle.model.specs.Answers.{number_of, refusal_values, answer_values, refuse_if, first_refusal, too_short}
 use Rattle.model.specs.Entries.{Outcome, outcome}
 use Rattle.model.specs.declared.Refusal.{Refusal}
 use Rattle.model.specs.declared.Refusal.TheVariants.{ListTooShort}
-use Rattle.model.specs.declared.ReadAnswer.{ReadAnswer}
-use Rattle.model.specs.declared.WriteAnswer.{WriteAnswer}
-use Rattle.model.specs.declared.TableAnswer.{TableAnswer}
-use Rattle.model.specs.declared.VerdictAnswer.{VerdictAnswer}
-use Rattle.model.specs.declared.MoveAnswer.{MoveAnswer}
-use Rattle.theory.proofs.Answers.{one_read_answer, one_write_answer, one_table_answer, one_verdict_answer}
-use Rattle.theory.proofs.Answers.{one_move_answer, one_refusal, number_range}
+use Rattle.theory.proofs.Answers.{one_answer, one_refusal, number_range}
 use Rattle.promises.specs.Outcome.{Meets, Listed, faulty, short, further, NoFurther, Refuses}
 
 -- ---- answers
@@ -35,54 +29,15 @@ pub record Answers (A : Type 0) : Type 0 where
   pub of_refused : (r : Refusal) → values (refused r) ≡ refusal_values r
   pub one : (a b : A) → values a ≡ values b → a ≡ b
 
-abbrev pub reads : Answers ReadAnswer
-reads = record {
-  values = read_values;
-  done = ReadAnswer.Lines;
-  refused = ReadAnswer.Refused;
+-- those of every entry that is lent a list
+abbrev pub counts : Answers (Result ℕ Refusal)
+counts = record {
+  values = answer_values;
+  done = Ok;
+  refused = Err;
   of_done = λ n. refl;
   of_refused = λ r. refl;
-  one = one_read_answer;
-}
-
-abbrev pub writes : Answers WriteAnswer
-writes = record {
-  values = write_values;
-  done = WriteAnswer.Bytes;
-  refused = WriteAnswer.Refused;
-  of_done = λ n. refl;
-  of_refused = λ r. refl;
-  one = one_write_answer;
-}
-
-abbrev pub tables : Answers TableAnswer
-tables = record {
-  values = table_values;
-  done = TableAnswer.Lines;
-  refused = TableAnswer.Refused;
-  of_done = λ n. refl;
-  of_refused = λ r. refl;
-  one = one_table_answer;
-}
-
-abbrev pub orders : Answers VerdictAnswer
-orders = record {
-  values = verdict_values;
-  done = VerdictAnswer.Held;
-  refused = VerdictAnswer.Refused;
-  of_done = λ n. refl;
-  of_refused = λ r. refl;
-  one = one_verdict_answer;
-}
-
-abbrev pub moves : Answers MoveAnswer
-moves = record {
-  values = move_values;
-  done = MoveAnswer.Changed;
-  refused = MoveAnswer.Refused;
-  of_done = λ n. refl;
-  of_refused = λ r. refl;
-  one = one_move_answer;
+  one = one_answer;
 }
 
 module _ {A : Type 0} (e : Answers A) where

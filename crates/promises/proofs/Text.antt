@@ -2,6 +2,7 @@
 -- refusal exactly in a listed case, with the list as it was; the round trips, byte for byte and number for number; and
 -- line after line, what the reader of a text and an offset hands out, with the same answer again where no line came.
 use Prim.Native.Nat.{ℕ, zero, suc, ◌+◌, ◌-◌, ◌<◌, ◌≤◌}
+use Rattle.std.specs.Prelude.{Result, Ok, Err}
 use mathlib.Core.Bool.{true, false}
 use mathlib.Core.List.{List, []}
 use mathlib.Core.Logic.{◌⊎◌, inl, inr, ◌↔◌}
@@ -17,13 +18,11 @@ use Rattle.model.specs.Entries.{text_fault, reading, writing}
 use Rattle.model.specs.declared.Refusal.{Refusal}
 use Rattle.model.specs.declared.Cursor.{Cursor}
 use Rattle.model.specs.declared.LineAnswer.{LineAnswer}
-use Rattle.model.specs.declared.ReadAnswer.{ReadAnswer}
-use Rattle.model.specs.declared.WriteAnswer.{WriteAnswer}
 use Rattle.theory.specs.WellFormed.{Broken}
 use Rattle.theory.specs.Text.{FirstLines, NoLine, ended, TextBroken}
 use Rattle.theory.proofs.Lists.{over_front}
 use Rattle.theory.proofs.WellFormed.{fault_exactly, no_fault_exactly}
-use Rattle.theory.proofs.Answers.{one_read_answer, one_write_answer}
+use Rattle.theory.proofs.Answers.{one_answer}
 use Rattle.theory.proofs.Text.{no_text_fault, text_fault_exactly, reading_written, writing_read}
 use Rattle.theory.proofs.Tests.{test, le_or_lt}
 use Rattle.theory.proofs.Reader.{stays, spelt_length, line_there_lem, reader_line, reader_malformed, reader_many}
@@ -34,14 +33,14 @@ use Rattle.promises.specs.Text.{HandsOutAs, ReadsAs, WritesAs, SoundText, NotRea
 use Rattle.promises.specs.Text.{Asked, Comes, too_long, too_many, malformed, line, end}
 use Rattle.promises.proofs.Tight.{the_outcome, the_line}
 use Rattle.promises.proofs.Outcome as one
-use Rattle.promises.proofs.Outcome.{Entry, reads, writes, none_after}
+use Rattle.promises.proofs.Outcome.{Entry, counts, none_after}
 
 -- ---- reading
 
 abbrev pub read_entry : (S : Settings) (text lent : List ℕ)
-    → Entry ReadAnswer (List ℕ) (SoundText S text) (TextBroken S text) NoFurther
+    → Entry (Result ℕ Refusal) (List ℕ) (SoundText S text) (TextBroken S text) NoFurther
 read_entry S text lent = record {
-  answers = reads;
+  answers = counts;
   fault = text_fault S text;
   rest = [];
   sound = (
@@ -58,35 +57,35 @@ read_entry S text lent = record {
 }
 
 module _ (S : Settings) (text lent : List ℕ) where
-  pub read_refused_exactly : (a : ReadAnswer) (left : List ℕ) → ReadsAs S text lent a left → (r : Refusal)
-      → (a ≡ ReadAnswer.Refused r) ↔ NotRead S text lent r
+  pub read_refused_exactly : (a : Result ℕ Refusal) (left : List ℕ) → ReadsAs S text lent a left → (r : Refusal)
+      → (a ≡ Err r) ↔ NotRead S text lent r
   unfolding reading
   read_refused_exactly = one.refused_exactly (read_entry S text lent)
 
-  pub refused_read_leaves : (r : Refusal) (left : List ℕ) → ReadsAs S text lent (ReadAnswer.Refused r) left
+  pub refused_read_leaves : (r : Refusal) (left : List ℕ) → ReadsAs S text lent (Err r) left
       → Refuses (NotRead S text lent) lent r left
   unfolding reading
-  refused_read_leaves r left m = one.refused_leaves (read_entry S text lent) (ReadAnswer.Refused r) left m r refl
+  refused_read_leaves r left m = one.refused_leaves (read_entry S text lent) (Err r) left m r refl
 
-  pub read_exactly : (a : ReadAnswer) (left : List ℕ) → ReadsAs S text lent a left
-      → ((n : ℕ) × (a ≡ ReadAnswer.Lines n)) ↔ (SoundText S text × (length (spelt S text) ≤ length lent))
+  pub read_exactly : (a : Result ℕ Refusal) (left : List ℕ) → ReadsAs S text lent a left
+      → ((n : ℕ) × (a ≡ Ok n)) ↔ (SoundText S text × (length (spelt S text) ≤ length lent))
   unfolding reading
   read_exactly a left m =
       let d = one.done_exactly (read_entry S text lent) a left m in
       (λ h. let p = d.0 h in (p.0, p.1), λ h. d.1 (h.0, h.1, refl))
 
-  pub read_leaves : (n : ℕ) (left : List ℕ) → ReadsAs S text lent (ReadAnswer.Lines n) left → IsRead S text lent n left
+  pub read_leaves : (n : ℕ) (left : List ℕ) → ReadsAs S text lent (Ok n) left → IsRead S text lent n left
   unfolding reading
   read_leaves n left m =
-      let d = one.done_leaves (read_entry S text lent) (ReadAnswer.Lines n) left m n refl in
+      let d = one.done_leaves (read_entry S text lent) (Ok n) left m n refl in
       record { sound = d.0.0; room = d.0.1; counts = d.1; leaves = d.2 }
 
 -- ---- writing
 
 abbrev pub write_entry : (S : Settings) (plan lent : List ℕ)
-    → Entry WriteAnswer (List ℕ) (WellFormed S plan) (Broken S plan) NoFurther
+    → Entry (Result ℕ Refusal) (List ℕ) (WellFormed S plan) (Broken S plan) NoFurther
 write_entry S plan lent = record {
-  answers = writes;
+  answers = counts;
   fault = fault S plan;
   rest = [];
   sound = no_fault_exactly S plan;
@@ -100,28 +99,28 @@ write_entry S plan lent = record {
 }
 
 module _ (S : Settings) (plan lent : List ℕ) where
-  pub write_refused_exactly : (a : WriteAnswer) (left : List ℕ) → WritesAs S plan lent a left → (r : Refusal)
-      → (a ≡ WriteAnswer.Refused r) ↔ NotWritten S plan lent r
+  pub write_refused_exactly : (a : Result ℕ Refusal) (left : List ℕ) → WritesAs S plan lent a left → (r : Refusal)
+      → (a ≡ Err r) ↔ NotWritten S plan lent r
   unfolding writing
   write_refused_exactly = one.refused_exactly (write_entry S plan lent)
 
-  pub refused_write_leaves : (r : Refusal) (left : List ℕ) → WritesAs S plan lent (WriteAnswer.Refused r) left
+  pub refused_write_leaves : (r : Refusal) (left : List ℕ) → WritesAs S plan lent (Err r) left
       → Refuses (NotWritten S plan lent) lent r left
   unfolding writing
-  refused_write_leaves r left m = one.refused_leaves (write_entry S plan lent) (WriteAnswer.Refused r) left m r refl
+  refused_write_leaves r left m = one.refused_leaves (write_entry S plan lent) (Err r) left m r refl
 
-  pub written_exactly : (a : WriteAnswer) (left : List ℕ) → WritesAs S plan lent a left
-      → ((n : ℕ) × (a ≡ WriteAnswer.Bytes n)) ↔ (WellFormed S plan × (length (text_of plan) ≤ length lent))
+  pub written_exactly : (a : Result ℕ Refusal) (left : List ℕ) → WritesAs S plan lent a left
+      → ((n : ℕ) × (a ≡ Ok n)) ↔ (WellFormed S plan × (length (text_of plan) ≤ length lent))
   unfolding writing
   written_exactly a left m =
       let d = one.done_exactly (write_entry S plan lent) a left m in
       (λ h. let p = d.0 h in (p.0, p.1), λ h. d.1 (h.0, h.1, refl))
 
-  pub written_leaves : (n : ℕ) (left : List ℕ) → WritesAs S plan lent (WriteAnswer.Bytes n) left
+  pub written_leaves : (n : ℕ) (left : List ℕ) → WritesAs S plan lent (Ok n) left
       → IsWritten S plan lent n left
   unfolding writing
   written_leaves n left m =
-      let d = one.done_leaves (write_entry S plan lent) (WriteAnswer.Bytes n) left m n refl in
+      let d = one.done_leaves (write_entry S plan lent) (Ok n) left m n refl in
       record { sound = d.0.0; room = d.0.1; counts = d.1; leaves = d.2 }
 
 -- ---- the round trips
@@ -132,13 +131,13 @@ front_of new old left n e f = rw f (over_front n new old (sym e))
 
 -- What was read, written again from the entries that reading wrote, is the text, byte for byte.
 pub read_then_written : (S : Settings) → S.devices ≤ held_from → (text lent left : List ℕ) (n : ℕ)
-    → ReadsAs S text lent (ReadAnswer.Lines n) left
-    → (buffer : List ℕ) → length text ≤ length buffer → (answer : WriteAnswer) (written : List ℕ)
+    → ReadsAs S text lent (Ok n) left
+    → (buffer : List ℕ) → length text ≤ length buffer → (answer : Result ℕ Refusal) (written : List ℕ)
     → WritesAs S (take n left) buffer answer written
-    → (answer ≡ WriteAnswer.Bytes (length text)) × (written ≡ over text buffer)
+    → (answer ≡ Ok (length text)) × (written ≡ over text buffer)
 read_then_written S small text lent left n r buffer h answer written w =
     let d = read_leaves S text lent n left r in
-    let u = the_outcome one_write_answer answer written w in
+    let u = the_outcome one_answer answer written w in
     let e =
     ap (λ (p : List ℕ). writing S p buffer) (front_of (spelt S text) lent left n d.counts d.leaves)
     ∙ writing_read S small text ((read_entry S text lent).sound.1 d.sound) buffer h in
@@ -146,13 +145,13 @@ read_then_written S small text lent left n r buffer h answer written w =
 
 -- What was written, read again from the bytes that writing wrote, is the plan, number for number.
 pub written_then_read : (S : Settings) (plan lent left : List ℕ) (n : ℕ)
-    → WritesAs S plan lent (WriteAnswer.Bytes n) left → (list : List ℕ) → length plan ≤ length list
-    → (answer : ReadAnswer) (taken : List ℕ)
+    → WritesAs S plan lent (Ok n) left → (list : List ℕ) → length plan ≤ length list
+    → (answer : Result ℕ Refusal) (taken : List ℕ)
     → ReadsAs S (take n left) list answer taken
-    → (answer ≡ ReadAnswer.Lines (length plan)) × (taken ≡ over plan list)
+    → (answer ≡ Ok (length plan)) × (taken ≡ over plan list)
 written_then_read S plan lent left n r list h answer taken w =
     let d = written_leaves S plan lent n left r in
-    let u = the_outcome one_read_answer answer taken w in
+    let u = the_outcome one_answer answer taken w in
     let e =
     ap (λ (s : List ℕ). reading S s list) (front_of (text_of plan) lent left n d.counts d.leaves)
     ∙ reading_written S plan ((no_fault_exactly S plan).1 d.sound) list h in
@@ -231,7 +230,7 @@ module _ (S : Settings) (text : List ℕ) (offset : ℕ → ℕ) (answer : ℕ �
           ∙ ap (λ (c : Cursor). c.offset) (stays (cursor_from text (offset (k + m))) (answer (k + m)) (rw e h)) ∙ o
 
   -- A text that reading takes comes number by number, and then the end.
-  pub read_line_by_line : (lent left : List ℕ) (n : ℕ) → ReadsAs S text lent (ReadAnswer.Lines n) left
+  pub read_line_by_line : (lent left : List ℕ) (n : ℕ) → ReadsAs S text lent (Ok n) left
       → ((i : ℕ) → i < n → (next : Cursor) × (answer i ≡ LineAnswer.Line (get_or left i 0) next))
       × ((k : ℕ) → n ≤ k → answer k ≡ LineAnswer.End)
   unfolding over

@@ -2,12 +2,13 @@
 -- answer and in what is left. It is enough that answers with the same values are the same, which `theory/Answers` has
 -- of each enum. Then how a promise is met, and handed on as one number.
 use Prim.Native.Nat.{ℕ}
+use Rattle.std.specs.Prelude.{Result}
 use mathlib.Core.List.{List}
 use mathlib.Core.Option.{Option, none, some}
 use mathlib.Core.Path.{◌≡◌, refl, sym, ◌∙◌, ap}
 use Rattle.model.specs.Board.{devices}
 use Rattle.model.specs.Line.{Settings}
-use Rattle.model.specs.Answers.{verdict_values, judge_values}
+use Rattle.model.specs.Answers.{answer_values, judge_values}
 use Rattle.model.specs.Text.{next_line}
 use Rattle.model.specs.Entries.{Outcome, outcome}
 use Rattle.model.specs.Kept.{quick}
@@ -15,9 +16,7 @@ use Rattle.model.specs.Judged.{judging}
 use Rattle.model.specs.declared.Refusal.{Refusal}
 use Rattle.model.specs.declared.Cursor.{Cursor}
 use Rattle.model.specs.declared.LineAnswer.{LineAnswer}
-use Rattle.model.specs.declared.VerdictAnswer.{VerdictAnswer}
-use Rattle.model.specs.declared.JudgeAnswer.{JudgeAnswer}
-use Rattle.theory.proofs.Answers.{one_line_answer, one_verdict_answer, one_judge_answer}
+use Rattle.theory.proofs.Answers.{one_line_answer, one_answer, one_judge_answer}
 use Rattle.model.specs.InOne.{in_one}
 use Rattle.promises.specs.Outcome.{Meets, MeetsInOne}
 use Rattle.promises.specs.Text.{HandsOutAs}
@@ -82,32 +81,32 @@ pub one_line_in_one : (S : Settings) (text : List ℕ) (offset a b : ℕ) → Ha
     → HandsOutForC S text offset b → a ≡ b
 one_line_in_one S text offset a b p q = cc
 
-pub one_judgement : (S : Settings) (plan entries : List ℕ) (a b : JudgeAnswer) → JudgesAs S plan entries a
+pub one_judgement : (S : Settings) (plan entries : List ℕ) (a b : Result (Unit {0}) Refusal) → JudgesAs S plan entries a
     → JudgesAs S plan entries b → a ≡ b
 one_judgement S plan entries a b x y = one_judge_answer a b (x.answers ∙ sym y.answers)
 
-pub the_judgement : (S : Settings) (plan entries : List ℕ) (a : JudgeAnswer) → JudgesAs S plan entries a
+pub the_judgement : (S : Settings) (plan entries : List ℕ) (a : Result (Unit {0}) Refusal) → JudgesAs S plan entries a
     → a ≡ judging S plan entries
 the_judgement S plan entries a x = one_judge_answer a (judging S plan entries) x.answers
 
 -- handed on as one number
-pub judged_in_one : {S : Settings} {plan entries : List ℕ} {a b : JudgeAnswer} {n : ℕ} → JudgesAs S plan entries a
-    → a ≡ b → n ≡ in_one (judge_values b) → JudgesForC S plan entries n
+pub judged_in_one : {S : Settings} {plan entries : List ℕ} {a b : Result (Unit {0}) Refusal} {n : ℕ}
+    → JudgesAs S plan entries a → a ≡ b → n ≡ in_one (judge_values b) → JudgesForC S plan entries n
 judged_in_one x e m = record { answers = handed_on judge_values x.answers e m }
 
 pub one_judgement_in_one : (S : Settings) (plan entries : List ℕ) (a b : ℕ) → JudgesForC S plan entries a
     → JudgesForC S plan entries b → a ≡ b
 one_judgement_in_one S plan entries a b p q = cc
 
-pub one_quick : (plan rs : List ℕ) (a b : VerdictAnswer) → QuickAs plan rs a → QuickAs plan rs b → a ≡ b
-one_quick plan rs a b x y = one_verdict_answer a b (x.answers ∙ sym y.answers)
+pub one_quick : (plan rs : List ℕ) (a b : Result ℕ Refusal) → QuickAs plan rs a → QuickAs plan rs b → a ≡ b
+one_quick plan rs a b x y = one_answer a b (x.answers ∙ sym y.answers)
 
-pub the_quick : (plan rs : List ℕ) (a : VerdictAnswer) → QuickAs plan rs a → a ≡ quick devices plan rs
-the_quick plan rs a x = one_verdict_answer a (quick devices plan rs) x.answers
+pub the_quick : (plan rs : List ℕ) (a : Result ℕ Refusal) → QuickAs plan rs a → a ≡ quick devices plan rs
+the_quick plan rs a x = one_answer a (quick devices plan rs) x.answers
 
-pub quick_in_one : {plan rs : List ℕ} {a b : VerdictAnswer} {n : ℕ} → QuickAs plan rs a → a ≡ b
-    → n ≡ in_one (verdict_values b) → QuickForC plan rs n
-quick_in_one x e m = record { answers = handed_on verdict_values x.answers e m }
+pub quick_in_one : {plan rs : List ℕ} {a b : Result ℕ Refusal} {n : ℕ} → QuickAs plan rs a → a ≡ b
+    → n ≡ in_one (answer_values b) → QuickForC plan rs n
+quick_in_one x e m = record { answers = handed_on answer_values x.answers e m }
 
 pub one_quick_in_one : (plan rs : List ℕ) (a b : ℕ) → QuickForC plan rs a → QuickForC plan rs b → a ≡ b
 one_quick_in_one plan rs a b p q = cc

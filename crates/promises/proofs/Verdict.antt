@@ -4,6 +4,7 @@
 -- legal order; 9 and 10 say that it has none; a refusal is given exactly in a listed case, and leaves the list as it
 -- was.
 use Prim.Native.Nat.{ℕ, ◌≤◌}
+use Rattle.std.specs.Prelude.{Result, Ok, Err}
 use mathlib.Core.Bool.{Bool, true, false}
 use mathlib.Core.List.{List, [], ◌∷◌, ◌++◌, map}
 use mathlib.Core.Option.{Option, none, some, none-ne-some}
@@ -21,7 +22,6 @@ use Rattle.model.specs.Handed.{handed}
 use Rattle.model.specs.Verdict.{no_order, held_at_end}
 use Rattle.model.specs.Entries.{ordering}
 use Rattle.model.specs.declared.Refusal.{Refusal}
-use Rattle.model.specs.declared.VerdictAnswer.{VerdictAnswer}
 use Rattle.theory.specs.WellFormed.{Broken}
 use Rattle.theory.specs.Verdict.{NoOrder}
 use Rattle.theory.proofs.Tests.{clash, falsely}
@@ -35,7 +35,7 @@ use Rattle.promises.specs.Outcome.{faulty, short, further, Refuses}
 use Rattle.promises.specs.Verdict.{OrdersAs, NoVerdict, Apart, StepsOnce}
 use Rattle.promises.specs.Verdict.{Ordered, Decided, ordered, unordered}
 use Rattle.promises.proofs.Outcome as one
-use Rattle.promises.proofs.Outcome.{Entry, orders}
+use Rattle.promises.proofs.Outcome.{Entry, counts}
 
 -- ---- a legal order has each step once
 
@@ -79,9 +79,9 @@ order_refused S p w r =
     rw (sole (no_order S.devices p)) (verdict.refused_exactly S p ((no_fault_exactly S p).1 w) r)
 
 abbrev pub entry : (S : Settings) (p lent : List ℕ)
-    → Entry VerdictAnswer (List ℕ) (WellFormed S p) (Broken S p) (NoOrder S.devices p)
+    → Entry (Result ℕ Refusal) (List ℕ) (WellFormed S p) (Broken S p) (NoOrder S.devices p)
 entry S p lent = record {
-  answers = orders;
+  answers = counts;
   fault = fault S p;
   rest = no_order S.devices p ∷ [];
   sound = no_fault_exactly S p;
@@ -104,21 +104,21 @@ not_broken S p r b low high = go (broken_number S p r b)
 
 module _ (S : Settings) (p lent : List ℕ) where
   -- a refusal exactly in a listed case; it leaves the list
-  pub refused_exactly : (a : VerdictAnswer) (left : List ℕ) → OrdersAs S p lent a left → (r : Refusal)
-      → (a ≡ VerdictAnswer.Refused r) ↔ NoVerdict S p lent r
+  pub refused_exactly : (a : Result ℕ Refusal) (left : List ℕ) → OrdersAs S p lent a left → (r : Refusal)
+      → (a ≡ Err r) ↔ NoVerdict S p lent r
   unfolding ordering
   refused_exactly = one.refused_exactly (entry S p lent)
 
-  pub refused_leaves : (r : Refusal) (left : List ℕ) → OrdersAs S p lent (VerdictAnswer.Refused r) left
+  pub refused_leaves : (r : Refusal) (left : List ℕ) → OrdersAs S p lent (Err r) left
       → Refuses (NoVerdict S p lent) lent r left
   unfolding ordering
-  refused_leaves r left m = one.refused_leaves (entry S p lent) (VerdictAnswer.Refused r) left m r refl
+  refused_leaves r left m = one.refused_leaves (entry S p lent) (Err r) left m r refl
 
   -- what is handed out is a legal order of each step once
-  pub order_is_legal : (n : ℕ) (left : List ℕ) → OrdersAs S p lent (VerdictAnswer.Held n) left → Ordered S p lent n left
+  pub order_is_legal : (n : ℕ) (left : List ℕ) → OrdersAs S p lent (Ok n) left → Ordered S p lent n left
   unfolding ordering held_at_end
   order_is_legal n left m =
-      let d = one.done_leaves (entry S p lent) (VerdictAnswer.Held n) left m n refl in
+      let d = one.done_leaves (entry S p lent) (Ok n) left m n refl in
       let e = sym (sole (no_order S.devices p)) ∙ d.0.2 in
       let legal = accepted_is_legal S p ((no_fault_exactly S p).1 d.0.0) e in
       record {
@@ -130,21 +130,21 @@ module _ (S : Settings) (p lent : List ℕ) where
       }
 
   -- given room for the steps, a plan without a fault is accepted exactly if it has a legal order
-  pub accepted_exactly : (a : VerdictAnswer) (left : List ℕ) → OrdersAs S p lent a left → fault S p ≡ none
-      → length (steps p) ≤ length lent → ((o : List ℕ) × Legal p o) ↔ ((n : ℕ) × (a ≡ VerdictAnswer.Held n))
+  pub accepted_exactly : (a : Result ℕ Refusal) (left : List ℕ) → OrdersAs S p lent a left → fault S p ≡ none
+      → length (steps p) ≤ length lent → ((o : List ℕ) × Legal p o) ↔ ((n : ℕ) × (a ≡ Ok n))
   unfolding ordering
   accepted_exactly a left m sound room = (to, from)
     where
-      to : (o : List ℕ) × Legal p o → (n : ℕ) × (a ≡ VerdictAnswer.Held n)
+      to : (o : List ℕ) × Legal p o → (n : ℕ) × (a ≡ Ok n)
       to l =
           (one.done_exactly (entry S p lent) a left m).1
           ((no_fault_exactly S p).0 sound, room, sole _ ∙ (legal_order_exactly S p sound).0 l)
 
-      from : (n : ℕ) × (a ≡ VerdictAnswer.Held n) → (o : List ℕ) × Legal p o
+      from : (n : ℕ) × (a ≡ Ok n) → (o : List ℕ) × Legal p o
       from h = let o = order_is_legal h.0 left (rw h.1 at m) in (o.order, o.legal)
 
   -- 9 and 10, exactly for their reasons: no order of the plan is legal
-  pub no_order_exists : (r : Refusal) (left : List ℕ) → OrdersAs S p lent (VerdictAnswer.Refused r) left
+  pub no_order_exists : (r : Refusal) (left : List ℕ) → OrdersAs S p lent (Err r) left
       → 9 ≤ number_of r → number_of r ≤ 10 → NoOrder S.devices p r × ((o : List ℕ) → Legal p o → ⊥)
   no_order_exists r left m = go r (refused_leaves r left m).listed
     where
@@ -155,13 +155,13 @@ module _ (S : Settings) (p lent : List ℕ) where
       go r (further s w h n) low high = (n, no_legal_order S.devices p w.rules s n)
 
   -- The verdict on a plan without a fault, given room: a legal order, or 9 or 10 and there is none.
-  pub decided : (a : VerdictAnswer) (left : List ℕ) → OrdersAs S p lent a left → WellFormed S p
+  pub decided : (a : Result ℕ Refusal) (left : List ℕ) → OrdersAs S p lent a left → WellFormed S p
       → length (steps p) ≤ length lent → Decided S p lent a left
-  decided (VerdictAnswer.Held n) left m w room = ordered n left (order_is_legal n left m)
-  decided (VerdictAnswer.Refused r) left m w room =
+  decided (Ok n) left m w room = ordered n left (order_is_legal n left m)
+  decided (Err r) left m w room =
       let d = refused_leaves r left m in rw d.leaves (go r d.listed)
     where
-      go : (r : Refusal) → NoVerdict S p lent r → Decided S p lent (VerdictAnswer.Refused r) lent
+      go : (r : Refusal) → NoVerdict S p lent r → Decided S p lent (Err r) lent
       go r (faulty s b) =
           absurd (none-ne-some s (sym ((no_fault_exactly S p).1 w) ∙ (fault_exactly S p s).1 b))
       go r (short s h) = absurd (omega arith)

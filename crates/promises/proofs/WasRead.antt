@@ -2,6 +2,7 @@
 -- text and then go on with its plan: a refusal is the text's fault, since the list is long enough for every plan;
 -- otherwise the text has no fault, and the plan that it spells stands in front of the list.
 use Prim.Native.Nat.{ℕ, ◌≤◌}
+use Rattle.std.specs.Prelude.{Result, Ok, Err}
 use mathlib.Core.List.{List}
 use mathlib.Core.Option.{none, some}
 use mathlib.Core.Path.{◌≡◌}
@@ -12,15 +13,15 @@ use Rattle.model.specs.Text.{spelt}
 use Rattle.model.specs.WellFormed.{fault}
 use Rattle.model.specs.Entries.{text_fault}
 use Rattle.model.specs.declared.Refusal.{Refusal}
-use Rattle.model.specs.declared.ReadAnswer.{ReadAnswer}
 use Rattle.theory.proofs.Text.{text_fault_exactly}
 use Rattle.theory.proofs.WellFormed.{no_fault_exactly}
 use Rattle.promises.specs.Outcome.{faulty, short, further}
 use Rattle.promises.specs.Text.{ReadsAs, NotRead, IsRead}
 use Rattle.promises.proofs.Text.{read_entry, read_refused_exactly, read_leaves, front_of}
 
-module _ (S : Settings) (text lent : List ℕ) {a : ReadAnswer} {left : List ℕ} (m : ReadsAs S text lent a left) where
-  pub read_fault : length lent ≡ max_lines → (r : Refusal) → a ≡ ReadAnswer.Refused r → text_fault S text ≡ some r
+module _ (S : Settings) (text lent : List ℕ) {a : Result ℕ Refusal} {left : List ℕ}
+    (m : ReadsAs S text lent a left) where
+  pub read_fault : length lent ≡ max_lines → (r : Refusal) → a ≡ Err r → text_fault S text ≡ some r
   read_fault long r q = go r ((read_refused_exactly S text lent a left m r).0 q)
     where
       go : (r : Refusal) → NotRead S text lent r → text_fault S text ≡ some r
@@ -28,7 +29,7 @@ module _ (S : Settings) (text lent : List ℕ) {a : ReadAnswer} {left : List ℕ
       go r (short s h) = absurd (omega (arith, s.1.few))
       go r (further s b h f) = absurd f
 
-  module _ {n : ℕ} (q : a ≡ ReadAnswer.Lines n) where
+  module _ {n : ℕ} (q : a ≡ Ok n) where
     is_read : IsRead S text lent n left
     is_read = read_leaves S text lent n left (rw q at m)
 

@@ -1,17 +1,17 @@
 -- What `judge` promises (02, request 1), and the words for what follows. `entries` is the order from elsewhere, as line
 -- numbers; nothing that is lent is written to.
 use Rattle.std.specs.Prelude.{ℕ, List, ◌≡◌}
+use Rattle.std.specs.Prelude.{Result}
 use Rattle.model.specs.Line.{Settings}
 use Rattle.model.specs.Answers.{judge_values}
 use Rattle.model.specs.WellFormed.{WellFormed}
 use Rattle.model.specs.Judged.{judging}
 use Rattle.model.specs.declared.Refusal.{Refusal}
 use Rattle.model.specs.declared.Refusal.TheVariants.{IllegalStep}
-use Rattle.model.specs.declared.JudgeAnswer.{JudgeAnswer}
 use Rattle.theory.specs.WellFormed.{Broken}
 use Rattle.theory.specs.Judged.{StrayAt}
 
-pub record JudgesAs (S : Settings) (plan entries : List ℕ) (answer : JudgeAnswer) : Type 0 where
+pub record JudgesAs (S : Settings) (plan entries : List ℕ) (answer : Result (Unit {0}) Refusal) : Type 0 where
   pub answers : judge_values answer ≡ judge_values (judging S plan entries)
 
 -- ---- what follows

@@ -2,7 +2,8 @@
 -- the morning. What is lent beside the plan is a table, rows and a list whose first number is the held set, and of each
 -- what is left has a mark. `quick` writes to nothing that is lent.
 use Rattle.std.specs.Prelude.{ℕ, ◌<◌, ◌≤◌, List, [], ◌∷◌, ◌≡◌, length, take}
-use Rattle.model.specs.Answers.{table_values, verdict_values, move_values}
+use Rattle.std.specs.Prelude.{Result, Ok, Err}
+use Rattle.model.specs.Answers.{answer_values}
 use Rattle.model.specs.WellFormed.{WellFormed}
 use Rattle.model.specs.Claims.{table}
 use Rattle.model.specs.Rows.{rows}
@@ -10,9 +11,6 @@ use Rattle.model.specs.Kept.{held_to_end, Beside, building, LentBeside, moving_k
 use Rattle.model.specs.Board.{devices, board}
 use Rattle.model.specs.declared.Refusal.{Refusal}
 use Rattle.model.specs.declared.Refusal.TheVariants.{ListTooShort}
-use Rattle.model.specs.declared.TableAnswer.{TableAnswer}
-use Rattle.model.specs.declared.VerdictAnswer.{VerdictAnswer}
-use Rattle.model.specs.declared.MoveAnswer.{MoveAnswer}
 use Rattle.theory.specs.WellFormed.{Broken}
 use Rattle.theory.specs.Verdict.{NoOrderBy}
 use Rattle.theory.specs.Move.{Refused, Ask}
@@ -24,24 +22,24 @@ use Rattle.promises.specs.Move.{NotMoved, Afresh}
 abbrev pub beside : List ℕ → List ℕ → List ℕ → Beside
 beside sets rs held = record { sets = sets; rows = rs; held = held }
 
-abbrev pub BuildsWith : List ℕ → Beside → TableAnswer → Beside → Type 0
-BuildsWith plan lent answer left = Meets table_values (building devices plan lent) answer left
+abbrev pub BuildsWith : List ℕ → Beside → Result ℕ Refusal → Beside → Type 0
+BuildsWith plan lent answer left = Meets answer_values (building devices plan lent) answer left
 
-abbrev pub BuildsAs : List ℕ → List ℕ → List ℕ → List ℕ → TableAnswer → List ℕ → List ℕ → List ℕ → Type 0
+abbrev pub BuildsAs : List ℕ → List ℕ → List ℕ → List ℕ → Result ℕ Refusal → List ℕ → List ℕ → List ℕ → Type 0
 BuildsAs plan sets rs held answer sets' rs' held' =
     BuildsWith plan (beside sets rs held) answer (beside sets' rs' held')
 
-abbrev pub MovesKeptWith : List ℕ → Beside → ℕ → ℕ → MoveAnswer → List ℕ → Beside → Type 0
+abbrev pub MovesKeptWith : List ℕ → Beside → ℕ → ℕ → Result ℕ Refusal → List ℕ → Beside → Type 0
 MovesKeptWith p lent line device answer p' left =
-    Meets move_values (moving_kept devices p lent line device) answer (record { plan = p'; beside = left })
+    Meets answer_values (moving_kept devices p lent line device) answer (record { plan = p'; beside = left })
 
-abbrev pub MovesKeptAs : List ℕ → List ℕ → List ℕ → List ℕ → ℕ → ℕ → MoveAnswer → List ℕ → List ℕ → List ℕ → List ℕ
-    → Type 0
+abbrev pub MovesKeptAs : List ℕ → List ℕ → List ℕ → List ℕ → ℕ → ℕ → Result ℕ Refusal → List ℕ → List ℕ → List ℕ
+    → List ℕ → Type 0
 MovesKeptAs p sets rs held line device answer p' sets' rs' held' =
     MovesKeptWith p (beside sets rs held) line device answer p' (beside sets' rs' held')
 
-pub record QuickAs (plan rs : List ℕ) (answer : VerdictAnswer) : Type 0 where
-  pub answers : verdict_values answer ≡ verdict_values (quick devices plan rs)
+pub record QuickAs (plan rs : List ℕ) (answer : Result ℕ Refusal) : Type 0 where
+  pub answers : answer_values answer ≡ answer_values (quick devices plan rs)
 
 -- ---- the listed cases
 
@@ -96,7 +94,7 @@ pub record OwnBeside (plan : List ℕ) (lent : Beside) : Type 0 where
 -- by these rows it is the verdict's answer, in number, place and count
 abbrev pub Agrees : List ℕ → List ℕ → Type 0
 Agrees plan rs =
-    (a b : VerdictAnswer) (lent left : List ℕ) → length plan ≤ length lent → QuickAs plan rs a
+    (a b : Result ℕ Refusal) (lent left : List ℕ) → length plan ≤ length lent → QuickAs plan rs a
     → OrdersAs board plan lent b left → a ≡ b
 
 -- ---- moves from a plan without a fault and its own table, rows and held set
@@ -107,23 +105,23 @@ Agrees plan rs =
 pub record AfreshKept (p : List ℕ) (lent : Beside) (line device count : ℕ) (p' : List ℕ) (left : Beside)
     : Type 0 where
   pub as_before : Afresh board p lent.sets line device count p' left.sets
-  pub builds : BuildsWith p' lent (TableAnswer.Lines (length p')) left
+  pub builds : BuildsWith p' lent (Ok (length p')) left
   pub only : WritesOnly devices p lent line device left
   pub agrees : Agrees p' left.rows
 
 -- a move there: refused by 12 or 13, with nothing changed, or accepted
-pub data MovedKept (p : List ℕ) (lent : Beside) (line device : ℕ) : MoveAnswer → List ℕ → Beside → Type 0 where
+pub data MovedKept (p : List ℕ) (lent : Beside) (line device : ℕ) : Result ℕ Refusal → List ℕ → Beside → Type 0 where
   not_moved : (r : Refusal) → Refused board p line device r
-      → MovedKept p lent line device (MoveAnswer.Refused r) p lent
+      → MovedKept p lent line device (Err r) p lent
   is_moved : (n : ℕ) (p' : List ℕ) (left : Beside) → AfreshKept p lent line device n p' left
-      → MovedKept p lent line device (MoveAnswer.Changed n) p' left
+      → MovedKept p lent line device (Ok n) p' left
 
 -- ---- any list of moves, refused ones among them
 
 -- one move after the other, each as it promises
 pub data MovesKept : LentBeside → List Ask → LentBeside → Type 0 where
   none_asked : (s : LentBeside) → MovesKept s [] s
-  one_more : (s u v : LentBeside) (a : Ask) (asks : List Ask) (answer : MoveAnswer)
+  one_more : (s u v : LentBeside) (a : Ask) (asks : List Ask) (answer : Result ℕ Refusal)
       → MovesKeptWith s.plan s.beside a.line a.device answer u.plan u.beside → MovesKept u asks v
       → MovesKept s (a ∷ asks) v
 
@@ -133,8 +131,8 @@ pub data MovesKept : LentBeside → List Ask → LentBeside → Type 0 where
 pub record StaysRightKept (s v : LentBeside) : Type 0 where
   pub lines : length v.plan ≡ length s.plan
   pub own : OwnBeside v.plan v.beside
-  pub builds : BuildsWith v.plan s.beside (TableAnswer.Lines (length v.plan)) v.beside
+  pub builds : BuildsWith v.plan s.beside (Ok (length v.plan)) v.beside
   pub agrees : Agrees v.plan v.beside.rows
-  pub next : (a : Ask) (answer : MoveAnswer) (p' : List ℕ) (left : Beside)
+  pub next : (a : Ask) (answer : Result ℕ Refusal) (p' : List ℕ) (left : Beside)
       → MovesKeptWith v.plan v.beside a.line a.device answer p' left
       → MovedKept v.plan v.beside a.line a.device answer p' left

@@ -3,7 +3,8 @@
 -- promise here and in the files beside this one is one for both readers. `text` or `plan` is what is read from, `lent`
 -- the list as it came, `left` the list as it is left.
 use Rattle.std.specs.Prelude.{ℕ, suc, ◌<◌, ◌≤◌, true, false, List, ◌≡◌, length}
-use Rattle.model.specs.Answers.{line_values, read_values, write_values}
+use Rattle.std.specs.Prelude.{Result}
+use Rattle.model.specs.Answers.{line_values, answer_values}
 use Rattle.model.specs.Line.{Settings, is_line, at, line_number, max_lines, max_bytes}
 use Rattle.model.specs.Text.{spelt, text_of, next_line, cursor_after, cursor_from, line_from}
 use Rattle.model.specs.WellFormed.{WellFormed}
@@ -12,8 +13,6 @@ use Rattle.model.specs.declared.Refusal.{Refusal}
 use Rattle.model.specs.declared.Refusal.TheVariants.{TextTooLong, Malformed, TooManyLines}
 use Rattle.model.specs.declared.Cursor.{Cursor}
 use Rattle.model.specs.declared.LineAnswer.{LineAnswer}
-use Rattle.model.specs.declared.ReadAnswer.{ReadAnswer}
-use Rattle.model.specs.declared.WriteAnswer.{WriteAnswer}
 use Rattle.theory.specs.WellFormed.{Broken}
 use Rattle.theory.specs.Text.{TextBroken}
 use Rattle.promises.specs.Outcome.{Meets, Listed, NoFurther, Fills}
@@ -22,11 +21,11 @@ use Rattle.promises.specs.Outcome.{Meets, Listed, NoFurther, Fills}
 pub record HandsOutAs (S : Settings) (text : List ℕ) (cursor : Cursor) (answer : LineAnswer) : Type 0 where
   pub answers : line_values answer ≡ line_values (next_line S text cursor)
 
-abbrev pub ReadsAs : Settings → List ℕ → List ℕ → ReadAnswer → List ℕ → Type 0
-ReadsAs S text lent answer left = Meets read_values (reading S text lent) answer left
+abbrev pub ReadsAs : Settings → List ℕ → List ℕ → Result ℕ Refusal → List ℕ → Type 0
+ReadsAs S text lent answer left = Meets answer_values (reading S text lent) answer left
 
-abbrev pub WritesAs : Settings → List ℕ → List ℕ → WriteAnswer → List ℕ → Type 0
-WritesAs S plan lent answer left = Meets write_values (writing S plan lent) answer left
+abbrev pub WritesAs : Settings → List ℕ → List ℕ → Result ℕ Refusal → List ℕ → Type 0
+WritesAs S plan lent answer left = Meets answer_values (writing S plan lent) answer left
 
 -- ---- reading and writing
 

@@ -2,21 +2,21 @@
 -- (02, request 5) an order has the steps of the plan, which are its lines but for the held ones; in the morning these
 -- are all lines.
 use Rattle.std.specs.Prelude.{ℕ, ◌<◌, true, false, List, [], ◌∷◌, ◌++◌, map, ◌≡◌, length}
+use Rattle.std.specs.Prelude.{Result, Ok, Err}
 use Rattle.model.specs.Lists.{up_from, has, those, over}
 use Rattle.model.specs.Line.{Settings, line_number}
 use Rattle.model.specs.Mate.{held_at, held_lines, steps}
 use Rattle.model.specs.Legal.{held, Legal}
-use Rattle.model.specs.Answers.{verdict_values}
+use Rattle.model.specs.Answers.{answer_values}
 use Rattle.model.specs.WellFormed.{WellFormed}
 use Rattle.model.specs.Entries.{ordering}
 use Rattle.model.specs.declared.Refusal.{Refusal}
-use Rattle.model.specs.declared.VerdictAnswer.{VerdictAnswer}
 use Rattle.theory.specs.WellFormed.{Broken}
 use Rattle.theory.specs.Verdict.{NoOrder}
 use Rattle.promises.specs.Outcome.{Meets, Listed}
 
-abbrev pub OrdersAs : Settings → List ℕ → List ℕ → VerdictAnswer → List ℕ → Type 0
-OrdersAs S plan lent answer left = Meets verdict_values (ordering S plan lent) answer left
+abbrev pub OrdersAs : Settings → List ℕ → List ℕ → Result ℕ Refusal → List ℕ → Type 0
+OrdersAs S plan lent answer left = Meets answer_values (ordering S plan lent) answer left
 
 -- ---- what follows
 
@@ -49,7 +49,7 @@ pub record Ordered (S : Settings) (plan lent : List ℕ) (still_held : ℕ) (lef
 
 -- The verdict on a plan without a fault, in a list that is long enough: a legal order; or 9 or 10 for its reason, no
 -- order of the plan is legal, and the list is as it was.
-pub data Decided (S : Settings) (plan lent : List ℕ) : VerdictAnswer → List ℕ → Type 0 where
-  ordered : (n : ℕ) (left : List ℕ) → Ordered S plan lent n left → Decided S plan lent (VerdictAnswer.Held n) left
+pub data Decided (S : Settings) (plan lent : List ℕ) : Result ℕ Refusal → List ℕ → Type 0 where
+  ordered : (n : ℕ) (left : List ℕ) → Ordered S plan lent n left → Decided S plan lent (Ok n) left
   unordered : (r : Refusal) → NoOrder S.devices plan r → ((o : List ℕ) → Legal plan o → ⊥)
-      → Decided S plan lent (VerdictAnswer.Refused r) lent
+      → Decided S plan lent (Err r) lent

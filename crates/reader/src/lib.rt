@@ -3,9 +3,9 @@
 // cursor, of the crate `lines`, makes the step.
 #![tactic(auto)]
 
-ghost use Rattle.std.specs.Prelude.{◌≡◌};
+ghost use Rattle.std.specs.Prelude.{◌≡◌, ◌==◌, count_by, take};
 ghost use Rattle.model.specs.Board.{board};
-ghost use Rattle.model.specs.Text.{newlines_before, line_from};
+ghost use Rattle.model.specs.Text.{newline, line_from};
 ghost use Rattle.promises.specs.ForC.{HandsOutForC};
 
 use model::{Cursor, LineAnswer};
@@ -14,20 +14,9 @@ use model::{Cursor, LineAnswer};
 
 // How many newlines stand before the offset, or in the whole text, if it ends earlier.
 fn newlines_before(text: &[u8], offset: usize) -> usize
-    ensures { result ≡ newlines_before text.now offset }
+    ensures { result ≡ count_by (λ b. b == newline) (take offset text.now) }
 {
-    let mut lines: usize = 0;
-    let mut i = 0;
-    while i < text.len() {
-        if i == offset {
-            return lines;
-        }
-        if text[i] == b'\n' {
-            lines += 1;
-        }
-        i += 1;
-    }
-    lines
+    text.iter().take(offset).filter(|b| **b == b'\n').count()
 }
 
 // The line at the offset, with the cursor past it; a refusal with its place; or the end.
@@ -41,33 +30,32 @@ fn line_from(text: &[u8], offset: usize) -> LineAnswer
 // ---- the struct, and what is done with it
 
 // The lent text, and the offset of the next line.
-#[derive(Drop)]
+#[derive(Clone, Copy)]
 pub struct Reader<'a> {
     pub text: &'a [u8],
     pub offset: usize,
 }
 
-// A reader that stands before the first line.
-pub fn new<'a>(text: &'a [u8]) -> Reader<'a>
-    ensures { (result.text ≡ text.entry) × (result.offset ≡ 0) }
-{
-    Reader { text, offset: 0 }
-}
+impl<'a> Reader<'a> {
+    // A reader that stands before the first line.
+    pub fn new(text: &'a [u8]) -> Reader<'a>
+        ensures { (result.text ≡ text.entry) × (result.offset ≡ 0) }
+    {
+        Reader { text, offset: 0 }
+    }
 
-// What the reader hands out next.
-pub fn next<'a>(r: Reader<'a>) -> LineAnswer
-    ensures { result ≡ line_from board r.entry.text.now r.entry.offset }
-{
-    line_from(r.text, r.offset)
-}
+    // What the reader hands out next.
+    pub fn next(self) -> LineAnswer
+        ensures { result ≡ line_from board self.entry.text.now self.entry.offset }
+    {
+        line_from(self.text, self.offset)
+    }
 
-// The reader of the same text at another offset.
-pub fn moved<'a>(r: Reader<'a>, offset: usize) -> Reader<'a>
-    ensures { (result.text ≡ r.entry.text) × (result.offset ≡ offset) }
-{
-    Reader {
-        text: r.text,
-        offset,
+    // The reader of the same text at another offset.
+    pub fn moved(self, offset: usize) -> Reader<'a>
+        ensures { (result.text ≡ self.entry.text) × (result.offset ≡ offset) }
+    {
+        Reader { offset, ..self }
     }
 }
 
@@ -77,7 +65,7 @@ pub fn moved<'a>(r: Reader<'a>, offset: usize) -> Reader<'a>
 pub fn line_at(text: &[u8], offset: usize) -> LineAnswer
     ensures { result ≡ line_from board text.now offset }
 {
-    next(moved(new(text), offset))
+    Reader::new(text).moved(offset).next()
 }
 
 // For callers in C and Rust: the packed number of the line at the offset, 0 at the end, or a refusal's number times
@@ -87,7 +75,7 @@ pub extern "C" fn gimmerskip_line(text: &[u8], offset: usize) -> u64
     ensures { HandsOutForC board text.now offset result }
 {
     match line_at(text, offset) {
-        LineAnswer::Line(n, _) => n as u64,
+        LineAnswer::Line(n, _) => u64::from(n),
         LineAnswer::Refused(r) => refusals::in_one(r),
         LineAnswer::End => 0,
     }

@@ -5,11 +5,12 @@ use Prim.Native.Nat.{ℕ, suc, ◌≤◌}
 use mathlib.Core.Bool.{Bool, true, false, cond}
 use mathlib.Core.List.{List, [], ◌∷◌, map}
 use mathlib.Core.Option.{Option, none, some, get_or, none-ne-some}
-use mathlib.Core.Path.{◌≡◌, refl, sym}
+use mathlib.Core.Path.{◌≡◌, refl, sym, ap}
 use native.Mathlib.Omega.{arith}
 use lib.Dec.{leb}
 use lib.ListN.{length, take, drop, length-append}
 use lib.Seq.{take_at}
+use Rattle.std.specs.Prelude.{Result, Ok, Err}
 use Rattle.model.specs.Answers.{first_refusal}
 use Rattle.model.specs.Line.{Settings, is_line, line_number, max_lines}
 use Rattle.model.specs.Lists.{over}
@@ -20,7 +21,7 @@ use Rattle.model.specs.declared.Refusal.TheVariants.{Malformed, TooManyLines}
 use Rattle.theory.proofs.Text.{number_in}
 use Rattle.theory.proofs.Line.{zero_no_line}
 use Rattle.lines.specs.Gathered.{handed_out, stops_with, gathered, GathersAs}
-use Rattle.lines.specs.declared.Gathered.{Gathered}
+use Rattle.lines.specs.declared.Stopped.{Stopped}
 use Rattle.lines.proofs.Gathering.{all_room, gathers_over}
 
 fault_many : (S : Settings) (b : List ℕ) (l : ℕ) → leb max_lines (length b) ≡ true
@@ -100,7 +101,7 @@ module _ (S : Settings) (text lent left : List ℕ) (long : length lent ≡ max_
   abbrev out : List ℕ
   out = handed_out S 0 (lines_of text)
 
-  front : (n : ℕ) (a : Gathered) → n ≡ length out → GathersAs S text lent a left → Front S text n left
+  front : (n : ℕ) (a : Result ℕ Stopped) → n ≡ length out → GathersAs S text lent a left → Front S text n left
   unfolding over
   front n a e g =
       let few = all_room S (lines_of text) in
@@ -111,22 +112,23 @@ module _ (S : Settings) (text lent left : List ℕ) (long : length lent ≡ max_
         lines = rw l (take_at out (drop (length out) lent) n (sym e));
       }
 
-  pub stopped_front : (n : ℕ) (r : Refusal) → GathersAs S text lent (Gathered.Stopped n r) left
-      → Front S text n left × (stops_with S 0 (lines_of text) ≡ some r)
+  pub stopped_front : (s : Stopped) → GathersAs S text lent (Err s) left
+      → Front S text s.lines left × (stops_with S 0 (lines_of text) ≡ some s.refusal)
   unfolding gathered
-  stopped_front n r g = go (stops_with S 0 (lines_of text)) g.answers
+  stopped_front s g = go (stops_with S 0 (lines_of text)) g.answers
     where
-      go : (o : Option Refusal) → Gathered.Stopped n r ≡ gathered (length out) o
-          → Front S text n left × (o ≡ some r)
-      go none e = let z : ◌≡◌ {A = ℕ} 0 1 = cc in absurd (omega arith)
-      go (some q) e = (front n (Gathered.Stopped n r) (cc) g, cc)
+      go : (o : Option Refusal) → Err s ≡ gathered (length out) o
+          → Front S text s.lines left × (o ≡ some s.refusal)
+      go none e = cc
+      go (some q) e =
+          let same : s ≡ record { lines = length out; refusal = q } = cc in
+          (front s.lines (Err s) (ap (λ (x : Stopped). x.lines) same) g, rw same)
 
-  pub all_front : (n : ℕ) → GathersAs S text lent (Gathered.All n) left
+  pub all_front : (n : ℕ) → GathersAs S text lent (Ok n) left
       → Front S text n left × (stops_with S 0 (lines_of text) ≡ none)
   unfolding gathered
   all_front n g = go (stops_with S 0 (lines_of text)) g.answers
     where
-      go : (o : Option Refusal) → Gathered.All n ≡ gathered (length out) o
-          → Front S text n left × (o ≡ none)
-      go none e = (front n (Gathered.All n) (cc) g, refl)
-      go (some q) e = let z : ◌≡◌ {A = ℕ} 0 1 = cc in absurd (omega arith)
+      go : (o : Option Refusal) → Ok n ≡ gathered (length out) o → Front S text n left × (o ≡ none)
+      go none e = (front n (Ok n) (cc) g, refl)
+      go (some q) e = cc

@@ -1,5 +1,6 @@
 // Number and place of a refusal (01, "Refusal numbers", and 02's so far), for what is printed and for callers in other
-// languages.
+// languages. They are functions: a case with a place has no number that `as` reads, and an impl of `From` for the
+// refusal of `model` and a number of the language could not stand here.
 #![tactic(auto)]
 
 ghost use Rattle.std.specs.Prelude.{◌≡◌};
@@ -11,6 +12,9 @@ use model::Refusal;
 
 // The place of a line too many.
 const LINE_TOO_MANY: u32 = MOST_LINES as u32 + 1;
+
+// So many numbers has the lower half of a number of 64 bits room for.
+const HALF: u64 = 1 << 32;
 
 // The refusal's number.
 pub fn number(r: Refusal) -> u32
@@ -42,21 +46,19 @@ pub fn place(r: Refusal) -> u32
 {
     match r {
         Refusal::TextTooLong => 0,
-        Refusal::Malformed(line) => line,
         Refusal::TooManyLines => LINE_TOO_MANY,
-        Refusal::JobOutOfSequence(line) => line,
-        Refusal::BadStart(line) => line,
-        Refusal::NeverStarted(line) => line,
-        Refusal::GiveWithoutTake(line) => line,
-        Refusal::TwoLasting(device) => device,
-        Refusal::LeadsBack(device) => device,
+        Refusal::TwoLasting(device) | Refusal::LeadsBack(device) => device,
         Refusal::ListTooShort(needed) => needed,
-        Refusal::NotATake(asked) => asked,
-        Refusal::NoSuchDevice(asked) => asked,
-        Refusal::StaleTable(line) => line,
+        Refusal::NotATake(asked) | Refusal::NoSuchDevice(asked) => asked,
         Refusal::IllegalStep(position) => position,
-        Refusal::HeldTwice(line) => line,
-        Refusal::HeldLate(line) => line,
+        Refusal::Malformed(line)
+        | Refusal::JobOutOfSequence(line)
+        | Refusal::BadStart(line)
+        | Refusal::NeverStarted(line)
+        | Refusal::GiveWithoutTake(line)
+        | Refusal::StaleTable(line)
+        | Refusal::HeldTwice(line)
+        | Refusal::HeldLate(line) => line,
     }
 }
 
@@ -71,5 +73,5 @@ pub fn values(r: Refusal) -> [u32; 2]
 pub fn in_one(r: Refusal) -> u64
     ensures { result ≡ in_one (refusal_values r) }
 {
-    number(r) as u64 * 4294967296 + place(r) as u64
+    u64::from(number(r)) * HALF + u64::from(place(r))
 }

@@ -84,18 +84,21 @@ module _ (p again : List ℕ) (k : ℕ) (pre : (fault board p ≡ none) × (agai
 -- the two sets have the lasting takes from line i on
 pub record Counted (p : List ℕ) (passed : Passed) (i : ℕ) : Type 0 where
   pub in_plan : i ≤ length p
-  pub held_below : passed.held < 2 ^ devices
-  pub twice_below : passed.twice < 2 ^ devices
-  pub held_is : (d : ℕ) → d < devices → member passed.held d ≡ leb 1 (how_many p d i)
-  pub twice_is : (d : ℕ) → d < devices → member passed.twice d ≡ leb 2 (how_many p d i)
+  pub held_below : passed.holds.held < 2 ^ devices
+  pub twice_below : passed.holds.twice < 2 ^ devices
+  pub held_is : (d : ℕ) → d < devices → member passed.holds.held d ≡ leb 1 (how_many p d i)
+  pub twice_is : (d : ℕ) → d < devices → member passed.holds.twice d ≡ leb 2 (how_many p d i)
 
 -- what is wanted after the line before line i is at hand
 abbrev pub Knows : List ℕ → Passed → ℕ → Type 0
 Knows p passed i =
     (k : ℕ) → suc k ≡ i → wanted_after (at p k) passed.job passed.wanted ≡ wanted (job (at p k)) (drop i p)
 
+abbrev pub none_passed : Passed
+none_passed = record { job = 0; wanted = 0; lasts = false; holds = record { held = 0; twice = 0 } }
+
 pub none_counted : (p : List ℕ)
-    → Counted p (record { job = 0; wanted = 0; lasts = false; held = 0; twice = 0 }) (length p)
+    → Counted p none_passed (length p)
 unfolding empty
 none_counted p = record {
   in_plan = omega arith;
@@ -106,7 +109,7 @@ none_counted p = record {
 }
 
 pub none_known : (p : List ℕ)
-    → Knows p (record { job = 0; wanted = 0; lasts = false; held = 0; twice = 0 }) (length p)
+    → Knows p none_passed (length p)
 none_known p k e = rw (drop_of_length-le p {i = length p} (omega arith)) (after_is (at p k) [] 0 0 none_wanting)
 
 -- a lasting take is an outermost take
@@ -149,19 +152,19 @@ module _ (p : List ℕ) (few : length p ≤ max_lines) (old new : Passed) (k : �
       go true = only_of_below devices (operand (at p k))
       go false = empty_below devices
 
-  held_on : (d : ℕ) → d < devices → member (union one old.held) d ≡ leb 1 (how_many p d k)
+  held_on : (d : ℕ) → d < devices → member (union one old.holds.held) d ≡ leb 1 (how_many p d k)
   held_on d h =
-      member_union one old.held d ∙ rw (member_one d h, m.held_is d h, more_on p d k _ m.in_plan refl)
+      member_union one old.holds.held d ∙ rw (member_one d h, m.held_is d h, more_on p d k _ m.in_plan refl)
       (go (lasting p k d) (how_many p d (suc k)))
     where
       go : (b : Bool) (n : ℕ) → (b || leb 1 n) ≡ leb 1 (cond b (suc n) n)
       go true n = sym (le-leb 1 (suc n) (omega arith))
       go false n = refl
 
-  twice_on : (d : ℕ) → d < devices → member (union (both old.held one) old.twice) d ≡ leb 2 (how_many p d k)
+  twice_on : (d : ℕ) → d < devices → member (union (both old.holds.held one) old.holds.twice) d ≡ leb 2 (how_many p d k)
   twice_on d h =
-      member_union (both old.held one) old.twice d
-      ∙ rw (member_both old.held one d, member_one d h, m.held_is d h, m.twice_is d h)
+      member_union (both old.holds.held one) old.holds.twice d
+      ∙ rw (member_both old.holds.held one d, member_one d h, m.held_is d h, m.twice_is d h)
       (rw (more_on p d k _ m.in_plan refl) (go (lasting p k d) (how_many p d (suc k))))
     where
       go : (b : Bool) (n : ℕ) → ((leb 1 n && b) || leb 2 n) ≡ leb 2 (cond b (suc n) n)
@@ -190,12 +193,12 @@ module _ (p : List ℕ) (few : length p ≤ max_lines) (old new : Passed) (k : �
   pub counted_on : Counted p new k
   counted_on = record {
     in_plan = omega (arith, m.in_plan);
-    held_below = rw n.held_is (union_below devices one old.held one_below m.held_below);
-    twice_below = rw n.twice_is
-        (union_below devices (both old.held one) old.twice (both_below devices old.held one m.held_below)
-        m.twice_below);
-    held_is = rw n.held_is held_on;
-    twice_is = rw n.twice_is twice_on;
+    held_below = rw n.holds_are (union_below devices one old.holds.held one_below m.held_below);
+    twice_below = rw n.holds_are
+        (union_below devices (both old.holds.held one) old.holds.twice
+        (both_below devices old.holds.held one m.held_below) m.twice_below);
+    held_is = rw n.holds_are held_on;
+    twice_is = rw n.holds_are twice_on;
   }
 
 -- one line further back that is no lasting take
@@ -224,14 +227,14 @@ some_take f (x ∷ xs) = go (f x) (some_take f xs)
     go false ih = ih
 
 pub all_counted : (p : List ℕ) → ((i : ℕ) → is_held (at p i) ≡ false) → (passed : Passed) → Counted p passed 0
-    → HeldAs passed p
+    → HeldAs passed.holds p
 unfolding held_to_end lasts_in lasts_among held_twice lasting_takes
 all_counted p unheld passed m = record {
   to_end =
-      is_where (λ d. any (λ k. lasting p k d) (positions p)) devices passed.held m.held_below
+      is_where (λ d. any (λ k. lasting p k d) (positions p)) devices passed.holds.held m.held_below
       (λ d k. m.held_is d k ∙ ap (λ xs. leb 1 (length xs)) (takes_all p d)
       ∙ some_take (λ k. lasting p k d) (positions p));
   twice =
-      is_where (λ d. leb 2 (length (keepers p d))) devices passed.twice m.twice_below
+      is_where (λ d. leb 2 (length (keepers p d))) devices passed.holds.twice m.twice_below
       (λ d k. m.twice_is d k ∙ ap (λ xs. leb 2 (length xs)) (takes_all p d ∙ sym (keepers_lasting p unheld d)));
 }

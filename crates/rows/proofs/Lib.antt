@@ -1,4 +1,5 @@
 -- The laws of `rows`.
+pub mod Unions
 pub mod Where
 pub mod Entries
 pub mod Smaller

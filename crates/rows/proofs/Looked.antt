@@ -1,11 +1,12 @@
 -- One look at the rows (02, request 3): what a device adds to the devices that lead into a set and to those that a
 -- set's devices lead to, and the members of both. Over any number of devices, as many as there are rows.
-use Rattle.std.proofs.Common.{◌≡◌, ℕ, ◌^◌, ◌<◌, ◌≤◌, true, false, cond, not, eqb, ◌⊎◌, List, length, sym, ap, ◌∙◌, inl}
-use Rattle.std.proofs.Common.{inr, lt_of_le_of_lt, arith, eqb-true}
+use Rattle.std.proofs.Common.{◌≡◌, ℕ, ◌^◌, ◌<◌, ◌≤◌, true, false, cond, not, eqb, ◌⊎◌, List, length, map, sym, ap, ◌∙◌}
+use Rattle.std.proofs.Common.{inl, inr, lt_of_le_of_lt, arith, eqb-true, ext_get_or}
+use Rattle.std.specs.List.{fold}
 use lib.Bits.{and_le_r, and_zero_l}
 use borrow.Author.Tests.{eqb-false, not-true}
 use Rattle.model.specs.Lists.{up_from}
-use Rattle.model.specs.Sets.{empty, member, lowest_of}
+use Rattle.model.specs.Sets.{empty, union, union_of, member, lowest_of}
 use Rattle.model.specs.Rows.{onward}
 use Rattle.theory.proofs.Tests.{clash, test, and_split, and_both, le_or_lt}
 use Rattle.theory.proofs.Lists.{up_from_has}
@@ -18,6 +19,8 @@ use Rattle.sets.proofs.Members.{only_of_below}
 use Rattle.model.specs.Sets.{only_if, devices_where}
 use Rattle.rows.specs.Search.{meet, row_at, in_rows, row_in, lead_into}
 use Rattle.theory.proofs.Where.{member_where, where_below}
+use Rattle.rows.proofs.Entries.{entry_of, length_entries}
+use Rattle.rows.proofs.Unions.{all_joined}
 use Rattle.rows.proofs.Where.{one_where, joined_from, joined_whole}
 
 -- a device of a set, where its row has a member of s
@@ -95,6 +98,17 @@ below_lowest D s d h = go (lowest_of D s) (lowest D s) h
     go m (nothing f) b = f d b
 
 module _ (rs : List ℕ) where
+  -- the rows one by one are all rows
+  rows_all : rs ≡ map (row_at rs) (up_from 0 (length rs))
+  rows_all =
+      ext_get_or 0 rs (map (row_at rs) (up_from 0 (length rs))) (sym (length_entries (row_at rs) 0 0 (length rs)))
+      (λ d h. sym (entry_of (row_at rs) 0 (length rs) d h))
+
+  -- so that what is joined of them one after another are all that stand in them
+  pub rows_joined : fold (λ stand row. union row stand) empty rs ≡ in_rows rs
+  unfolding in_rows
+  rows_joined = all_joined rs ∙ ap union_of rows_all
+
   -- standing in a row
   pub stands : (d e : ℕ) → member (row_at rs d) e ≡ true → member (in_rows rs) e ≡ true
   unfolding in_rows

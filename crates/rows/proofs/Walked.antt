@@ -21,7 +21,7 @@ use Rattle.rows.specs.Lasting.{lasting_flag, lasting_flags}
 use Rattle.rows.specs.Holds.{PassedOn, JoinedOn, WalkedAs}
 use Rattle.rows.proofs.Entries.{length_entries}
 use Rattle.rows.proofs.Wanted.{flag_at}
-use Rattle.rows.proofs.Counted.{Counted, Knows, none_counted, none_known, lasts_made, known_on, counted_on}
+use Rattle.rows.proofs.Counted.{Counted, Knows, none_passed, none_counted, none_known, lasts_made, known_on, counted_on}
 use Rattle.rows.proofs.Counted.{lasting_takes_lem, all_counted}
 use Rattle.rows.proofs.RowsFrom.{RowsFrom, none_from, set_made, from_on, all_from}
 
@@ -71,7 +71,7 @@ one_flagged p flags k b e m =
 
 pub none_walked : (p lent : List ℕ)
     → Walked p lent (replicate devices 0) (replicate max_lines 0) lent (replicate operands 0)
-    (record { job = 0; wanted = 0; lasts = false; held = 0; twice = 0 }) (length p)
+    none_passed (length p)
 none_walked p lent = record {
   counted = none_counted p;
   known = none_known p;
@@ -116,7 +116,7 @@ module _ {p lent rs flags table claimed : List ℕ} {old new : Passed} {k : ℕ}
 -- at the front all is the plan's
 pub all_walked : {p lent rs flags table claimed : List ℕ} {passed : Passed}
     → fault board p ≡ none → Walked p lent rs flags table claimed passed 0
-    → WalkedAs p lent passed rs flags table
+    → WalkedAs p lent passed.holds rs flags table
 all_walked {p} {lent} {rs} {flags} {table} {claimed} {passed} fine m = record {
   held = all_counted p (no_held_in_morning devices p ((no_fault_exactly board p).0 fine)) passed m.counted;
   rows_are = all_from p rs claimed m.rows_from;

@@ -1,11 +1,11 @@
 -- Sets of devices by a test, as code makes them: the set of one device, and a union over the devices, from the last one
 -- on.
 use Rattle.std.proofs.Common.{◌≡◌, ℕ, zero, suc, ◌-◌, ◌<◌, ◌≤◌, Bool, true, false, cond, map, sym, refl, ap, ◌∙◌, arith}
-use lib.Bits.{or_zero_l}
 use Rattle.model.specs.Lists.{up_from}
 use Rattle.model.specs.Sets.{empty, union, union_of, only_if}
 use Rattle.sets.specs.Only.{only_of}
 use Rattle.sets.proofs.Members.{only_of_lem}
+use Rattle.claims.proofs.Joining.{none_union}
 
 -- the set of one device that passes, as the code makes it
 pub one_where : (D d : ℕ) (b : Bool) → d < D → cond b (only_of D d) empty ≡ only_if b d
@@ -30,10 +30,6 @@ module _ (D d : ℕ) (f : ℕ → ℕ) where
       let y : suc (d - 1) ≡ d = omega arith in
       rw (z, y) (ap (union (f (d - 1))) e)
 
-empty_union : (s : ℕ) → union empty s ≡ s
-unfolding union empty
-empty_union s = or_zero_l s
-
 -- devices that add nothing need not be looked at
 pub joined_whole : (D d : ℕ) (f : ℕ → ℕ) → d ≤ D → ((k : ℕ) → k < d → f k ≡ empty)
     → joined_from D f d ≡ union_of (map f (up_from 0 D))
@@ -45,5 +41,5 @@ joined_whole D (suc d) f h n = none ∙ joined_whole D d f (omega arith) (λ k l
         let y : suc d - 1 ≡ d = omega arith in
         let e = rw y at (joined_grows D (suc d) f (joined_from D f (suc d)) (omega arith) h refl) in
         sym
-        (ap (λ (x : ℕ). union x (joined_from D f (suc d))) (n d (omega arith)) ∙ empty_union (joined_from D f (suc d)))
+        (ap (λ (x : ℕ). union x (joined_from D f (suc d))) (n d (omega arith)) ∙ none_union (joined_from D f (suc d)))
         ∙ e

@@ -13,39 +13,69 @@ ghost use Rattle.plan.specs.Again.{again_flags};
 ghost use Rattle.rows.specs.Where.{circles_of};
 ghost use Rattle.rows.specs.Lasting.{wanted_before, row_joined};
 ghost use Rattle.rows.specs.Twice.{twice_in};
-ghost use Rattle.rows.specs.declared.HoldsAnswer.{HoldsAnswer};
-ghost use Rattle.rows.specs.Holds.{PassedOn, JoinedOn, WalkedAs, HoldsAs};
-ghost use Rattle.rows.specs.Holds.{TabledAs, holds_by};
+ghost use Rattle.rows.specs.Holds.{PassedOn, JoinedOn, WalkedAs, HoldsAs, TabledAs, holds_by};
 
 use board::{DEVICES, EACH_DEVICE, EACH_JOB, MOST_LINES, Set};
+use choice::choose;
 use line::EACH_OPERAND;
 use model::Refusal;
-use plan::Checked;
+use plan::{NO_NOTES, Notes};
 
 mod search;
+
+use search::Search;
 
 // The devices that lead back to themselves, for any rows.
 pub fn circles(rows: &[Set; EACH_DEVICE]) -> Set
     ensures { result ≡ circles_of rows.now }
 {
-    let mut search = search::begun(rows);
+    let mut search = Search::begun(rows);
+    // Nothing is counted: how many walks there are, the rows decide.
     while search.left != sets::NONE {
-        search = search::one_walk(rows, search);
+        search = search.one_walk(rows);
     }
     search.found
+}
+
+// ---- what is held to the end
+
+// Devices that are held to a plan's end: those that one line or more keeps, and those that two do.
+#[derive(Clone, Copy)]
+pub struct Held {
+    pub held: Set,
+    pub twice: Set,
+}
+
+// No device.
+const NONE_HELD: Held = Held {
+    held: sets::NONE,
+    twice: sets::NONE,
+};
+
+impl Held {
+    ghost use Rattle.rows.specs.Holds.{held_with};
+
+    // With the devices of one set more: those that were held already are held twice.
+    fn with(self, s: Set) -> Held
+        ensures { result ≡ held_with self s }
+    {
+        Held {
+            held: sets::union(s, self.held),
+            twice: sets::union(sets::both(self.held, s), self.twice),
+        }
+    }
 }
 
 // ---- one line of a walk back over the plan
 
 // What a walk back knows of the lines that it has passed: the job of the line passed last, how many gives of that job
 // still want their takes, whether that line is a lasting take, and the devices with a lasting take and with two.
-#[derive(Drop)]
+#[derive(Clone, Copy)]
 pub struct Passed {
     pub job: u32,
     pub wanted: u32,
     pub lasts: bool,
-    pub held: Set,
-    pub twice: Set,
+    pub holds: Held,
 }
 
 // What it knows at the plan's end.
@@ -53,40 +83,41 @@ pub const NONE_PASSED: Passed = Passed {
     job: 0,
     wanted: 0,
     lasts: false,
-    held: sets::NONE,
-    twice: sets::NONE,
+    holds: NONE_HELD,
 };
 
 // How many gives want their takes before a line, where so many want them after it: a take serves one, if there is one.
-// In a plan they are far from the word's end, past which they would be counted from 0 on.
+// In a plan they are far from the word's end, past which they would be counted from 0 on. Tests are added and taken off
+// as numbers: of choices between the three cases the compiler made a branch on the verb, timed 3 ns a line more.
+#[tactic(auto, unfolding(crate::specs::Lasting::wanted_before))]
 fn wanted_before(l: u32, after: u32) -> u32
     ensures { result ≡ wanted_before l after % 2 ^ 32 }
 {
-    let served = after - (0 < after) as u32;
-    let more = std::num::wrapping_add_u32(after, 1);
-    let given = line::choose(line::is_give(l), more, after);
-    line::choose(line::opens(l), served, given)
+    let given = std::num::wrapping_add_u32(after, u32::from(line::is_give(l)));
+    given.saturating_sub(u32::from(line::opens(l)))
 }
 
 // One line further back, as it stands and as it counts. Gives match every take, so these are counted as they stand; a
 // line that counts as a take and serves no give lasts. A device that was held already is held twice.
+#[tactic(auto, unfolding(crate::specs::Lasting::wanted_after))]
 pub fn pass_line(passed: Passed, l: u32, plain: u32) -> Passed
     ensures { PassedOn result passed l plain }
 {
     let j = line::job(l);
-    let after = line::choose(j == passed.job, passed.wanted, 0);
+    let after = choose(j == passed.job, passed.wanted, 0);
     let lasts = line::is_take(plain) & (after == 0);
     let one = sets::only_if(lasts, line::operand(l));
     Passed {
         job: j,
         wanted: wanted_before(l, after),
-        lasts: lasts,
-        held: sets::union(one, passed.held),
-        twice: sets::union(sets::both(passed.held, one), passed.twice),
+        lasts,
+        holds: passed.holds.with(one),
     }
 }
 
-// What lies beyond a lasting take is joined to the row of its device, if the board has it.
+// What lies beyond a lasting take is joined to the row of its device, if the board has it. It is one test, so that
+// there is one branch.
+#[tactic(auto, unfolding(crate::specs::Lasting::row_joined))]
 pub fn join_row(l: u32, lasts: bool, next: Set, rows: &mut [Set; EACH_DEVICE])
     ensures { rows.new ≡ row_joined l (lasts && nat_lt (operand l) devices) next rows.old }
 {
@@ -105,7 +136,8 @@ fn join_line(
     rows: &mut [Set; EACH_DEVICE],
     claimed: &mut [Set; EACH_OPERAND],
 ) -> Set
-    requires { (is_line board l ≡ true) × (lasts ≡ true → is_take l ≡ true) }
+    requires on_board { is_line board l ≡ true }
+    requires takes { lasts ≡ true → is_take l ≡ true }
     ensures { JoinedOn l lasts rows.old claimed.old result rows.new claimed.new }
 {
     let j = line::job(l) as usize;
@@ -116,7 +148,8 @@ fn join_line(
     s
 }
 
-// A set at its place in a lent table, if the table has the place.
+// A set at its place in a lent table, if the table has the place. (With `get_mut` the proof does not close: of a slice
+// std promises nothing about the elements once that loan is over.)
 fn store(table: &mut [Set], i: usize, s: Set)
     ensures { table.new ≡ slice_set table.old i s }
 {
@@ -136,103 +169,66 @@ fn walk_back(
     rows: &mut [Set; EACH_DEVICE],
     lasting: &mut [u8; MOST_LINES],
     table: &mut [Set],
-) -> Passed
-    requires { (fault board plan.now ≡ none) × (again.now ≡ again_flags plan.now) }
+) -> Held
+    requires sound { fault board plan.now ≡ none }
+    requires flags { again.now ≡ again_flags plan.now }
     ensures { WalkedAs plan.now table.old result rows.new lasting.new table.new }
 {
     *rows = [sets::NONE; EACH_DEVICE];
-    *lasting = [0u8; MOST_LINES];
+    *lasting = [0; MOST_LINES];
     let mut claimed = [sets::NONE; EACH_OPERAND];
     let mut passed = NONE_PASSED;
-    let mut i = plan.len();
-    while 0 < i {
-        i -= 1;
+    for i in (0..plan.len()).rev() {
         let l = plan[i];
         let plain = line::plain(l, again[i] == 1);
         passed = pass_line(passed, l, plain);
-        lasting[i] = passed.lasts as u8;
+        lasting[i] = u8::from(passed.lasts);
         let s = join_line(plain, passed.lasts, rows, &mut claimed);
         store(table, i, s);
     }
-    passed
-}
-
-// What the holds of a plan are: the set of the devices held to the end and the set of those with two lasting takes.
-#[derive(Drop)]
-pub enum HoldsAnswer {
-    Made(Set, Set),
-    Refused(Refusal),
+    passed.holds
 }
 
 // By what each job holds after its last line, the devices that some job holds and those that two jobs do.
-fn over_jobs(holdings: &[Set; EACH_JOB]) -> HoldsAnswer
-    requires { length holdings.now ≡ suc max_job }
-    ensures { result ≡ HoldsAnswer.Made (union_of holdings.now) (twice_in holdings.now) }
+fn over_jobs(holdings: &[Set; EACH_JOB]) -> Held
+    ensures held { result.held ≡ union_of holdings.now }
+    ensures twice { result.twice ≡ twice_in holdings.now }
 {
-    let mut held = sets::NONE;
-    let mut twice = sets::NONE;
-    let mut j = EACH_JOB;
-    while 0 < j {
-        j -= 1;
-        let s = holdings[j];
-        twice = sets::union(sets::both(s, held), twice);
-        held = sets::union(s, held);
-    }
-    HoldsAnswer::Made(held, twice)
+    holdings.iter().fold(NONE_HELD, |holds, &s| holds.with(s))
 }
 
-// The two sets of a plan, tested by 2 to 7, and nothing beside them.
-pub fn held_to_end(plan: &[u32]) -> HoldsAnswer
+// The holds of a plan, tested by 2 to 7, and nothing beside them.
+pub fn held_to_end(plan: &[u32]) -> Result<Held, Refusal>
     ensures { result ≡ holds_by (fault board plan.now) plan.now }
 {
-    let mut first = [0u32; EACH_JOB];
-    let mut starter = [0u32; EACH_JOB];
-    let mut again = [0u8; MOST_LINES];
-    let mut holdings = [sets::NONE; EACH_JOB];
-    if let Checked::Refused(r) = plan::scan_holding(
-        plan,
-        false,
-        &mut first,
-        &mut starter,
-        &mut again,
-        &mut holdings,
-    ) {
-        return HoldsAnswer::Refused(r);
-    }
-    over_jobs(&holdings)
+    let mut notes = NO_NOTES;
+    plan::scan(plan, false, &mut notes)?;
+    Ok(over_jobs(&notes.holdings))
 }
 
-// The holds of a plan, tested by 2 to 7: the two sets, with the first line of each job, the flags of the lines that
-// take again, the rows, and the flags of the lasting takes in the lent lists.
+// The holds of a plan, tested by 2 to 7, with its notes, its rows, and the flags of its lasting takes in what is lent.
 pub fn holds(
     plan: &[u32],
-    first: &mut [u32; EACH_JOB],
-    again: &mut [u8; MOST_LINES],
+    notes: &mut Notes,
     rows: &mut [Set; EACH_DEVICE],
     lasting: &mut [u8; MOST_LINES],
-) -> HoldsAnswer
-    ensures { HoldsAs plan.now first.old again.old rows.old lasting.old
-        result first.new again.new rows.new lasting.new }
+) -> Result<Held, Refusal>
+    ensures { HoldsAs plan.now notes.old rows.old lasting.old result notes.new rows.new lasting.new }
 {
-    let mut starter = [0u32; EACH_JOB];
-    if let Checked::Refused(r) = plan::scan(plan, false, first, &mut starter, again) {
-        return HoldsAnswer::Refused(r);
-    }
-    let made = walk_back(plan, again, rows, lasting, &mut []);
-    HoldsAnswer::Made(made.held, made.twice)
+    plan::scan(plan, false, notes)?;
+    Ok(walk_back(plan, &notes.again, rows, lasting, &mut []))
 }
 
 // The rows of a plan, tested by 2 to 7, and as much of its table as the lent list has room for; the answer is as above.
-pub fn tabled(plan: &[u32], rows: &mut [Set; EACH_DEVICE], table: &mut [Set]) -> HoldsAnswer
+pub fn tabled(
+    plan: &[u32],
+    rows: &mut [Set; EACH_DEVICE],
+    table: &mut [Set],
+) -> Result<Held, Refusal>
     ensures { TabledAs plan.now rows.old table.old result rows.new table.new }
 {
-    let mut first = [0u32; EACH_JOB];
-    let mut starter = [0u32; EACH_JOB];
-    let mut again = [0u8; MOST_LINES];
-    let mut lasting = [0u8; MOST_LINES];
-    if let Checked::Refused(r) = plan::scan(plan, false, &mut first, &mut starter, &mut again) {
-        return HoldsAnswer::Refused(r);
-    }
-    let made = walk_back(plan, &again, rows, &mut lasting, table);
-    HoldsAnswer::Made(made.held, made.twice)
+    let mut notes = NO_NOTES;
+    let mut lasting = [0; MOST_LINES];
+    plan::scan(plan, false, &mut notes)?;
+    Ok(walk_back(plan, &notes.again, rows, &mut lasting, table))
 }

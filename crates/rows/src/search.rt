@@ -7,9 +7,10 @@ ghost use Rattle.model.specs.Board.{devices};
 ghost use Rattle.model.specs.Rows.{onward};
 ghost use Rattle.model.specs.Sets.{empty, member, lowest_of};
 ghost use Rattle.rows.specs.Search.{meet, in_rows, lead_into, Trimmed, WalkEnds, Reached, LeadTo, WholeIn};
-ghost use Rattle.rows.specs.Search.{CircleOf, Underway, LessLeft};
+ghost use Rattle.rows.specs.Search.{CircleOf};
 
 use board::{EACH_DEVICE, Set};
+use choice::choose;
 
 // ---- one look at the rows
 
@@ -27,31 +28,19 @@ fn last_looked_at(s: Set) -> usize
 }
 
 // The devices that stand in a row. Every device that leads back is one of them.
-fn in_rows(rows: &[Set]) -> Set
-    requires { length rows.now ≡ devices }
+fn in_rows(rows: &[Set; EACH_DEVICE]) -> Set
     ensures { result ≡ in_rows rows.now }
 {
-    let mut s = sets::NONE;
-    let mut d = EACH_DEVICE;
-    while 0 < d {
-        d -= 1;
-        s = sets::union(rows[d], s);
-    }
-    s
+    rows.iter()
+        .fold(sets::NONE, |stand, &row| sets::union(row, stand))
 }
 
-// The row of a device, if the set has the device. The device is given as the set of it alone.
-fn if_of(row: Set, s: Set, one: Set) -> Set
-    ensures { result ≡ (if meet s one then row else empty) }
+// The set, if two others have a device in common.
+#[tactic(auto, unfolding(crate::specs::Search::meet, model::specs::Sets::empty))]
+fn if_meet(s: Set, t: Set, set: Set) -> Set
+    ensures { result ≡ (if meet s t then set else empty) }
 {
-    sets::choose(sets::both(s, one) != sets::NONE, row, sets::NONE)
-}
-
-// The device, if its row has a member of the set.
-fn if_into(row: Set, s: Set, one: Set) -> Set
-    ensures { result ≡ (if meet row s then one else empty) }
-{
-    sets::choose(sets::both(row, s) != sets::NONE, one, sets::NONE)
+    choose(sets::both(s, t) != sets::NONE, set, sets::NONE)
 }
 
 // What a look at the rows of a set's devices sees: those with a member of another set in their row, and all that stand
@@ -62,33 +51,28 @@ struct Seen {
     onto: Set,
 }
 
-fn look(rows: &[Set], within: Set, s: Set) -> Seen
-    requires { length rows.now ≡ devices }
-    ensures { (result.into ≡ lead_into rows.now within s) × (result.onto ≡ onward rows.now within) }
+fn look(rows: &[Set; EACH_DEVICE], within: Set, s: Set) -> Seen
+    ensures into { result.into ≡ lead_into rows.now within s }
+    ensures onto { result.onto ≡ onward rows.now within }
 {
     let low = last_looked_at(within);
     let mut into = sets::NONE;
     let mut onto = sets::NONE;
-    let mut d = EACH_DEVICE;
-    while low < d {
-        d -= 1;
+    for d in (low..EACH_DEVICE).rev() {
         let one = sets::only(d as u32);
-        let row = if_of(rows[d], within, one);
-        into = sets::union(if_into(row, s, one), into);
+        let row = if_meet(within, one, rows[d]);
+        let leads = if_meet(row, s, one);
+        into = sets::union(leads, into);
         onto = sets::union(row, onto);
     }
-    Seen {
-        into: into,
-        onto: onto,
-    }
+    Seen { into, onto }
 }
 
 // ---- taking away
 
 // What is left of the set when a device is taken away as long as its row has none of those left, or it stands in no row
 // of theirs. When nothing is left, no look is needed to see that nothing more goes.
-fn trim(rows: &[Set], left: Set) -> Set
-    requires { length rows.now ≡ devices }
+fn trim(rows: &[Set; EACH_DEVICE], left: Set) -> Set
     ensures { Trimmed rows.now left result }
 {
     let mut stays = left;
@@ -112,8 +96,8 @@ struct Ended {
 
 // From the lowest device that is left, always to the lowest that is left of the row: until a device comes again, or
 // the row has none of them.
-fn walk(rows: &[Set], left: Set) -> Ended
-    requires { (length rows.now ≡ devices) × (0 < left) }
+fn walk(rows: &[Set; EACH_DEVICE], left: Set) -> Ended
+    requires { 0 < left }
     ensures { WalkEnds rows.now left result }
 {
     let mut at = sets::lowest(left);
@@ -122,14 +106,14 @@ fn walk(rows: &[Set], left: Set) -> Ended
         rest = sets::without(rest, sets::only(at));
         at = sets::lowest(sets::both(rows[at as usize], left));
     }
-    Ended { at: at, rest: rest }
+    Ended { at, rest }
 }
 
 // ---- what a device leads to, and what leads to it
 
 // The device and those that it leads to by way of `within`, or so many of them that one is in `stop`.
-fn ahead(rows: &[Set], within: Set, stop: Set, from: u32) -> Set
-    requires { (length rows.now ≡ devices) × (from < devices) }
+fn ahead(rows: &[Set; EACH_DEVICE], within: Set, stop: Set, from: u32) -> Set
+    requires { from < devices }
     ensures { Reached rows.now within stop from result }
 {
     let mut reached = sets::only(from);
@@ -143,8 +127,7 @@ fn ahead(rows: &[Set], within: Set, stop: Set, from: u32) -> Set
 }
 
 // These devices and those of `within` that lead to them by way of it. When all of `within` do, no look is needed more.
-fn behind(rows: &[Set], within: Set, these: Set) -> Set
-    requires { length rows.now ≡ devices }
+fn behind(rows: &[Set; EACH_DEVICE], within: Set, these: Set) -> Set
     ensures { LeadTo rows.now within these result }
 {
     let mut lead = these;
@@ -160,9 +143,10 @@ fn behind(rows: &[Set], within: Set, these: Set) -> Set
 // The circle of a device that a walk came back to. What the walk passed leads there: where it passed all that the
 // device leads to, that is the circle. Else all that leads there is looked for first, and then what of it the device
 // leads to.
-fn circle_of(rows: &[Set], left: Set, walked: Ended) -> Set
-    requires { (length rows.now ≡ devices) × WalkEnds rows.now left walked × (member left walked.at ≡ true)
-        × WholeIn rows.now walked.at left }
+fn circle_of(rows: &[Set; EACH_DEVICE], left: Set, walked: Ended) -> Set
+    requires ended { WalkEnds rows.now left walked }
+    requires again { member left walked.at ≡ true }
+    requires whole { WholeIn rows.now walked.at left }
     ensures { CircleOf rows.now walked.at result }
 {
     let led = ahead(rows, left, walked.rest, walked.at);
@@ -182,33 +166,37 @@ pub struct Search {
     pub found: Set,
 }
 
-// What stands in rows, trimmed, is left, and nothing is found.
-pub fn begun(rows: &[Set]) -> Search
-    requires { length rows.now ≡ devices }
-    ensures { Underway rows.now result }
-{
-    Search {
-        left: trim(rows, in_rows(rows)),
-        found: sets::NONE,
-    }
-}
+impl Search {
+    ghost use Rattle.rows.specs.Search.{Underway, LessLeft};
 
-// One walk more: what it came back to is found with its circle, or, where it was stuck, what cannot lead back by way of
-// what is left is taken away.
-pub fn one_walk(rows: &[Set], search: Search) -> Search
-    requires { (length rows.now ≡ devices) × (0 < search.left) × Underway rows.now search }
-    ensures { LessLeft rows.now search.left result }
-{
-    let walked = walk(rows, search.left);
-    if sets::member(search.left, walked.at) {
-        let found = circle_of(rows, search.left, walked);
-        return Search {
-            left: sets::without(search.left, found),
-            found: sets::union(found, search.found),
-        };
+    // What stands in rows, trimmed, is left, and nothing is found.
+    pub fn begun(rows: &[Set; EACH_DEVICE]) -> Search
+        ensures { Underway rows.now result }
+    {
+        Search {
+            left: trim(rows, in_rows(rows)),
+            found: sets::NONE,
+        }
     }
-    Search {
-        left: trim(rows, search.left),
-        found: search.found,
+
+    // One walk more: what it came back to is found with its circle, or, where it was stuck, what cannot lead back by
+    // way of what is left is taken away.
+    pub fn one_walk(self, rows: &[Set; EACH_DEVICE]) -> Search
+        requires left { 0 < self.left }
+        requires underway { Underway rows.now self }
+        ensures { LessLeft rows.now self.left result }
+    {
+        let walked = walk(rows, self.left);
+        if sets::member(self.left, walked.at) {
+            let circle = circle_of(rows, self.left, walked);
+            return Search {
+                left: sets::without(self.left, circle),
+                found: sets::union(circle, self.found),
+            };
+        }
+        Search {
+            left: trim(rows, self.left),
+            found: self.found,
+        }
     }
 }

@@ -1,12 +1,13 @@
 -- Members of what code makes of sets: of one device of a board, of both of two sets, of one of them alone, of one
 -- without the other; how many members there are with one more or less; and the lowest. All of it over the number of
 -- devices D. With `theory/proofs/Sets.antt` this is every law about sets as numbers.
-use Prim.Native.Nat.{ℕ, ◌/◌, ◌%◌, ◌^◌, ◌<◌, ◌≤◌, min}
+use Prim.Native.Nat.{ℕ, ◌*◌, ◌/◌, ◌%◌, ◌^◌, ◌<◌, ◌≤◌, min}
 use mathlib.Core.Bool.{Bool, true, false, cond, not, ◌&&◌}
 use mathlib.Core.Logic.{◌⊎◌, inl, inr}
 use mathlib.Core.Option.{Option, none, some, get_or}
 use mathlib.Core.Path.{◌≡◌, refl, sym, ◌∙◌, ap}
-use native.Mathlib.Nat.{lt_of_le_of_lt}
+use native.Mathlib.Nat.{lt_of_le_of_lt, mod-eq_of_lt}
+use mir.Val.{bool_byte}
 use native.Mathlib.Omega.{arith}
 use lib.Bits.{bit_and, and_shr, and_step, and_le_l, and_zero_r, or_zero_r, xor_lt, xor_zero_r}
 use lib.Dec.{eqb, ltb}
@@ -16,7 +17,7 @@ use Rattle.model.specs.Sets.{empty, only, union, member, lowest_of}
 use Rattle.theory.proofs.Tests.{clash, test, and_split, le_or_lt}
 use Rattle.theory.proofs.Lists.{has_up_from, up_from_has, Answer, first_answer, first_lowest}
 use Rattle.theory.proofs.Sets.{digits, member_xor, member_empty, member_only, member_past, empty_below, only_below}
-use Rattle.theory.proofs.Sets.{same_members}
+use Rattle.theory.proofs.Sets.{same_members, shifted}
 use Rattle.sets.specs.Only.{only_of}
 use Rattle.sets.specs.Both.{both, differ, without}
 
@@ -47,6 +48,17 @@ only_of_below D d = go (le_or_lt D d)
     go : (D ≤ d) ⊎ (d < D) → cond (ltb d D) (only d) empty < 2 ^ D
     go (inl a) = rw (le-ltb d D a) (empty_below D)
     go (inr a) = rw (lt-ltb d D a) (only_below D d a)
+
+-- a flag shifted by less than the width loses nothing, and nought stays nought
+pub shifted_flag : (D : ℕ) (put : Bool) (d : ℕ)
+    → bool_byte (put && ltb d D) * 2 ^ (d % D) % 2 ^ D ≡ cond put (only_of D d) empty
+unfolding only_of empty
+shifted_flag D false d = omega arith
+shifted_flag D true d = go (le_or_lt D d)
+  where
+    go : (D ≤ d) ⊎ (d < D) → bool_byte (ltb d D) * 2 ^ (d % D) % 2 ^ D ≡ only_of D d
+    go (inl h) = rw (le-ltb d D h) (omega arith)
+    go (inr h) = rw (lt-ltb d D h, mod-eq_of_lt h) (shifted D d h)
 
 -- ---- two sets
 

@@ -2,6 +2,7 @@
 -- place, and each answer by its values. Promises that are stated through them are therefore as tight as if they named
 -- the cases. Last, what the first refusal of an entry's tests says of each of them.
 use Prim.Native.Nat.{ℕ, zero, suc, ◌≤◌}
+use Rattle.std.specs.Prelude.{Result, Ok, Err}
 use mathlib.Core.Bool.{Bool, true, false, not}
 use mathlib.Core.List.{List, [], ◌∷◌}
 use mathlib.Core.Option.{Option, none, some, some-injective, none-ne-some}
@@ -10,9 +11,8 @@ use native.Mathlib.Omega.{arith}
 use lib.Dec.{ltb}
 use lib.ListN.{get_or}
 use borrow.Author.Tests.{ltb-false}
-use Rattle.model.specs.Answers.{number_of, place_of, refusal_values, line_values, read_values, write_values}
-use Rattle.model.specs.Answers.{table_values}
-use Rattle.model.specs.Answers.{verdict_values, move_values, judge_values, refuse_if, refuse_at, first_refusal}
+use Rattle.model.specs.Answers.{number_of, place_of, refusal_values, line_values, answer_values}
+use Rattle.model.specs.Answers.{judge_values, refuse_if, refuse_at, first_refusal}
 use Rattle.model.specs.Answers.{too_short}
 use Rattle.model.specs.declared.Refusal.{Refusal}
 use Rattle.model.specs.declared.Refusal.TheVariants.{TextTooLong, Malformed, TooManyLines, JobOutOfSequence}
@@ -20,12 +20,6 @@ use Rattle.model.specs.declared.Refusal.TheVariants.{BadStart, NeverStarted, Giv
 use Rattle.model.specs.declared.Refusal.TheVariants.{TwoLasting, LeadsBack, ListTooShort, NotATake}
 use Rattle.model.specs.declared.Refusal.TheVariants.{NoSuchDevice, StaleTable, IllegalStep, HeldTwice, HeldLate}
 use Rattle.model.specs.declared.LineAnswer.{LineAnswer}
-use Rattle.model.specs.declared.ReadAnswer.{ReadAnswer}
-use Rattle.model.specs.declared.WriteAnswer.{WriteAnswer}
-use Rattle.model.specs.declared.TableAnswer.{TableAnswer}
-use Rattle.model.specs.declared.VerdictAnswer.{VerdictAnswer}
-use Rattle.model.specs.declared.MoveAnswer.{MoveAnswer}
-use Rattle.model.specs.declared.JudgeAnswer.{JudgeAnswer}
 
 -- the refusal of a number and a place
 refusal_of : ℕ → ℕ → Option Refusal
@@ -110,34 +104,18 @@ unfolding answer_of
 refused_back done refused r = rw (refusal_back r, answer_of)
 
 -- whatever gives an answer back from its values tells answers apart by them
-one_answer : {A : Type 0} (values : A → List ℕ) (of : List ℕ → A) → ((a : A) → of (values a) ≡ a) → (a b : A)
+told_apart : {A : Type 0} (values : A → List ℕ) (of : List ℕ → A) → ((a : A) → of (values a) ≡ a) → (a b : A)
     → values a ≡ values b → a ≡ b
-one_answer values of back a b e = sym (back a) ∙ ap of e ∙ back b
+told_apart values of back a b e = sym (back a) ∙ ap of e ∙ back b
 
-read_back : (a : ReadAnswer) → answer_of ReadAnswer.Lines ReadAnswer.Refused (read_values a) ≡ a
-read_back (ReadAnswer.Lines n) = done_back ReadAnswer.Lines ReadAnswer.Refused n
-read_back (ReadAnswer.Refused r) = refused_back ReadAnswer.Lines ReadAnswer.Refused r
+answer_back : (a : Result ℕ Refusal) → answer_of Ok Err (answer_values a) ≡ a
+answer_back (Ok n) = done_back Ok Err n
+answer_back (Err r) = refused_back Ok Err r
 
-write_back : (a : WriteAnswer) → answer_of WriteAnswer.Bytes WriteAnswer.Refused (write_values a) ≡ a
-write_back (WriteAnswer.Bytes n) = done_back WriteAnswer.Bytes WriteAnswer.Refused n
-write_back (WriteAnswer.Refused r) = refused_back WriteAnswer.Bytes WriteAnswer.Refused r
-
-table_back : (a : TableAnswer) → answer_of TableAnswer.Lines TableAnswer.Refused (table_values a) ≡ a
-table_back (TableAnswer.Lines n) = done_back TableAnswer.Lines TableAnswer.Refused n
-table_back (TableAnswer.Refused r) = refused_back TableAnswer.Lines TableAnswer.Refused r
-
-verdict_back : (a : VerdictAnswer) → answer_of VerdictAnswer.Held VerdictAnswer.Refused (verdict_values a) ≡ a
-verdict_back (VerdictAnswer.Held n) = done_back VerdictAnswer.Held VerdictAnswer.Refused n
-verdict_back (VerdictAnswer.Refused r) = refused_back VerdictAnswer.Held VerdictAnswer.Refused r
-
-move_back : (a : MoveAnswer) → answer_of MoveAnswer.Changed MoveAnswer.Refused (move_values a) ≡ a
-move_back (MoveAnswer.Changed n) = done_back MoveAnswer.Changed MoveAnswer.Refused n
-move_back (MoveAnswer.Refused r) = refused_back MoveAnswer.Changed MoveAnswer.Refused r
-
-judge_back : (a : JudgeAnswer) → answer_of (λ x. JudgeAnswer.Legal) JudgeAnswer.Refused (judge_values a) ≡ a
+judge_back : (a : Result (Unit {0}) Refusal) → answer_of (λ x. Ok tt) Err (judge_values a) ≡ a
 unfolding answer_of
-judge_back JudgeAnswer.Legal = refl
-judge_back (JudgeAnswer.Refused r) = refused_back (λ x. JudgeAnswer.Legal) JudgeAnswer.Refused r
+judge_back (Ok tt) = refl
+judge_back (Err r) = refused_back (λ x. Ok tt) Err r
 
 -- the line reader's: one value for the end, two for a refusal, four for a line
 line_of : List ℕ → LineAnswer
@@ -156,25 +134,13 @@ line_back LineAnswer.End = refl
 
 -- answers are known by their values
 pub one_line_answer : (a b : LineAnswer) → line_values a ≡ line_values b → a ≡ b
-one_line_answer = one_answer line_values line_of line_back
+one_line_answer = told_apart line_values line_of line_back
 
-pub one_read_answer : (a b : ReadAnswer) → read_values a ≡ read_values b → a ≡ b
-one_read_answer = one_answer read_values (answer_of ReadAnswer.Lines ReadAnswer.Refused) read_back
+pub one_answer : (a b : Result ℕ Refusal) → answer_values a ≡ answer_values b → a ≡ b
+one_answer = told_apart answer_values (answer_of Ok Err) answer_back
 
-pub one_write_answer : (a b : WriteAnswer) → write_values a ≡ write_values b → a ≡ b
-one_write_answer = one_answer write_values (answer_of WriteAnswer.Bytes WriteAnswer.Refused) write_back
-
-pub one_table_answer : (a b : TableAnswer) → table_values a ≡ table_values b → a ≡ b
-one_table_answer = one_answer table_values (answer_of TableAnswer.Lines TableAnswer.Refused) table_back
-
-pub one_verdict_answer : (a b : VerdictAnswer) → verdict_values a ≡ verdict_values b → a ≡ b
-one_verdict_answer = one_answer verdict_values (answer_of VerdictAnswer.Held VerdictAnswer.Refused) verdict_back
-
-pub one_move_answer : (a b : MoveAnswer) → move_values a ≡ move_values b → a ≡ b
-one_move_answer = one_answer move_values (answer_of MoveAnswer.Changed MoveAnswer.Refused) move_back
-
-pub one_judge_answer : (a b : JudgeAnswer) → judge_values a ≡ judge_values b → a ≡ b
-one_judge_answer = one_answer judge_values (answer_of (λ x. JudgeAnswer.Legal) JudgeAnswer.Refused) judge_back
+pub one_judge_answer : (a b : Result (Unit {0}) Refusal) → judge_values a ≡ judge_values b → a ≡ b
+one_judge_answer = told_apart judge_values (answer_of (λ x. Ok tt) Err) judge_back
 
 -- ---- tests in a list
 

@@ -6,6 +6,7 @@
 -- too. It is all for plans of the morning, which the entries that take rows serve; the verdict has one more test, of
 -- held lines, which no such plan fails (02, request 5).
 use Prim.Native.Nat.{ℕ, ◌+◌, ◌^◌, ◌<◌, ◌≤◌}
+use Rattle.std.specs.Prelude.{Result, Ok, Err}
 use mathlib.Core.Bool.{Bool, true, false, cond, not}
 use mathlib.Core.List.{List, [], ◌∷◌, map}
 use mathlib.Core.Logic.{◌⊎◌, inl, inr, ◌≢◌, ◌↔◌}
@@ -33,8 +34,6 @@ use Rattle.model.specs.Kept.{building}
 use Rattle.model.specs.Kept.{concerned, kept_rows, kept_held, kept_refusal, beside_after, LentBeside, moving_kept}
 use Rattle.model.specs.Kept.{quick_refusal, quick_by, quick}
 use Rattle.model.specs.declared.Refusal.{Refusal}
-use Rattle.model.specs.declared.VerdictAnswer.{VerdictAnswer}
-use Rattle.model.specs.declared.MoveAnswer.{MoveAnswer}
 use Rattle.theory.specs.Verdict.{NoOrderBy}
 use Rattle.theory.specs.Move.{Ask, moved, moved_by}
 use Rattle.theory.specs.Kept.{Own, less_rows, without_rows, WritesOnly, MadeBy, StepKept, refused, accepted}
@@ -194,10 +193,10 @@ module _ (D : ℕ) (p : List ℕ) (lent : Beside) where
       )
 
 -- what a move answers and leaves, by what its tests answer
-abbrev tested : ℕ → List ℕ → Beside → ℕ → ℕ → Option Refusal → Outcome MoveAnswer LentBeside
+abbrev tested : ℕ → List ℕ → Beside → ℕ → ℕ → Option Refusal → Outcome (Result ℕ Refusal) LentBeside
 tested D p lent i device x =
     let new : Beside = beside_after D p lent i device in
-    outcome MoveAnswer.Refused x (MoveAnswer.Changed (changed p lent.sets new.sets))
+    outcome Err x (Ok (changed p lent.sets new.sets))
     (record { plan = edited p i device; beside = new }) (record { plan = p; beside = lent })
 
 length_kept_rows : (D : ℕ) (q t : List ℕ) (f : ℕ → Bool) (rs : List ℕ) → length (kept_rows D q t f rs) ≡ D
@@ -421,13 +420,13 @@ few_steps p = omega (arith, those_length (λ i. not (held_at p i)) (up_from 0 (l
 same_answer : {L : Type 0} (f x y z : Option Refusal) (m n : ℕ) (new lent : L) → (f ≡ none → z ≡ none)
     → (f ≡ none → first_refusal (x ∷ y ∷ z ∷ []) ≡ none → m ≡ n)
     → quick_by (first_refusal (f ∷ none ∷ x ∷ y ∷ [])) m
-    ≡ (outcome VerdictAnswer.Refused (first_refusal (f ∷ none ∷ first_refusal (x ∷ y ∷ z ∷ []) ∷ []))
-    (VerdictAnswer.Held n) new lent).answer
+    ≡ (outcome Err (first_refusal (f ∷ none ∷ first_refusal (x ∷ y ∷ z ∷ []) ∷ []))
+    (Ok n) new lent).answer
 unfolding quick_by outcome first_refusal
 same_answer (some r) x y z m n new lent k h = refl
 same_answer none (some r) y z m n new lent k h = refl
 same_answer none none (some r) z m n new lent k h = refl
-same_answer none none none none m n new lent k h = ap VerdictAnswer.Held (h refl refl)
+same_answer none none none none m n new lent k h = ap Ok (h refl refl)
 same_answer none none none (some r) m n new lent k h = absurd (none-ne-some r (sym (k refl)))
 
 -- The theorem: by the plan's own rows the quick verdict is the verdict's answer, in number, place and count.
@@ -482,7 +481,7 @@ module _ (D : ℕ) (small : D ≤ held_from) where
   unfolding moved_kept without_rows less_rows
   own_moved first s a k = go (k.next a)
     where
-      o : Outcome MoveAnswer LentBeside
+      o : Outcome (Result ℕ Refusal) LentBeside
       o = moving_kept D s.plan s.beside a.line a.device
 
       go : StepKept D s.plan s.beside a.line a.device o → StillOwn D first (moved_kept D s a)
@@ -521,5 +520,5 @@ moves_as_before D s [] a b = refl
 moves_as_before D s (x ∷ asks) a b =
     let only = writes_only D s.plan s.beside x.line x.device in
     moves_as_before D (moved_kept D s x) asks (omega (arith, only.long_rows)) (omega (arith, only.long_held))
-    ∙ ap (λ (o : Outcome MoveAnswer Lent). moved_by (morning D) o.left asks)
+    ∙ ap (λ (o : Outcome (Result ℕ Refusal) Lent). moved_by (morning D) o.left asks)
     (as_before D s.plan s.beside x.line x.device a b)

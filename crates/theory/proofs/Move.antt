@@ -5,6 +5,7 @@
 -- held line stays as it is, for it is no take. Of any plan and table: 9 and 10 refuse no move, and one to the device
 -- that the take has changes nothing.
 use Prim.Native.Nat.{ℕ, zero, suc, ◌+◌, ◌<◌, ◌≤◌}
+use Rattle.std.specs.Prelude.{Result, Ok, Err}
 use mathlib.Core.Bool.{Bool, true, false, cond, not}
 use mathlib.Core.List.{List, [], ◌∷◌, ◌++◌}
 use mathlib.Core.Logic.{◌⊎◌, inl, inr, ◌≢◌, ◌↔◌}
@@ -28,7 +29,6 @@ use Rattle.model.specs.Move.{is_take_of, move_refusal}
 use Rattle.model.specs.Entries.{Outcome, Lent, outcome, moving}
 use Rattle.model.specs.declared.Refusal.{Refusal}
 use Rattle.model.specs.declared.Refusal.TheVariants.{ListTooShort, NotATake, NoSuchDevice, StaleTable}
-use Rattle.model.specs.declared.MoveAnswer.{MoveAnswer}
 use Rattle.theory.specs.Move.{Refused, not_a_take, no_such_device, differing, Accepted, Step}
 use Rattle.theory.specs.Move.{refused, accepted, Ask, moved, moved_by, Kept, NearestStale}
 use Rattle.theory.proofs.Tests.{falsely, clash, test, or_left, or_neither}
@@ -427,11 +427,11 @@ changed_is p t u old new rest x y e h =
 -- ---- a move
 
 -- what a move answers and leaves, by what its tests answer
-abbrev pub tested : List ℕ → List ℕ → ℕ → ℕ → Option Refusal → Outcome MoveAnswer Lent
+abbrev pub tested : List ℕ → List ℕ → ℕ → ℕ → Option Refusal → Outcome (Result ℕ Refusal) Lent
 tested p t i device x =
     let plan : List ℕ = edited p i device in
     let sets : List ℕ = rewritten plan t (from_last p i) in
-    outcome MoveAnswer.Refused x (MoveAnswer.Changed (changed p t sets))
+    outcome Err x (Ok (changed p t sets))
     (record { plan = plan; sets = sets }) (record { plan = p; sets = t })
 
 module _ (S : Settings) (p t : List ℕ) (line device : ℕ) (w : WellFormed S p) (small : S.devices ≤ held_from)
@@ -446,7 +446,7 @@ module _ (S : Settings) (p t : List ℕ) (line device : ℕ) (w : WellFormed S p
     afresh = new;
     room = length_rewritten q t (from_last p i);
     elsewhere = λ k m. rewritten_off q t (from_last p i) k (from_last_same p w.rules i k ∙ m);
-    count = ap MoveAnswer.Changed (changed_is p t (rewritten q t (from_last p i)) (table p) (table q)
+    count = ap Ok (changed_is p t (rewritten q t (from_last p i)) (table p) (table q)
         (drop (length p) t) (whole p t mine) new (length_table p) (length_table q ∙ n));
   }
     where
@@ -514,7 +514,7 @@ module _ (S : Settings) (p t : List ℕ) (line device : ℕ) (present : device_a
 
   -- where no test refuses, it changes nothing
   pub same_device_stays : move_refusal S p t line device ≡ none
-      → moving S p t line device ≡ record { answer = MoveAnswer.Changed 0; left = record { plan = p; sets = t } }
+      → moving S p t line device ≡ record { answer = Ok 0; left = record { plan = p; sets = t } }
   unfolding moving outcome
   same_device_stays h =
       let v = tests_passed S p t line device h in
@@ -574,7 +574,7 @@ module _ (S : Settings) (small : S.devices ≤ held_from) where
   unfolding moved
   kept_moved first s a k = go (k.next a)
     where
-      o : Outcome MoveAnswer Lent
+      o : Outcome (Result ℕ Refusal) Lent
       o = moving S s.plan s.sets a.line a.device
 
       rest : drop (length s.plan) s.sets ≡ drop (length first.plan) first.sets

@@ -2,6 +2,7 @@
 -- a plan spells that plan and has no fault, and the plan that a text without a fault spells has that text. Then the
 -- same of the two entries' outcomes.
 use Prim.Native.Nat.{ℕ, suc, ◌*◌, ◌≤◌}
+use Rattle.std.specs.Prelude.{Ok, Err}
 use mathlib.Core.Bool.{Bool, true, false}
 use mathlib.Core.List.{List, [], ◌∷◌, map, flat_map, flatten}
 use mathlib.Core.Logic.{◌↔◌}
@@ -19,8 +20,6 @@ use Rattle.model.specs.WellFormed.{fault}
 use Rattle.model.specs.Entries.{outcome, text_fault, reading, writing}
 use Rattle.model.specs.declared.Refusal.{Refusal}
 use Rattle.model.specs.declared.Refusal.TheVariants.{TextTooLong}
-use Rattle.model.specs.declared.ReadAnswer.{ReadAnswer}
-use Rattle.model.specs.declared.WriteAnswer.{WriteAnswer}
 use Rattle.theory.specs.Text.{AllLines}
 use Rattle.theory.specs.Text.{TextBroken, too_long, spells}
 use Rattle.theory.proofs.Tests.{clash}
@@ -125,9 +124,9 @@ room lent needed h = rw (le-ltb lent needed h)
 -- reading, with its parts shut
 reading_is : (S : Settings) (text lent : List ℕ)
     → reading S text lent
-    ≡ outcome ReadAnswer.Refused
+    ≡ outcome Err
     (first_refusal (text_fault S text ∷ too_short (length lent) (length (spelt S text)) ∷ []))
-    (ReadAnswer.Lines (length (spelt S text))) (over (spelt S text) lent) lent
+    (Ok (length (spelt S text))) (over (spelt S text) lent) lent
 unfolding reading
 reading_is S text lent = refl
 
@@ -143,7 +142,7 @@ module _ (S : Settings) (p : List ℕ) (sound : fault S p ≡ none) where
 
   -- with room, reading what was written gives the plan back
   pub reading_written : (lent : List ℕ) → length p ≤ length lent
-      → reading S (text_of p) lent ≡ record { answer = ReadAnswer.Lines (length p); left = over p lent }
+      → reading S (text_of p) lent ≡ record { answer = Ok (length p); left = over p lent }
   unfolding first_refusal outcome
   reading_written lent h =
       reading_is S (text_of p) lent ∙ rw (written_read.0, written_read.1, room (length lent) (length p) h)
@@ -157,6 +156,6 @@ module _ (S : Settings) (d : S.devices ≤ held_from) (text : List ℕ) (sound :
 
   -- with room, writing what was read gives the text back
   pub writing_read : (lent : List ℕ) → length text ≤ length lent
-      → writing S (spelt S text) lent ≡ record { answer = WriteAnswer.Bytes (length text); left = over text lent }
+      → writing S (spelt S text) lent ≡ record { answer = Ok (length text); left = over text lent }
   unfolding writing first_refusal outcome
   writing_read lent h = rw (read_written, ((no_text_fault S text).0 sound).1, room (length lent) (length text) h)

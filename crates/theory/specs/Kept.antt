@@ -2,6 +2,8 @@
 -- held set to be a plan's own, what one move leaves, and the same of any list of moves. All of it is for plans of the
 -- morning (02, request 5).
 use Rattle.std.specs.Prelude.{ℕ, ◌<◌, ◌≤◌, true, false, List, [], ◌∷◌, ◌≢◌, ◌≡◌, length, get_or, take, drop}
+use Rattle.std.specs.Prelude.{Result}
+use Rattle.model.specs.declared.Refusal.{Refusal}
 use Rattle.std.proofs.Math.Option.{none}
 use Rattle.model.specs.Sets.{member}
 use Rattle.model.specs.Line.{morning}
@@ -13,7 +15,6 @@ use Rattle.model.specs.Move.{asked_at}
 use Rattle.model.specs.Entries.{Outcome, Lent, ordering}
 use Rattle.model.specs.Kept.{lasts_in, held_to_end, Beside, beside_of, over_all, concerned, LentBeside, moving_kept}
 use Rattle.model.specs.Kept.{quick}
-use Rattle.model.specs.declared.MoveAnswer.{MoveAnswer}
 use Rattle.theory.specs.Move.{Accepted, Unmoved, Ask}
 
 -- what is lent beside plan p begins with what is its own
@@ -28,7 +29,7 @@ pub record Own (D : ℕ) (p : List ℕ) (b : Beside) : Type 0 where
 unfoldable pub less_rows : LentBeside → Lent
 less_rows s = record { plan = s.plan; sets = s.beside.sets }
 
-unfoldable pub without_rows : Outcome MoveAnswer LentBeside → Outcome MoveAnswer Lent
+unfoldable pub without_rows : Outcome (Result ℕ Refusal) LentBeside → Outcome (Result ℕ Refusal) Lent
 unfolding less_rows
 without_rows o = record { answer = o.answer; left = less_rows o.left }
 
@@ -53,18 +54,18 @@ pub record MadeBy (D : ℕ) (p : List ℕ) (line device : ℕ) (p' : List ℕ) (
 
 -- what an accepted move does from a plan's own table, rows and held set: to plan and table what it does without rows;
 -- and the three lists are the edited plan's, worked out afresh, and the rest of each
-pub record AcceptedKept (D : ℕ) (p : List ℕ) (lent : Beside) (line device : ℕ) (o : Outcome MoveAnswer LentBeside)
-    : Type 0 where
+pub record AcceptedKept (D : ℕ) (p : List ℕ) (lent : Beside) (line device : ℕ)
+    (o : Outcome (Result ℕ Refusal) LentBeside) : Type 0 where
   pub as_before : Accepted (morning D) p lent.sets line device (without_rows o)
   pub afresh : o.left.beside ≡ over_all (beside_of D o.left.plan) lent
 
 -- what a refused move does: nothing, but for the answer
-pub record UnmovedKept (D : ℕ) (p : List ℕ) (lent : Beside) (line device : ℕ) (o : Outcome MoveAnswer LentBeside)
-    : Type 0 where
+pub record UnmovedKept (D : ℕ) (p : List ℕ) (lent : Beside) (line device : ℕ)
+    (o : Outcome (Result ℕ Refusal) LentBeside) : Type 0 where
   pub as_before : Unmoved (morning D) p lent.sets line device (without_rows o)
   pub stays : o.left.beside ≡ lent
 
-pub data StepKept (D : ℕ) (p : List ℕ) (lent : Beside) (line device : ℕ) (o : Outcome MoveAnswer LentBeside)
+pub data StepKept (D : ℕ) (p : List ℕ) (lent : Beside) (line device : ℕ) (o : Outcome (Result ℕ Refusal) LentBeside)
     : Type 0 where
   refused : UnmovedKept D p lent line device o → StepKept D p lent line device o
   accepted : AcceptedKept D p lent line device o → StepKept D p lent line device o

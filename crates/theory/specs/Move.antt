@@ -2,6 +2,7 @@
 -- move is refused, what it leaves, and the same of any list of moves. What is claimed of moves is claimed in these
 -- words, so they are read like those of `model`.
 use Rattle.std.specs.Prelude.{ℕ, suc, ◌<◌, ◌≤◌, true, false, cond, List, [], ◌∷◌, ◌++◌, ◌≢◌, ◌≡◌, eqb, length, get_or}
+use Rattle.std.specs.Prelude.{Result, Ok, Err}
 use Rattle.std.specs.Prelude.{drop}
 use Rattle.std.proofs.Math.Option.{none}
 use Rattle.model.specs.Lists.{has}
@@ -12,7 +13,6 @@ use Rattle.model.specs.Move.{edited, may_change, stale, asked_at, is_take_of}
 use Rattle.model.specs.Entries.{Outcome, Lent, moving}
 use Rattle.model.specs.declared.Refusal.{Refusal}
 use Rattle.model.specs.declared.Refusal.TheVariants.{NotATake, NoSuchDevice}
-use Rattle.model.specs.declared.MoveAnswer.{MoveAnswer}
 use Rattle.theory.specs.Claims.{Reach}
 
 -- ---- the lines that a move may change
@@ -61,25 +61,25 @@ differing (x ∷ xs) (y ∷ ys) = cond (eqb x y) (differing xs ys) (suc (differi
 -- what an accepted move does: the plan is the edited one and has no fault; the sets are its table, worked out afresh,
 -- and the rest of the list; at lines that are neither on the way nor under the take they are what they were; the count
 -- is that of the places where the lists differ
-pub record Accepted (S : Settings) (p t : List ℕ) (line device : ℕ) (o : Outcome MoveAnswer Lent) : Type 0 where
+pub record Accepted (S : Settings) (p t : List ℕ) (line device : ℕ) (o : Outcome (Result ℕ Refusal) Lent) : Type 0 where
   pub plan : o.left.plan ≡ edited p (asked_at line) device
   pub long : length o.left.plan ≡ length p
   pub no_fault : fault S o.left.plan ≡ none
   pub afresh : o.left.sets ≡ table o.left.plan ++ drop (length p) t
   pub room : length o.left.sets ≡ length t
   pub elsewhere : (k : ℕ) → has k (may_change p (asked_at line)) ≡ false → get_or o.left.sets k 0 ≡ get_or t k 0
-  pub count : o.answer ≡ MoveAnswer.Changed (differing o.left.sets t)
+  pub count : o.answer ≡ Ok (differing o.left.sets t)
 
 -- what a refused move does: nothing, but for the answer
-pub record Unmoved (S : Settings) (p t : List ℕ) (line device : ℕ) (o : Outcome MoveAnswer Lent) : Type 0 where
+pub record Unmoved (S : Settings) (p t : List ℕ) (line device : ℕ) (o : Outcome (Result ℕ Refusal) Lent) : Type 0 where
   pub refusal : Refusal
   pub reason : Refused S p line device refusal
-  pub answer : o.answer ≡ MoveAnswer.Refused refusal
+  pub answer : o.answer ≡ Err refusal
   pub plan : o.left.plan ≡ p
   pub sets : o.left.sets ≡ t
 
 -- what a move from a plan without a fault and its own table does
-pub data Step (S : Settings) (p t : List ℕ) (line device : ℕ) (o : Outcome MoveAnswer Lent) : Type 0 where
+pub data Step (S : Settings) (p t : List ℕ) (line device : ℕ) (o : Outcome (Result ℕ Refusal) Lent) : Type 0 where
   refused : Unmoved S p t line device o → Step S p t line device o
   accepted : Accepted S p t line device o → Step S p t line device o
 

@@ -1,14 +1,9 @@
 -- Where no job goes on, the foremost place has the line that (a), otherwise (b), chooses (01, "The order handed
 -- out"): the lowest job that can go on, or of the lasting takes that stand next the lowest device that nobody else
 -- still wants.
-use Prim.Native.Nat.{ℕ, ◌+◌, ◌<◌, ◌≤◌}
-use mathlib.Core.Bool.{true, false, not, ◌&&◌}
-use mathlib.Core.List.{List}
-use mathlib.Core.Logic.{◌⊎◌, inl, inr}
-use mathlib.Core.Option.{Option, none, some}
-use mathlib.Core.Path.{◌≡◌, refl, sym, ◌∙◌, ap}
-use native.Mathlib.Omega.{arith}
-use lib.ListN.{length, get_or}
+use Rattle.std.proofs.Common.{◌≡◌, ℕ, ◌+◌, ◌<◌, ◌≤◌, true, false, not, ◌&&◌, List, ◌⊎◌, inl, inr, refl, sym, ◌∙◌, ap}
+use Rattle.std.proofs.Common.{arith, length, get_or}
+use Rattle.std.proofs.Math.Option.{Option, none, some}
 use borrow.Author.Tests.{not-true}
 use Rattle.model.specs.Lists.{has, those, first_of, least_by, or_else}
 use Rattle.model.specs.Sets.{member}

@@ -1,20 +1,15 @@
 -- How many undone lines take a device: one less where such a line is done, and at most one exactly if a line that takes
 -- it is the only one. The code's counts are these numbers, and its scarce devices those with at most one. The code
 -- takes lines as they count, of which the takes are the outermost ones (02, request 2).
-use Prim.Native.Nat.{ℕ, zero, suc, ◌+◌, ◌-◌, ◌<◌, ◌≤◌}
-use mathlib.Core.Bool.{Bool, true, false, cond, not, ◌||◌, ◌&&◌}
-use mathlib.Core.List.{List, [], ◌∷◌, ◌++◌}
-use mathlib.Core.Logic.{◌⊎◌, inl, inr}
-use mathlib.Core.Path.{◌≡◌, refl, sym, ◌∙◌, ap}
-use native.Mathlib.Nat.{mod-eq_of_lt}
-use native.Mathlib.Omega.{arith}
-use mir.Val.{bool_byte}
-use lib.Dec.{eqb, leb, ltb}
-use lib.ListN.{length, get_or, set, length-set, get_or-replicate}
-use lib.Seq.{get_or-set_same, get_or-set_other}
-use borrow.Author.Tests.{eqb-true, eqb-false, eq-eqb, ne_eqb, le-leb, lt-leb, leb-true, lt-ltb, le-ltb, not-true}
+use Rattle.std.proofs.Common.{◌≡◌, ℕ, zero, suc, ◌+◌, ◌-◌, ◌<◌, ◌≤◌, Bool, true, false, cond, not, ◌||◌, ◌&&◌, List, []}
+use Rattle.std.proofs.Common.{◌∷◌, ◌++◌, ◌⊎◌, inl, inr, refl, sym, ◌∙◌, ap, mod-eq_of_lt, arith, add-one, eqb, leb, ltb}
+use Rattle.std.proofs.Common.{length, get_or, set, length-set, replicate, get_or-set_same, get_or-set_other, eqb-true}
+use Rattle.std.proofs.Common.{eq-eqb, ne_eqb, le-leb, leb-true, lt-ltb, le-ltb}
+use Rattle.std.proofs.Math.ListN.{get_or-replicate}
+use borrow.Author.Tests.{eqb-false, lt-leb, not-true}
+use Rattle.std.specs.Int.{from_bool}
 use Rattle.model.specs.Lists.{any, has}
-use Rattle.model.specs.Sets.{member}
+use Rattle.model.specs.Sets.{empty, union, member}
 use Rattle.model.specs.Line.{at, is_take, operand, max_lines}
 use Rattle.model.specs.Mate.{takes_at, device_at, takes}
 use Rattle.model.specs.Handed.{undone, alone}
@@ -31,6 +26,7 @@ use Rattle.rows.proofs.Counted.{taken_operand}
 use Rattle.theory.proofs.Progress.{has_undone, undone_has, device_below}
 use Rattle.theory.proofs.LineByLine.{more_new, has_other, more_not, not_more}
 use Rattle.line.proofs.Ranges.{or_none}
+use Rattle.sets.specs.Only.{only_of}
 use Rattle.sets.proofs.Members.{member_only_if}
 use Rattle.verdict.specs.declared.waiting.Waiting.{Waiting}
 use Rattle.verdict.specs.Waiting.{slot, takes_one, added, tallied, scarce_if, scarce_below, counted, settled}
@@ -48,7 +44,7 @@ wanted p done d = left (through p done d) (length p)
 
 -- a line is done: one less where it takes the device
 wanted_step : (p done : List ℕ) (x d : ℕ) → x < length p → has x done ≡ false
-    → wanted p done d ≡ bool_byte (takes p x d) + wanted p (done ++ (x ∷ [])) d
+    → wanted p done d ≡ from_bool (takes p x d) + wanted p (done ++ (x ∷ [])) d
 unfolding wanted through
 wanted_step p done x d h e = go (takes p x d) refl
   where
@@ -64,7 +60,7 @@ wanted_step p done x d h e = go (takes p x d) refl
     kept t k (inr q) = others k (eqb-false k x q)
 
     go : (b : Bool) → takes p x d ≡ b
-        → left (through p done d) (length p) ≡ bool_byte b + left (through p next d) (length p)
+        → left (through p done d) (length p) ≡ from_bool b + left (through p next d) (length p)
     go true t = omega (
       arith,
       left_one (through p done d) (through p next d) x (rw (e, t)) (rw (more_new x done)) others (length p) h,
@@ -132,24 +128,24 @@ module _ (xs : List ℕ) (s : ℕ) (h : s < length xs) where
       go (inr q) = rw q (get_or-set_other xs s d v 0 (λ y. eqb-false s d q (sym y)))
 
   risen : (t : Bool) (d : ℕ)
-      → get_or (set xs s (get_or xs s 0 + bool_byte t)) d 0 ≡ bool_byte (t && eqb s d) + get_or xs d 0
-  risen t d = at_set (get_or xs s 0 + bool_byte t) d ∙ go t (eqb s d) refl
+      → get_or (set xs s (get_or xs s 0 + from_bool t)) d 0 ≡ from_bool (t && eqb s d) + get_or xs d 0
+  risen t d = at_set (get_or xs s 0 + from_bool t) d ∙ go t (eqb s d) refl
     where
       go : (t b : Bool) → eqb s d ≡ b
-          → cond b (get_or xs s 0 + bool_byte t) (get_or xs d 0) ≡ bool_byte (t && b) + get_or xs d 0
+          → cond b (get_or xs s 0 + from_bool t) (get_or xs d 0) ≡ from_bool (t && b) + get_or xs d 0
       go true true q = let z = eqb-true s d q in rw z (omega arith)
       go false true q = let z = eqb-true s d q in rw z (omega arith)
       go true false q = omega arith
       go false false q = omega arith
 
-  fallen : (t : Bool) → bool_byte t ≤ get_or xs s 0 → (d : ℕ)
-      → bool_byte (t && eqb s d) + get_or (set xs s (get_or xs s 0 - bool_byte t)) d 0 ≡ get_or xs d 0
+  fallen : (t : Bool) → from_bool t ≤ get_or xs s 0 → (d : ℕ)
+      → from_bool (t && eqb s d) + get_or (set xs s (get_or xs s 0 - from_bool t)) d 0 ≡ get_or xs d 0
   fallen t f d =
-      ap (λ (n : ℕ). bool_byte (t && eqb s d) + n) (at_set (get_or xs s 0 - bool_byte t) d)
+      ap (λ (n : ℕ). from_bool (t && eqb s d) + n) (at_set (get_or xs s 0 - from_bool t) d)
       ∙ go t f (eqb s d) refl
     where
-      go : (t : Bool) → bool_byte t ≤ get_or xs s 0 → (b : Bool) → eqb s d ≡ b
-          → bool_byte (t && b) + cond b (get_or xs s 0 - bool_byte t) (get_or xs d 0) ≡ get_or xs d 0
+      go : (t : Bool) → from_bool t ≤ get_or xs s 0 → (b : Bool) → eqb s d ≡ b
+          → from_bool (t && b) + cond b (get_or xs s 0 - from_bool t) (get_or xs d 0) ≡ get_or xs d 0
       go true f true q = let z = eqb-true s d q in rw (← z) (omega arith)
       go false f true q = let z = eqb-true s d q in rw (← z) (omega arith)
       go true f false q = omega arith
@@ -182,7 +178,7 @@ module _ (p : List ℕ) (w : WellFormed board p) where
       risen (tallied p n) (slot (plain_at p n)) (omega (arith, tallied_length p n)) (is_take (plain_at p n)) d
       ∙ rw (takes_slot n d, tallied_takes n d h) (go (takes p n d) (left (through p [] d) n))
     where
-      go : (b : Bool) (l : ℕ) → bool_byte b + l ≡ cond (not b) l (suc l)
+      go : (b : Bool) (l : ℕ) → from_bool b + l ≡ cond (not b) l (suc l)
       go true l = omega arith
       go false l = omega arith
 
@@ -223,8 +219,8 @@ scarce_below_lem counts (suc n) d h =
     go (inr q) (inr l) = rw (q, le-ltb d n (omega arith), le-ltb d (suc n) (omega arith)) (and_right (few n) false refl)
 
 -- a line is done: its device is scarce now if it was, or if it is a take and at most two lines took it
-scarce_now : (t b : Bool) (c n : ℕ) → (b ≡ true → c ≡ bool_byte (t && b) + n)
-    → (leb (bool_byte (t && b) + n) 1 || ((t && leb c 2) && b)) ≡ leb n 1
+scarce_now : (t b : Bool) (c n : ℕ) → (b ≡ true → c ≡ from_bool (t && b) + n)
+    → (leb (from_bool (t && b) + n) 1 || ((t && leb c 2) && b)) ≡ leb n 1
 scarce_now false b c n e = let z : 0 + n ≡ n = omega arith in rw z (or_none (leb n 1))
 scarce_now true false c n e =
     let z : 0 + n ≡ n = omega arith in rw (z, and_right (leb c 2) false refl) (or_none (leb n 1))
@@ -264,16 +260,16 @@ module _ {p : List ℕ} (w : WellFormed board p) where
           arith,
           c.counts_are s (omega arith),
           wanted_step p done x s l u,
-          ap bool_byte (takes_slot p w x s),
-          ap (λ (b : Bool). bool_byte (is_take (plain_at p x) && b)) (eq-eqb s s refl),
-          ap bool_byte (and_true (is_take (plain_at p x))),
+          ap from_bool (takes_slot p w x s),
+          ap (λ (b : Bool). from_bool (is_take (plain_at p x) && b)) (eq-eqb s s refl),
+          ap from_bool (and_true (is_take (plain_at p x))),
         )
 
     before : (d : ℕ) → d < devices
-        → get_or counts d 0 ≡ bool_byte (is_take (plain_at p x) && eqb s d) + wanted p (done ++ (x ∷ [])) d
+        → get_or counts d 0 ≡ from_bool (is_take (plain_at p x) && eqb s d) + wanted p (done ++ (x ∷ [])) d
     before d h =
         c.counts_are d h ∙ wanted_step p done x d l u
-        ∙ ap (λ (b : Bool). bool_byte b + wanted p (done ++ (x ∷ [])) d) (sym (takes_slot p w x d))
+        ∙ ap (λ (b : Bool). from_bool b + wanted p (done ++ (x ∷ [])) d) (sym (takes_slot p w x d))
 
     pub one_counted : (wa : Waiting) → wa.scarce ≡ scarce
         → Counted p (done ++ (x ∷ [])) (counted counts (plain_at p x)) (settled counts wa (plain_at p x)).scarce
@@ -294,3 +290,22 @@ module _ {p : List ℕ} (w : WellFormed board p) where
           (scarce_now (is_take (plain_at p x)) (eqb s d) (get_or counts s 0) (wanted p (done ++ (x ∷ [])) d)
           (λ q. ap (λ (n : ℕ). get_or counts n 0) (eqb-true s d q) ∙ before d h));
     }
+
+-- ---- the loops that count, a step further
+
+pub tallied_none : (p : List ℕ) → replicate devices 0 ≡ tallied p 0
+unfolding tallied
+tallied_none p = refl
+
+pub tallied_more : (p : List ℕ) (n : ℕ) → tallied p (n + 1) ≡ added (tallied p n) (plain_at p n)
+unfolding tallied
+tallied_more p n = rw add-one
+
+pub scarce_none : (counts : List ℕ) → 0 ≡ scarce_below counts 0
+unfolding scarce_below empty
+scarce_none counts = refl
+
+pub scarce_more : (counts : List ℕ) (n : ℕ) → scarce_below counts (n + 1)
+    ≡ union (scarce_below counts n) (cond (leb (get_or counts n 0) 1) (only_of devices n) empty)
+unfolding scarce_below scarce_if
+scarce_more counts n = rw add-one

@@ -1,12 +1,7 @@
 -- The places taken are two sets side by side, of jobs and of devices: what taking and leaving a place changes, and
 -- which place is the foremost.
-use Prim.Native.Nat.{ℕ, ◌+◌, ◌-◌, ◌<◌, ◌≤◌}
-use mathlib.Core.Bool.{Bool, true, false, cond, not, ◌||◌, ◌&&◌}
-use mathlib.Core.Logic.{◌⊎◌, inl, inr}
-use mathlib.Core.Path.{◌≡◌, refl, sym, ◌∙◌}
-use native.Mathlib.Omega.{arith}
-use lib.Dec.{eqb, ltb}
-use borrow.Author.Tests.{eqb-true, eq-eqb, ne_eqb, lt-ltb, le-ltb}
+use Rattle.std.proofs.Common.{◌≡◌, ℕ, ◌+◌, ◌-◌, ◌<◌, ◌≤◌, Bool, true, false, cond, not, ◌||◌, ◌&&◌, ◌⊎◌, inl, inr, refl}
+use Rattle.std.proofs.Common.{sym, ◌∙◌, arith, eqb, ltb, eqb-true, eq-eqb, ne_eqb, lt-ltb, le-ltb}
 use Rattle.model.specs.Sets.{union, member, lowest_of}
 use Rattle.model.specs.Line.{max_job}
 use Rattle.model.specs.Board.{devices}

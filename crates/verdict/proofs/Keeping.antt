@@ -1,15 +1,11 @@
 -- What the code keeps from line to line. A job that goes on is the lowest that can, so its next line is the one that
 -- (a) chooses; where none does, the foremost place has the line chosen. After it is done, the places, the counts and
 -- the sets tell of one line more. So line by line the order handed out is that of the definitions.
-use Prim.Native.Nat.{ℕ, suc, ◌+◌, ◌-◌, ◌<◌, ◌≤◌}
-use mathlib.Core.Bool.{Bool, true, false, cond}
-use mathlib.Core.List.{List, [], ◌∷◌, ◌++◌, append-nil, append_assoc}
-use mathlib.Core.Logic.{◌⊎◌, inl, inr, ◌≢◌}
-use mathlib.Core.Option.{Option, none, some}
-use mathlib.Core.Path.{◌≡◌, refl, sym, ◌∙◌, ap}
-use native.Mathlib.Omega.{arith}
-use lib.Dec.{ltb}
-use lib.ListN.{length, get_or, replicate, length-append}
+use Rattle.std.proofs.Common.{◌≡◌, ℕ, suc, ◌+◌, ◌-◌, ◌<◌, ◌≤◌, Bool, true, false, cond, List, [], ◌∷◌, ◌++◌, append-nil}
+use Rattle.std.proofs.Common.{append_assoc, ◌⊎◌, inl, inr, ◌≢◌, refl, sym, ◌∙◌, ap, arith, is_some, unwrap_or, ltb}
+use Rattle.std.proofs.Common.{length, get_or, replicate, length-append}
+use Rattle.std.proofs.Math.Option.{Option, none, some}
+use Rattle.std.specs.Bool.{then_some}
 use Rattle.model.specs.Lists.{has, or_else}
 use Rattle.model.specs.Sets.{empty, member}
 use Rattle.model.specs.Line.{max_job}
@@ -26,9 +22,9 @@ use Rattle.theory.proofs.LineByLine.{has_other}
 use Rattle.theory.proofs.WellFormed.{no_held_in_morning}
 use Rattle.theory.proofs.Morning.{handed_line_by_line}
 use Rattle.verdict.specs.declared.waiting.Waiting.{Waiting}
-use Rattle.verdict.specs.declared.order.Choice.{Choice}
+use Rattle.verdict.specs.Waiting.{Choice}
 use Rattle.verdict.specs.Waiting.{all_places, place_at, waits, arrived, foremost, goes_on, lasting_after, started_line}
-use Rattle.verdict.specs.Waiting.{tallied, scarce_below, counted, settled, choosing, passed, replaced}
+use Rattle.verdict.specs.Waiting.{idle, tallied, scarce_below, counted, settled, choosing, passed, replaced}
 use Rattle.verdict.proofs.Counts.{Counted, none_counted, one_counted}
 use Rattle.verdict.proofs.Places.{Shows, Comes, shows_same, comes_if, goes_off, scarce_vacated, scarce_arrived}
 use Rattle.verdict.proofs.Places.{shows_settled}
@@ -36,11 +32,6 @@ use Rattle.verdict.proofs.Standing.{Closed, closed_on, Beside, first_stands, sta
 use Rattle.verdict.proofs.Standing.{apart, stayed_stands, next_stands, started_stands, lasting_stands}
 use Rattle.verdict.proofs.Standing.{lower_still, beside_placed, placed_beside}
 use Rattle.verdict.proofs.Choosing.{Accepted, Going, GoesNext, foremost_next}
-
--- no line waits
-unfoldable pub idle : ℕ → Waiting
-unfolding empty
-idle scarce = record { ready = empty; awaited = empty; scarce = scarce }
 
 -- a line goes next and all others that stand next wait at their places
 pub record Chooses (p done places : List ℕ) (scarce : ℕ) (c : Choice) : Type 0 where
@@ -56,6 +47,19 @@ pub record Keeps (p done places counts : List ℕ) (wa : Waiting) (on : Bool) (i
   pub counts_all : Counted p done counts wa.scarce
   pub rest : left (among done) (length p) + length done ≡ length p
   pub order : done ++ lines_after (left (among done) (length p)) p done ≡ handed p
+
+-- where no job goes on, whatever line is named; where one does, its next line is named
+pub keeps_if : {p done places counts : List ℕ} {wa : Waiting} (on : Bool) (i : ℕ) → Keeps p done places counts wa on i
+    → Keeps p done places counts wa (is_some (then_some on i)) (unwrap_or (then_some on i) 0)
+keeps_if true i k = k
+keeps_if false i k = record {
+  closed = k.closed;
+  going = λ e l. clash false e refl;
+  shows = shows_same k.shows (λ n t. (t.0, λ e. clash false e refl)) (λ n t. (t.0, λ e. clash false e refl));
+  counts_all = k.counts_all;
+  rest = k.rest;
+  order = k.order;
+}
 
 none_waits : (scarce s : ℕ) → waits (idle scarce) s ≡ false
 unfolding waits idle empty

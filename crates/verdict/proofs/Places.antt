@@ -1,15 +1,9 @@
 -- Which lines wait, and at which places: what the sets and the list show when lines come and go, where no two of the
 -- lines that wait have one place.
-use Prim.Native.Nat.{ℕ, ◌-◌, ◌<◌, ◌≤◌}
-use mathlib.Core.Bool.{Bool, true, false, cond, not}
-use mathlib.Core.List.{List}
-use mathlib.Core.Logic.{◌⊎◌, inl, inr, ◌≢◌}
-use mathlib.Core.Path.{◌≡◌, refl, sym, ◌∙◌, ap}
-use native.Mathlib.Omega.{arith}
-use lib.Dec.{eqb, ltb}
-use lib.ListN.{length, get_or, set, length-set}
-use lib.Seq.{get_or-set_same, get_or-set_other}
-use borrow.Author.Tests.{eqb-true, eqb-false, ne_eqb, eq-eqb, ltb-true, ltb-false, not-true}
+use Rattle.std.proofs.Common.{◌≡◌, ℕ, ◌-◌, ◌<◌, ◌≤◌, Bool, true, false, cond, not, List, ◌⊎◌, inl, inr, ◌≢◌, refl, sym}
+use Rattle.std.proofs.Common.{◌∙◌, ap, arith, eqb, ltb, length, get_or, set, length-set, get_or-set_same}
+use Rattle.std.proofs.Common.{get_or-set_other, eqb-true, ne_eqb, eq-eqb, ltb-true, ltb-false}
+use borrow.Author.Tests.{eqb-false, not-true}
 use Rattle.model.specs.Sets.{union}
 use Rattle.model.specs.Line.{max_job}
 use Rattle.model.specs.Board.{devices}

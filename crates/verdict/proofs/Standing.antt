@@ -2,15 +2,10 @@
 -- next line of its job and the first line of the job that it starts. No two of them have one place, if no device has
 -- two lasting takes. If the job goes on, its next line is the lowest that can go on, and all the others are at their
 -- places.
-use Prim.Native.Nat.{ℕ, suc, ◌+◌, ◌-◌, ◌<◌, ◌≤◌}
-use mathlib.Core.Bool.{Bool, true, false, cond, not, ◌&&◌}
-use mathlib.Core.List.{List, [], ◌∷◌, ◌++◌}
-use mathlib.Core.Logic.{◌⊎◌, inl, inr, ◌≢◌}
-use mathlib.Core.Path.{◌≡◌, refl, sym, ◌∙◌, ap}
-use native.Mathlib.Omega.{arith}
-use lib.Dec.{eqb, ltb}
-use lib.ListN.{length, get_or}
-use borrow.Author.Tests.{eqb-true, eqb-false, eq-eqb, ltb-true, lt-ltb, not-true}
+use Rattle.std.proofs.Common.{◌≡◌, ℕ, suc, ◌+◌, ◌-◌, ◌<◌, ◌≤◌, Bool, true, false, cond, not, ◌&&◌, List, [], ◌∷◌, ◌++◌}
+use Rattle.std.proofs.Common.{◌⊎◌, inl, inr, ◌≢◌, refl, sym, ◌∙◌, ap, arith, eqb, ltb, length, get_or, eqb-true, eq-eqb}
+use Rattle.std.proofs.Common.{ltb-true, lt-ltb}
+use borrow.Author.Tests.{eqb-false, not-true}
 use Rattle.model.specs.Lists.{has}
 use Rattle.model.specs.Line.{job, kind, operand, is_start, starts, at, has_lines, max_job}
 use Rattle.model.specs.Mate.{device_at, lasting_at}

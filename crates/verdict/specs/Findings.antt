@@ -1,18 +1,13 @@
--- What the verdict is told of a plan without a fault: what the search for its holds found (01, "Claims and rows"), and
--- which lines take again (02, request 2).
-use Rattle.std.specs.Prelude.{ℕ, List, ◌≡◌}
+-- What the verdict is told of a plan without a fault beside what the order is handed out by: what the search for its
+-- holds found (01, "Claims and rows").
+use Rattle.std.specs.Prelude.{List, ℕ, ◌≡◌}
 use Rattle.model.specs.Board.{devices}
 use Rattle.model.specs.Kept.{held_to_end}
 use Rattle.rows.specs.Lasting.{held_twice}
 use Rattle.rows.specs.Holds.{rows_of}
-use Rattle.plan.specs.Again.{again_flags}
-use Rattle.plan.specs.Jobs.{FirstsListed}
-use Rattle.verdict.specs.Waiting.{Marked}
+use Rattle.rows.specs.declared.Held.{Held}
 
-pub record Findings (p first again rs lasting : List ℕ) (held twice : ℕ) : Type 0 where
-  pub marked : Marked p lasting
-  pub listed : FirstsListed p first
-  pub agains_are : again ≡ again_flags p
+pub record Findings (p rs : List ℕ) (holds : Held) : Type 0 where
   pub rows_are : rs ≡ rows_of p
-  pub to_end : held ≡ held_to_end devices p
-  pub twice_are : twice ≡ held_twice devices p
+  pub to_end : holds.held ≡ held_to_end devices p
+  pub twice_are : holds.twice ≡ held_twice devices p

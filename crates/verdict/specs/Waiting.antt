@@ -3,10 +3,12 @@
 -- of its job. The places taken are two sets, of jobs and of devices, so the lowest is read off a word; a list says
 -- which line waits at each place. Takes still to do are counted by device, and a third set has the devices that at most
 -- one of them takes; lines are counted as they count, so that a take of what its job holds is none (02, request 2).
-use Rattle.std.specs.Prelude.{ℕ, zero, suc, ◌+◌, ◌-◌, ◌%◌, ◌≤◌, Bool, cond, not, ◌&&◌, List, ◌≡◌, eqb, leb, ltb, length}
-use Rattle.std.specs.Prelude.{get_or, set, replicate}
-use Rattle.std.proofs.Math.Option.{none}
-use mir.Val.{bool_byte}
+use Rattle.std.specs.Prelude.{◌≡◌, ℕ, zero, suc, ◌+◌, ◌-◌, ◌%◌, ◌≤◌, Bool, cond, not, ◌&&◌, eqb, leb, ltb}
+use Rattle.std.specs.Prelude.{List, length, get_or, set, replicate}
+use Rattle.std.specs.Prelude as found
+use Rattle.std.specs.Bool.{then_some}
+use Rattle.std.specs.Int.{from_bool}
+use Rattle.std.specs.Result.{is_ok}
 use Rattle.model.specs.Sets.{empty, union, member, lowest_of}
 use Rattle.model.specs.Line.{job, operand, is_take, is_start, at, max_lines, max_job}
 use Rattle.model.specs.Mate.{lasting_at}
@@ -15,17 +17,15 @@ use Rattle.model.specs.Board.{devices, board}
 use Rattle.theory.specs.Outer.{plain_at}
 use Rattle.sets.specs.Only.{only_of}
 use Rattle.sets.specs.Both.{both, without}
+use Rattle.plan.specs.Checked.{checked}
 use Rattle.plan.specs.Jobs.{first_lines}
-use Rattle.rows.specs.Lasting.{lasting_flags}
 use Rattle.verdict.specs.declared.waiting.Waiting.{Waiting}
-use Rattle.verdict.specs.declared.order.Choice.{Choice}
 
 -- ---- what the code is told of a plan
 
--- it has no fault, and 1 stands for each lasting take, 0 for every other line
-pub record Marked (p lasting : List ℕ) : Type 0 where
-  pub sound : fault board p ≡ none
-  pub marks : lasting ≡ lasting_flags p
+-- it has no fault, as a test
+abbrev pub is_sound : List ℕ → Bool
+is_sound p = is_ok (checked (fault board p))
 
 -- ---- places: those of the jobs, job j at j - 1, and past them those of the devices
 
@@ -39,6 +39,11 @@ waiting_place lasts l = cond lasts (max_job + operand l) (job l - 1)
 unfoldable pub place_at : List ℕ → ℕ → ℕ
 unfolding waiting_place
 place_at p i = waiting_place (lasting_at p i) (at p i)
+
+-- no line waits
+unfoldable pub idle : ℕ → Waiting
+unfolding empty
+idle scarce = record { ready = empty; awaited = empty; scarce = scarce }
 
 -- a line waits at place s
 unfoldable pub waits : Waiting → ℕ → Bool
@@ -74,11 +79,20 @@ foremost w =
     cond (ltb (lowest_of max_job w.ready) max_job) (lowest_of max_job w.ready)
     (max_job + lowest_of devices (both w.awaited w.scarce))
 
--- the line that goes next, and the lines that wait beside it: line i where its job goes on, otherwise the foremost
+-- the line that goes next, and the lines that wait beside it
+pub record Choice : Type 0 where
+  pub line : ℕ
+  pub others : Waiting
+
+-- line i where its job goes on, otherwise the foremost
 unfoldable pub choosing : List ℕ → Waiting → Bool → ℕ → Choice
 choosing places w on i =
     cond on (record { line = i; others = w })
     (record { line = get_or places (foremost w) 0; others = vacated w (foremost w) })
+
+-- the same, where the line at which a job goes on is named, if one does
+abbrev pub chosen : List ℕ → Waiting → found.Option ℕ → Choice
+chosen places w next = choosing places w (found.is_some next) (found.unwrap_or next 0)
 
 -- ---- the lines that a line lets stand next, of which there is at most one of each kind
 
@@ -90,9 +104,18 @@ followed p i = ltb (suc i) (length p) && eqb (job (at p (suc i))) (job (at p i))
 unfoldable pub goes_on : List ℕ → ℕ → Bool
 goes_on p i = followed p i && not (lasting_at p (suc i))
 
+-- the line at which a job goes on after the line done last, if it does: at first line 0
+unfoldable pub goes_after : List ℕ → found.Option ℕ → found.Option ℕ
+goes_after p found.None = found.Some 0
+goes_after p (found.Some i) = then_some (goes_on p i) (i + 1)
+
 -- a lasting take comes to its place; else the plan's length, which is no line
 unfoldable pub lasting_after : List ℕ → ℕ → ℕ
 lasting_after p i = cond (followed p i && lasting_at p (suc i)) (suc i) (length p)
+
+-- a line by its number; a number past the plan's end is no line's
+abbrev pub as_line : List ℕ → ℕ → found.Option ℕ
+as_line p t = then_some (ltb t (length p)) t
 
 -- the first line of the job that line i starts; else the plan's length
 unfoldable pub started_line : List ℕ → ℕ → ℕ
@@ -106,7 +129,7 @@ slot l = operand l % devices
 
 -- one for a take, else nought
 abbrev pub takes_one : ℕ → ℕ
-takes_one l = bool_byte (is_take l)
+takes_one l = from_bool (is_take l)
 
 -- the count at the entry of a line is small, so that it can rise; it has what the line takes off
 abbrev pub CanRise : List ℕ → ℕ → Type 0
@@ -125,7 +148,7 @@ tallied p zero = replicate devices 0
 tallied p (suc n) = added (tallied p n) (plain_at p n)
 
 -- the set of a device, if it comes to be scarce; else no device
-unfoldable pub scarce_if : Bool → ℕ → ℕ
+abbrev pub scarce_if : Bool → ℕ → ℕ
 scarce_if b d = cond b (only_of devices d) empty
 
 -- the devices below n that at most one line takes

@@ -1,7 +1,6 @@
 // The lines that wait, each at its place (01, "The order handed out"): two sets, so that the place that goes next is
 // read off them.
 ghost use Rattle.std.specs.Prelude.{◌≡◌};
-ghost use Rattle.verdict.specs.Waiting.{taken, vacated, foremost};
 
 use board::{EACH_DEVICE, Jobs, LAST_JOB, Set};
 
@@ -17,49 +16,56 @@ pub struct Waiting {
     pub scarce: Set,
 }
 
-// Place `s` is taken now.
-pub fn take_place(w: Waiting, s: u32) -> Waiting
-    ensures { result ≡ taken w s }
-{
-    if s < LAST_JOB {
-        return Waiting {
-            ready: sets::with_job(w.ready, s),
-            awaited: w.awaited,
-            scarce: w.scarce,
-        };
-    }
-    Waiting {
-        ready: w.ready,
-        awaited: sets::union(w.awaited, sets::only(s - LAST_JOB)),
-        scarce: w.scarce,
-    }
-}
+impl Waiting {
+    ghost use Rattle.verdict.specs.Waiting.{taken, vacated, foremost};
 
-// Place `s` is left.
-pub fn leave_place(w: Waiting, s: u32) -> Waiting
-    ensures { result ≡ vacated w s }
-{
-    if s < LAST_JOB {
-        return Waiting {
-            ready: sets::without_job(w.ready, s),
-            awaited: w.awaited,
-            scarce: w.scarce,
-        };
+    // Place `s` is taken now.
+    #[tactic(auto, unfolding(crate::specs::Waiting::taken, crate::specs::Waiting::with_set))]
+    pub fn take_place(self, s: u32) -> Waiting
+        ensures { result ≡ taken self s }
+    {
+        if s < LAST_JOB {
+            Waiting {
+                ready: sets::with_job(self.ready, s),
+                ..self
+            }
+        } else {
+            Waiting {
+                awaited: sets::union(self.awaited, sets::only(s - LAST_JOB)),
+                ..self
+            }
+        }
     }
-    Waiting {
-        ready: w.ready,
-        awaited: sets::without(w.awaited, sets::only(s - LAST_JOB)),
-        scarce: w.scarce,
-    }
-}
 
-// The place of the line that goes next, of those that wait.
-pub fn foremost(w: Waiting) -> u32
-    ensures { result ≡ foremost w }
-{
-    let job = sets::lowest_job(w.ready);
-    if job < LAST_JOB {
-        return job;
+    // Place `s` is left. (One function with the operation handed in would be no plainer than the two: it would need it
+    // twice, for jobs and for devices, which are words of two types.)
+    #[tactic(auto, unfolding(crate::specs::Waiting::vacated, crate::specs::Waiting::with_set))]
+    pub fn leave_place(self, s: u32) -> Waiting
+        ensures { result ≡ vacated self s }
+    {
+        if s < LAST_JOB {
+            Waiting {
+                ready: sets::without_job(self.ready, s),
+                ..self
+            }
+        } else {
+            Waiting {
+                awaited: sets::without(self.awaited, sets::only(s - LAST_JOB)),
+                ..self
+            }
+        }
     }
-    LAST_JOB + sets::lowest(sets::both(w.awaited, w.scarce))
+
+    // The place of the line that goes next, of those that wait.
+    #[tactic(auto, using(sets::proofs::Members::lowest_at_most), unfolding(crate::specs::Waiting::foremost))]
+    pub fn foremost(self) -> u32
+        ensures { result ≡ foremost self }
+    {
+        let job = sets::lowest_job(self.ready);
+        if job < LAST_JOB {
+            job
+        } else {
+            LAST_JOB + sets::lowest(sets::both(self.awaited, self.scarce))
+        }
+    }
 }

@@ -19,7 +19,7 @@ use Rattle.theory.specs.Move.{Falls, ends, falls}
 use Rattle.theory.proofs.Lists.{has_head, has_tail, has_up_from}
 use Rattle.theory.proofs.Way.{falls_below, way_falls}
 use Rattle.mates.specs.Found.{found}
-use Rattle.mates.specs.declared.Found.{Found}
+use Rattle.std.specs.Prelude.{Option}
 use Rattle.mates.proofs.Spans.{Spans}
 use Rattle.way.specs.Back.{begin_of, way_by, under_by}
 use Rattle.way.specs.Join.{stale_by, mended_by}
@@ -58,7 +58,7 @@ module _ {p t first starter again : List ℕ} (k : Known p t first starter again
       (walk_is p k.scan.well_formed.rules
       (λ i lt. (line_parts (board_at true) (at p i) (k.scan.well_formed.lines i lt)).1) (suc i) (suc i) (omega arith) h)
 
-  pub stale_known : (r : Found) → r ≡ found (first_of (stale_by p again first t) (way_by p t starter i))
+  pub stale_known : (r : Option ℕ) → r ≡ found (first_of (stale_by p again first t) (way_by p t starter i))
       → r ≡ found (first_of (stale p t) (way p i))
   stale_known r e =
       rw (
@@ -78,7 +78,7 @@ module _ {p t first starter again : List ℕ} (k : Known p t first starter again
 -- ---- under the take at i, whose span ends at stop
 
 pub under_known : {p t first starter again : List ℕ} → Known p t first starter again → (i stop : ℕ) → Spans p i stop
-    → (r : Found) → r ≡ found (first_of (stale_by p again first t) (under_by p t i stop))
+    → (r : Option ℕ) → r ≡ found (first_of (stale_by p again first t) (under_by p t i stop))
     → r ≡ found (first_of (stale p t) (under p i))
 unfolding under_by
 under_known {p} {t} {first} {starter} {again} k i stop s r e =

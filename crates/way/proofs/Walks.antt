@@ -1,45 +1,32 @@
--- The walks along the way: the search for a stale line, the devices of lines with a flag, and the mending of the sets
--- with its count.
-use Prim.Native.Nat.{ℕ, zero, suc, ◌+◌, ◌-◌, ◌<◌, ◌≤◌}
+-- The lines of a way, one further up than the other; and the mending of the sets along them, with its count.
+use Prim.Native.Nat.{min, ℕ, zero, suc, ◌+◌, ◌-◌, ◌<◌, ◌≤◌}
 use mathlib.Core.Bool.{Bool, true, false, cond, not, ◌&&◌}
 use mathlib.Core.List.{List, [], ◌∷◌}
 use mathlib.Core.Logic.{◌⊎◌, inl, inr, ◌≢◌}
-use mathlib.Core.Option.{Option}
+use Rattle.std.specs.Prelude.{Option, Some, None}
+use Rattle.std.specs.Bool.{then_some}
+use Rattle.std.specs.List.{find}
+use Rattle.std.specs.Option.{option_map}
+use Rattle.std.proofs.lemmas.Option.{none-some, same_Some}
 use mathlib.Core.Path.{◌≡◌, refl, sym, ◌∙◌, ap}
 use native.Mathlib.Omega.{arith}
 use lib.Dec.{eqb, ltb}
 use lib.ListN.{length, get_or, set, length-set}
 use lib.Seq.{get_or-set_same, get_or-set_other}
-use borrow.Author.Tests.{eqb-true, eq-eqb, eqb-false, ne_eqb, ltb-true, ltb-false}
+use borrow.Author.Tests.{eqb-true, eq-eqb, eqb-false, ltb-true, ltb-false}
 use Rattle.model.specs.Lists.{up_from, positions, those, first_of}
-use Rattle.model.specs.Board.{devices}
-use Rattle.model.specs.Sets.{empty, union}
-use Rattle.model.specs.Line.{job, operand, at}
+use Rattle.model.specs.Line.{job, at}
 use Rattle.model.specs.Move.{changed}
 use Rattle.theory.proofs.Tests.{test, tests_agree}
 use Rattle.theory.proofs.Lists.{has_up_from, those_same}
-use Rattle.sets.specs.Only.{only_of}
+use Rattle.theory.specs.Move.{Falls, ends, falls}
+use Rattle.theory.proofs.Way.{falls_further}
 use Rattle.mates.specs.Found.{found}
-use Rattle.mates.specs.declared.Found.{Found}
-use Rattle.way.specs.Back.{line_before, walked, way_from, begin_of, way_by}
+use Rattle.way.specs.Back.{line_with, line_before, walked, way_from, begin_of, way_by}
+use Rattle.way.specs.Way.{number_of}
 use Rattle.way.specs.Join.{rejoined_by, stale_by, mended_by}
-use Rattle.way.specs.Flagged.{flagged_by}
 
 -- ---- the way from number to number
-
--- n is the number of a line that has a set, or 0
-pub record Within (p t : List ℕ) (n : ℕ) : Type 0 where
-  pub in_plan : n ≤ length p
-  pub stored : n ≤ length t
-
-pub begin_within : (p t : List ℕ) (i : ℕ) → Within p t (begin_of p t i)
-unfolding begin_of
-begin_within p t i = go (ltb i (length p)) refl (ltb i (length t)) refl
-  where
-    go : (a : Bool) → ltb i (length p) ≡ a → (b : Bool) → ltb i (length t) ≡ b → Within p t (cond (a && b) (suc i) 0)
-    go true d true e = record { in_plan = ltb-true i (length p) d; stored = ltb-true i (length t) e }
-    go true d false e = record { in_plan = omega arith; stored = omega arith }
-    go false d b e = record { in_plan = omega arith; stored = omega arith }
 
 module _ (p starter : List ℕ) where
   pub further_up : (i : ℕ) → line_before p starter i ≤ i
@@ -68,63 +55,119 @@ module _ (p starter : List ℕ) where
       ap (λ (xs : List ℕ). i ∷ xs)
       (enough m k (line_before p starter i) (omega (arith, further_up i)) (omega (arith, further_up i)))
 
-  pub goes : (n : ℕ) → 0 < n → way_from p starter n ≡ (n - 1) ∷ way_from p starter (line_before p starter (n - 1))
+  pub goes : (i : ℕ) → way_from p starter (suc i) ≡ i ∷ way_from p starter (line_before p starter i)
   unfolding walked
-  goes zero h = absurd (omega arith)
-  goes (suc i) h =
-      let z : suc i - 1 ≡ i = omega arith in
-      rw z
-      (ap (λ (xs : List ℕ). i ∷ xs)
-      (enough i (line_before p starter i) (line_before p starter i) (further_up i) (omega arith)))
+  goes i =
+      ap (λ (xs : List ℕ). i ∷ xs) (enough i (line_before p starter i) (line_before p starter i) (further_up i)
+      (omega arith))
 
-  pub ended : (n : ℕ) → n ≤ 0 → way_from p starter n ≡ []
+  pub way_from_falls : (m n : ℕ) → Falls n (walked p starter m n)
   unfolding walked
-  ended n h = let z : n ≡ 0 = omega arith in rw z
+  way_from_falls zero n = ends n
+  way_from_falls (suc m) zero = ends 0
+  way_from_falls (suc m) (suc i) =
+      falls (suc i) i (walked p starter m (line_before p starter i)) (omega arith)
+      (falls_further (line_before p starter i) i (walked p starter m (line_before p starter i)) (further_up i)
+      (way_from_falls m (line_before p starter i)))
 
--- ---- the search
+-- ---- lines that are left
 
-abbrev pub stale_of : List ℕ → List ℕ → List ℕ → List ℕ → List ℕ → ℕ → Option ℕ
-stale_of p again first t starter i = first_of (stale_by p again first t) (way_by p t starter i)
+pub number_of_line : (n : ℕ) → number_of (line_with n) ≡ n
+number_of_line zero = refl
+number_of_line (suc i) = refl
 
--- the first stale line on the way is the first from number n on
-module _ (p again first t starter : List ℕ) (i n : ℕ)
-    (is : stale_of p again first t starter i ≡ first_of (stale_by p again first t) (way_from p starter n)) where
-  pub stale_none : n ≤ 0 → Found.Nothing ≡ found (stale_of p again first t starter i)
-  unfolding first_of
-  stale_none h = ap found (sym (is ∙ ap (first_of (stale_by p again first t)) (ended p starter n h)))
+with_number : (n x : ℕ) → line_with n ≡ Some x → n ≡ suc x
+with_number zero x e = absurd (none-some x e)
+with_number (suc i) x e = ap suc (same_Some i x e)
 
-  module _ (h : 0 < n) (r : ℕ) (e : r ≡ rejoined_by p again first t (n - 1)) where
-    first_is : stale_of p again first t starter i
-        ≡ first_of (stale_by p again first t) ((n - 1) ∷ way_from p starter (line_before p starter (n - 1)))
-    first_is = is ∙ ap (first_of (stale_by p again first t)) (goes p starter n h)
+-- where the code begins
+pub begins : (p t : List ℕ) (i : ℕ)
+    → number_of (then_some (ltb i (min (length p) (length t))) i) ≡ begin_of p t i
+unfolding begin_of
+begins p t i = go (ltb i (min (length p) (length t))) refl (ltb i (length p)) refl (ltb i (length t)) refl
+  where
+    go : (x : Bool) → ltb i (min (length p) (length t)) ≡ x → (a : Bool) → ltb i (length p) ≡ a → (b : Bool)
+        → ltb i (length t) ≡ b → number_of (then_some x i) ≡ cond (a && b) (suc i) 0
+    go true e true f true g = refl
+    go true e true f false g = absurd (omega (arith, ltb-true i _ e, ltb-false i (length t) g))
+    go true e false f b g = absurd (omega (arith, ltb-true i _ e, ltb-false i (length p) f))
+    go false e true f true g =
+        absurd (omega (arith, ltb-false i _ e, ltb-true i (length p) f, ltb-true i (length t) g))
+    go false e true f false g = refl
+    go false e false f b g = refl
 
-    pub stale_here : get_or t (n - 1) 0 ≢ r → Found.At (n - 1) ≡ found (stale_of p again first t starter i)
-    unfolding stale_by first_of
-    stale_here ne =
-        rw (first_is, ne_eqb (get_or t (n - 1) 0) (rejoined_by p again first t (n - 1)) (λ q. ne (q ∙ sym e)), first_of)
+module _ (p starter : List ℕ) (next : Option ℕ) where
+  pub none_left : next ≡ None → way_from p starter (number_of next) ≡ []
+  unfolding walked
+  none_left e = rw e
 
-    pub stale_on : get_or t (n - 1) 0 ≡ r
-        → stale_of p again first t starter i ≡ first_of (stale_by p again first t)
-        (way_from p starter (line_before p starter (n - 1)))
-    unfolding stale_by first_of
-    stale_on q = first_is ∙ rw (eq-eqb (get_or t (n - 1) 0) (rejoined_by p again first t (n - 1)) (q ∙ e), first_of)
+  module _ (k : ℕ) (e : next ≡ Some k) where
+    pub one_left : (after : Option ℕ) → after ≡ line_with (line_before p starter k)
+        → way_from p starter (number_of next) ≡ k ∷ way_from p starter (number_of after)
+    one_left after f = rw (e, f, number_of_line) (goes p starter k)
 
--- ---- the devices of lines with a flag
+pub before_in_plan : (p starter : List ℕ) (k x : ℕ) → k < length p → line_with (line_before p starter k) ≡ Some x
+    → x < length p
+before_in_plan p starter k x h e =
+    omega (arith, with_number (line_before p starter k) x e, further_up p starter k)
 
-module _ (p flags starter : List ℕ) (n s : ℕ) where
-  pub flagged_end : n ≤ 0 → flagged_by p flags (way_from p starter n) s ≡ s
-  unfolding flagged_by
-  flagged_end h = ap (λ (is : List ℕ). flagged_by p flags is s) (ended p starter n h)
+-- the lines stand one further up than the other; each is of the plan, and has a set
+pub record Within (p t is : List ℕ) : Type 0 where
+  pub below : ℕ
+  pub falling : Falls below is
+  pub in_plan : below ≤ length p
+  pub stored : below ≤ length t
 
-  -- the line with number n adds its device, and the way goes on
-  pub flagged_on : 0 < n → {flag : Bool} {device one r : ℕ} → flag ≡ eqb (get_or flags (n - 1) 0) 1
-      → device ≡ operand (at p (n - 1)) → one ≡ cond flag (only_of devices device) empty → r ≡ union one s
-      → flagged_by p flags (way_from p starter n) s
-      ≡ flagged_by p flags (way_from p starter (line_before p starter (n - 1))) r
-  unfolding flagged_by
-  flagged_on h ef ed eo er =
-      ap (λ (is : List ℕ). flagged_by p flags is s) (goes p starter n h)
-      ∙ ap (flagged_by p flags (way_from p starter (line_before p starter (n - 1)))) (cc)
+pub way_within : (p t starter : List ℕ) (i : ℕ) → Within p t (way_by p t starter i)
+unfolding way_by begin_of
+way_within p t starter i = go (ltb i (length p)) refl (ltb i (length t)) refl
+  where
+    go : (a : Bool) → ltb i (length p) ≡ a → (b : Bool) → ltb i (length t) ≡ b
+        → Within p t (way_from p starter (cond (a && b) (suc i) 0))
+    go true d true e = record {
+      below = suc i;
+      falling = way_from_falls p starter (suc i) (suc i);
+      in_plan = ltb-true i (length p) d;
+      stored = ltb-true i (length t) e;
+    }
+    go true d false e = record { below = 0; falling = ends 0; in_plan = omega arith; stored = omega arith }
+    go false d b e = record { below = 0; falling = ends 0; in_plan = omega arith; stored = omega arith }
+
+module _ {p t : List ℕ} {k : ℕ} {is : List ℕ} (w : Within p t (k ∷ is)) where
+  pub others_within : Within p t is
+  others_within = go w.below w.falling w.in_plan w.stored
+    where
+      go : (n : ℕ) → Falls n (k ∷ is) → n ≤ length p → n ≤ length t → Within p t is
+      go n (falls m x xs lt f) h g = record { below = x; falling = f; in_plan = omega arith; stored = omega arith }
+
+-- ---- the search for a stale line
+
+-- what the model looks for is what the library's `find` finds
+pub found_is : (f : ℕ → Bool) (xs : List ℕ) → found (first_of f xs) ≡ find f xs
+unfolding first_of
+found_is f [] = refl
+found_is f (x ∷ xs) = go (f x) refl (found_is f xs)
+  where
+    go : (b : Bool) → f x ≡ b → found (first_of f xs) ≡ find f xs → found (first_of f (x ∷ xs)) ≡ find f (x ∷ xs)
+    go true e ih = rw (e, first_of)
+    go false e ih = rw (e, first_of) ih
+
+falling_below : (n k d : ℕ) (xs : List ℕ) → Falls n xs → k < length xs → get_or xs k d < n
+falling_below n k d [] (ends m) h = absurd (omega arith)
+falling_below n zero d (x ∷ xs) (falls m y ys lt f) h = lt
+falling_below n (suc k) d (x ∷ xs) (falls m y ys lt f) h = omega (arith, falling_below x k d xs f (omega arith))
+
+-- a line of the way, by its place there
+pub on_way_within : (p t starter : List ℕ) (i k x : ℕ) → k < length (way_by p t starter i)
+    → x ≡ get_or (way_by p t starter i) k x → (x < length p) × (x < length t)
+on_way_within p t starter i k x h e =
+    let w = way_within p t starter i in
+    let b : get_or (way_by p t starter i) k x < w.below = falling_below w.below k x _ w.falling h in
+    (omega (arith, e, w.in_plan), omega (arith, e, w.stored))
+
+pub same_option : (r : Option ℕ) → r ≡ option_map (λ x. x) r
+same_option None = refl
+same_option (Some x) = refl
 
 -- ---- how many sets are others than before
 
@@ -205,68 +248,69 @@ one_rewritten p old t x v h room e =
 
 -- ---- the mending
 
--- where it stands at number n: what is left to do, from the sets as they are, leads to what all of it does; those
--- further up are as they were
-pub record Mending (p again first starter old : List ℕ) (i : ℕ) (sets : List ℕ) (count n : ℕ) : Type 0 where
-  pub few : count + n ≤ length p
-  pub stored : n ≤ length sets
+-- where it stands with some lines left: what is left to do, from the sets as they are, leads to what all of it does;
+-- the sets of the lines that are left are as they were
+pub record Mending (p again first old whole sets : List ℕ) (count : ℕ) (is : List ℕ) : Type 0 where
+  pub below : ℕ
+  pub falling : Falls below is
+  pub few : count + below ≤ length p
+  pub stored : below ≤ length old
   pub long : length sets ≡ length old
-  pub leads : mended_by p again first old (way_by p old starter i) ≡ mended_by p again first sets (way_from p starter n)
+  pub leads : mended_by p again first old whole ≡ mended_by p again first sets is
   pub counts : count ≡ changed p old sets
-  pub as_were : (k : ℕ) → k < n → get_or sets k 0 ≡ get_or old k 0
+  pub as_were : (k : ℕ) → k < below → get_or sets k 0 ≡ get_or old k 0
 
-pub mend_start : (p again first starter old : List ℕ) (i : ℕ) → Mending p again first starter old i old 0
-    (begin_of p old i)
-unfolding way_by
-mend_start p again first starter old i = record {
-  few = omega (arith, (begin_within p old i).in_plan);
-  stored = (begin_within p old i).stored;
+pub mend_start : (p again first old whole : List ℕ) → Within p old whole → Mending p again first old whole old 0 whole
+mend_start p again first old whole w = record {
+  below = w.below;
+  falling = w.falling;
+  few = omega (arith, w.in_plan);
+  stored = w.stored;
   long = refl;
   leads = refl;
   counts = sym (none_changed p old);
   as_were = λ k h. refl;
 }
 
-module _ {p again first starter old : List ℕ} {i : ℕ} {sets : List ℕ} {count n : ℕ}
-    (d : Mending p again first starter old i sets count n) where
-  one_at_most : (b : Bool) → cond b 1 0 ≤ 1
-  one_at_most true = omega arith
-  one_at_most false = omega arith
+module _ {p again first old whole sets : List ℕ} {count k : ℕ} {is : List ℕ}
+    (d : Mending p again first old whole sets count (k ∷ is)) where
+  abbrev v : ℕ
+  v = rejoined_by p again first sets k
 
-  -- a change more still fits the count's number
-  pub mend_fits : (c : ℕ) → c ≡ cond (stale_by p again first sets (n - 1)) 1 0 → c ≤ 1
-  mend_fits c e = omega (arith, one_at_most (stale_by p again first sets (n - 1)))
-
-  pub mend_on : (next : List ℕ) (c : ℕ) → 0 < n → next ≡ set sets (n - 1) (rejoined_by p again first sets (n - 1))
-      → c ≡ cond (stale_by p again first sets (n - 1)) 1 0
-      → Mending p again first starter old i next (count + c) (line_before p starter (n - 1))
+  pub mend_on : (next : List ℕ) (c : ℕ) → next ≡ set sets k v → c ≡ cond (stale_by p again first sets k) 1 0
+      → Mending p again first old whole next (count + c) is
   unfolding stale_by mended_by
-  mend_on next c h e q =
-      let up = further_up p starter (n - 1) in
-      let long' = ap length e ∙ length-set sets (n - 1) v in
-      record {
-        few = omega (arith, d.few, up, mend_fits c q);
-        stored = omega (arith, long', d.stored, up);
-        long = long' ∙ d.long;
-        leads = d.leads ∙ ap (mended_by p again first sets) (goes p starter n h)
-            ∙ ap (λ (xs : List ℕ). mended_by p again first xs (way_from p starter (line_before p starter (n - 1))))
-            (sym e);
-        counts = omega (
-          arith,
-          d.counts,
-          q,
-          ap (changed p old) e,
-          one_rewritten p old sets (n - 1) v (omega (arith, d.few)) (omega (arith, d.stored))
-              (d.as_were (n - 1) (omega arith)),
-        );
-        as_were = λ k lt. ap (λ (xs : List ℕ). get_or xs k 0) e
-            ∙ get_or-set_other sets (n - 1) k v 0 (λ z. omega (arith, up)) ∙ d.as_were k (omega (arith, up));
-      }
+  mend_on next c e q = go d.below d.falling d.few d.stored d.as_were
     where
-      v : ℕ
-      v = rejoined_by p again first sets (n - 1)
+      one_at_most : (b : Bool) → cond b 1 0 ≤ 1
+      one_at_most true = omega arith
+      one_at_most false = omega arith
 
-  pub mend_end : n ≤ 0
-      → (sets ≡ mended_by p again first old (way_by p old starter i)) × (count ≡ changed p old sets)
-  unfolding mended_by
-  mend_end h = (sym (d.leads ∙ ap (mended_by p again first sets) (ended p starter n h)), d.counts)
+      go : (n : ℕ) → Falls n (k ∷ is) → count + n ≤ length p → n ≤ length old
+          → ((x : ℕ) → x < n → get_or sets x 0 ≡ get_or old x 0)
+          → Mending p again first old whole next (count + c) is
+      go n (falls m x xs lt f) h g was =
+          let long' = ap length e ∙ length-set sets x v in
+          record {
+            below = x;
+            falling = f;
+            few = omega (arith, q, one_at_most (stale_by p again first sets x));
+            stored = omega arith;
+            long = long' ∙ d.long;
+            leads = d.leads ∙ ap (λ (ys : List ℕ). mended_by p again first ys xs) (sym e);
+            counts = omega (
+              arith,
+              d.counts,
+              q,
+              ap (changed p old) e,
+              one_rewritten p old sets x v (omega arith) (omega (arith, d.long)) (was x lt),
+            );
+            as_were = λ y z. ap (λ (ys : List ℕ). get_or ys y 0) e
+                ∙ get_or-set_other sets x y v 0 (λ w. omega arith) ∙ was y (omega arith);
+          }
+
+-- where no line is left, all is done
+pub mend_end : {p again first old whole sets : List ℕ} {count : ℕ} → Mending p again first old whole sets count []
+    → (sets ≡ mended_by p again first old whole) × (count ≡ changed p old sets)
+unfolding mended_by
+mend_end d = (sym d.leads, d.counts)

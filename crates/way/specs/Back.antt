@@ -1,8 +1,14 @@
 -- 01, "Moving a claim": the way as the code walks it, from line number to line number; and the lines under a take (02,
 -- request 2). (That with the tables of a well-formed plan these are the lines of `model` is shown in proofs/.)
+use Rattle.std.specs.Prelude.{Option, Some, None}
 use Rattle.std.specs.Prelude.{ℕ, zero, suc, ◌-◌, cond, ◌&&◌, List, [], ◌∷◌, eqb, leb, ltb, length, get_or}
 use Rattle.model.specs.Lists.{up_from}
 use Rattle.model.specs.Line.{job, at}
+
+-- the line with a number, by its place; 0 is no line's
+abbrev pub line_with : ℕ → Option ℕ
+line_with zero = None
+line_with (suc i) = Some i
 
 -- After the line at i the way goes on at the line with this number, and ends at 0. It goes to the line before, if that
 -- is of the same job; else to the line that starts the job, if the table has one that stands further up.

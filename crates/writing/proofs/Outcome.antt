@@ -1,5 +1,6 @@
 -- The three outcomes of `write`, by what its tests found (01, "Refusal numbers").
 use Prim.Native.Nat.{ℕ, ◌<◌, ◌≤◌}
+use Rattle.std.specs.Prelude.{Ok, Err}
 use mathlib.Core.List.{List, [], ◌∷◌}
 use mathlib.Core.Option.{Option, none, some}
 use mathlib.Core.Path.{◌≡◌}
@@ -15,11 +16,8 @@ use Rattle.model.specs.WellFormed.{fault}
 use Rattle.model.specs.Entries.{writing}
 use Rattle.model.specs.declared.Refusal.{Refusal}
 use Rattle.model.specs.declared.Refusal.TheVariants.{ListTooShort}
-use Rattle.model.specs.declared.WriteAnswer.{WriteAnswer}
 use Rattle.theory.proofs.Text.{text_length}
 use Rattle.theory.proofs.WellFormed.{no_fault_exactly}
-use Rattle.fields.specs.Puts.{PutsAs}
-use Rattle.fields.proofs.Putting.{unfitted, put_at_start}
 use Rattle.promises.specs.Text.{WritesAs}
 use Rattle.promises.proofs.Tight.{by_refusal, by_none}
 
@@ -32,29 +30,27 @@ module _ (p lent : List ℕ) where
   tests : Option Refusal
   tests = first_refusal (fault board p ∷ too_short (length lent) (length (text_of p)) ∷ [])
 
-  refused : (r : Refusal) → tests ≡ some r → WritesAs board p lent (WriteAnswer.Refused r) lent
+  refused : (r : Refusal) → tests ≡ some r → WritesAs board p lent (Err r) lent
   unfolding writing tests
   refused r e =
-      by_refusal WriteAnswer.Refused (WriteAnswer.Bytes (length (text_of p))) (over (text_of p) lent) lent tests r e
+      by_refusal Err (Ok (length (text_of p))) (over (text_of p) lent) lent tests r e
 
   -- 2 to 7
-  pub faulty : (r : Refusal) → fault board p ≡ some r → WritesAs board p lent (WriteAnswer.Refused r) lent
+  pub faulty : (r : Refusal) → fault board p ≡ some r → WritesAs board p lent (Err r) lent
   unfolding tests first_refusal
   faulty r e = refused r (rw e)
 
-  -- the text put from the buffer's start on, where no test of the plan refused
-  module _ (e : fault board p ≡ none) (n : ℕ) (f : n ≡ length (text_of p)) {past : ℕ} {left : List ℕ}
-      (x : PutsAs (text_of p) 0 lent past left) where
+  -- where no test of the plan refused
+  module _ (e : fault board p ≡ none) (n : ℕ) (f : n ≡ length (text_of p)) where
     -- 11
-    pub short : length lent < past → WritesAs board p lent (WriteAnswer.Refused (ListTooShort n)) left
+    pub short : length lent < n → WritesAs board p lent (Err (ListTooShort n)) lent
     unfolding tests first_refusal too_short refuse_if
-    short h =
-        let u = unfitted x h in
-        rw u.1 (refused (ListTooShort n) (rw (e, ← f, lt-ltb (length lent) n (omega (arith, u.0)))))
+    short h = refused (ListTooShort n) (rw (e, ← f, lt-ltb (length lent) n h))
 
-    pub written : past ≤ length lent → WritesAs board p lent (WriteAnswer.Bytes n) left
+    -- the text
+    pub written : n ≤ length lent → (left : List ℕ) → left ≡ over (text_of p) lent → WritesAs board p lent (Ok n) left
     unfolding writing tests first_refusal too_short refuse_if
-    written h =
+    written h left l =
         rw f
-        (by_none WriteAnswer.Refused (WriteAnswer.Bytes (length (text_of p))) (over (text_of p) lent) lent tests left
-        (rw (e, ← f, le-ltb (length lent) n (omega (arith, (put_at_start x h).0)))) (put_at_start x h).1)
+        (by_none Err (Ok (length (text_of p))) (over (text_of p) lent) lent tests left
+        (rw (e, ← f, le-ltb (length lent) n h)) l)

@@ -1,2 +1,2 @@
--- The table of verbs, as the private functions that write have it.
+-- The verbs, as the private functions that write have them.
 pub mod Verbs

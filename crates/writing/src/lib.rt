@@ -7,55 +7,59 @@ ghost use Rattle.model.specs.Line.{at, job};
 ghost use Rattle.model.specs.Text.{decimal, line_text, text_of};
 ghost use Rattle.fields.specs.Puts.{PutsAs};
 ghost use Rattle.promises.specs.Text.{WritesAs};
-ghost use Rattle.writing.specs.Verbs.{verb_table, with_row, Lays};
+ghost use Rattle.writing.specs.Verbs.{Lays};
 
 use board::MOST_BYTES;
 use line::EACH_VERB;
-use model::{Refusal, WriteAnswer};
-use plan::Checked;
+use model::Refusal;
 
 // ---- the verbs
 
 // The longest verb has so many bytes.
 const LONGEST: usize = 5;
 
-// A verb's row in their table: as many bytes as the longest has, the verb's first, and how many are the verb's.
-const ROW: usize = LONGEST + 1;
-
-// A verb into the row of its number.
-fn set_row(table: &mut [u8], k: usize, verb: &[u8])
-    requires { (k < 5) × (length verb.now ≤ 5) }
-    ensures { table.new ≡ with_row k verb.now table.old }
-{
-    fields::put_word(table, k * ROW, verb);
-    fields::put_byte(table, k * ROW + LONGEST, verb.len() as u8);
+// A verb: as many bytes as the longest has, the verb's first, and how many are the verb's.
+#[derive(Clone, Copy)]
+struct Verb {
+    bytes: [u8; LONGEST],
+    length: usize,
 }
 
-// The table of verbs, a verb a line. It is made once for a text.
-fn verb_table() -> [u8; EACH_VERB * ROW]
-    ensures { result ≡ verb_table }
-{
-    let mut table = [0u8; EACH_VERB * ROW];
-    set_row(&mut table, 0, b"do");
-    set_row(&mut table, 1, b"take");
-    set_row(&mut table, 2, b"give");
-    set_row(&mut table, 3, b"start");
-    set_row(&mut table, 4, b"held");
-    table
-}
+// The verbs, in the order of their numbers. A static is read where it lies, with no copy on the stack for each line.
+static VERBS: [Verb; EACH_VERB] = [
+    Verb {
+        bytes: *b"do\0\0\0",
+        length: 2,
+    },
+    Verb {
+        bytes: *b"take\0",
+        length: 4,
+    },
+    Verb {
+        bytes: *b"give\0",
+        length: 4,
+    },
+    Verb {
+        bytes: *b"start",
+        length: 5,
+    },
+    Verb {
+        bytes: *b"held\0",
+        length: 4,
+    },
+];
 
 // ---- one line
 
 // The verb of a number: as many bytes as the longest has, so that no branch asks which it is, which cannot be foretold.
 // What stands behind a shorter verb is written over by what comes next.
-fn put_verb(made: &mut [u8], at: usize, table: &[u8], k: u32) -> usize
-    requires { (k < 5) × (at + 5 ≤ length made.old) × (table.now ≡ verb_table) }
+fn put_verb(made: &mut [u8], at: usize, k: u32) -> usize
+    requires { (k < 5) × (at + 5 ≤ length made.old) }
     ensures { Lays k at made.old result made.new }
 {
-    let from = k as usize * ROW;
-    let past = from + LONGEST;
-    fields::put_word(made, at, &table[from..past]);
-    at + table[past] as usize
+    let verb = &VERBS[k as usize];
+    fields::put_word(made, at, &verb.bytes);
+    at + verb.length
 }
 
 // A number of at most three digits. A nought in front is put too, and the next digit takes its place, so that no branch
@@ -65,16 +69,16 @@ fn put_small(made: &mut [u8], at: usize, n: u32) -> usize
     ensures { PutsAs (decimal n) at made.old result made.new }
 {
     made[at] = b'0' + (n / 100) as u8;
-    let a = at + (99 < n) as usize;
+    let a = at + usize::from(99 < n);
     made[a] = b'0' + (n / 10 % 10) as u8;
-    let b = a + (9 < n) as usize;
+    let b = a + usize::from(9 < n);
     made[b] = b'0' + (n % 10) as u8;
     b + 1
 }
 
 // A line: a job and a verb, each with its tab, and an operand with its newline.
-fn put_line(made: &mut [u8], at: usize, table: &[u8], l: u32) -> usize
-    requires { (job l ≤ 255) × (at + length (line_text l) ≤ length made.old) × (table.now ≡ verb_table) }
+fn put_line(made: &mut [u8], at: usize, l: u32) -> usize
+    requires { (job l ≤ 255) × (at + length (line_text l) ≤ length made.old) }
     ensures { PutsAs (line_text l) at made.old result made.new }
 {
     let j = line::job(l);
@@ -82,7 +86,7 @@ fn put_line(made: &mut [u8], at: usize, table: &[u8], l: u32) -> usize
     let o = line::named(l);
     let a = put_small(made, at, j);
     made[a] = b'\t';
-    let b = put_verb(made, a + 1, table, k);
+    let b = put_verb(made, a + 1, k);
     made[b] = b'\t';
     let c = put_small(made, b + 1, o);
     made[c] = b'\n';
@@ -97,28 +101,24 @@ fn make(plan: &[u32], made: &mut [u8]) -> usize
         × (length (text_of plan.now) ≤ length made.old) }
     ensures { PutsAs (text_of plan.now) 0 made.old result made.new }
 {
-    let table = verb_table();
-    let mut at: usize = 0;
-    let mut i = 0;
-    while i < plan.len() {
-        at = put_line(made, at, &table, plan[i]);
-        i += 1;
+    let mut at = 0;
+    for &l in plan {
+        at = put_line(made, at, l);
     }
     at
 }
 
 // A packed plan into a lent buffer of bytes. It is made in full first, since a buffer that is too short is left as it
 // was.
-pub fn write(plan: &[u32], text: &mut [u8]) -> WriteAnswer
+pub fn write(plan: &[u32], text: &mut [u8]) -> Result<u32, Refusal>
     ensures { WritesAs board plan.now text.old result text.new }
 {
-    if let Checked::Refused(r) = plan::fault(plan, false) {
-        return WriteAnswer::Refused(r);
-    }
-    let mut made = [0u8; MOST_BYTES];
+    plan::fault(plan, false)?;
+    let mut made = [0; MOST_BYTES];
     let n = make(plan, &mut made);
-    if text.len() < fields::put_word(text, 0, &made[..n]) {
-        return WriteAnswer::Refused(Refusal::ListTooShort(n as u32));
+    if text.len() < n {
+        return Err(Refusal::ListTooShort(n as u32));
     }
-    WriteAnswer::Bytes(n as u32)
+    text[..n].copy_from_slice(&made[..n]);
+    Ok(n as u32)
 }

@@ -1,25 +1,19 @@
--- `legal::begin` meets its contract: with nothing done the jobs stand as the tables tell, and at midday the held lines
+-- `legal::begin` meets its contract: with nothing done the jobs stand as the notes tell, and at midday the held lines
 -- are done then.
-use Rattle.std.proofs.Common.{Bool, subst, ◌≡◌}
-use mathlib.Core.Option.{none}
-use Rattle.model.specs.Board.{board_at}
-use Rattle.model.specs.Sets.{empty}
-use Rattle.model.specs.WellFormed.{fault}
+use Rattle.std.proofs.Common.{◌∙◌}
 use Rattle.legal.proofs.Begins.{runs_first, morning_begins}
 use Rattle.legal.proofs.begin.Goals as goal
 
 pub do_held-requires : goal.do_held-requires
-do_held-requires c =
-    let tabled = c.requires.0 in (
-      subst (λ (b : Bool). fault (board_at b) c.args.plan.now ≡ none) c.if-midday.true tabled.sound,
-      tabled.firsts,
-      runs_first tabled c.run.ensures,
-    )
+do_held-requires c = record {
+  tabled = rw c.if-midday.true at c.requires.tabled;
+  standing = runs_first c.requires.tabled c.run.ensures.next;
+  held = rw c.run.ensures.held c.requires.held;
+}
 
 -- in the morning
-pub returns : goal.returns
-unfolding empty
-returns c =
-    let tabled = c.requires.0 in
-    morning_begins (subst (λ (b : Bool). fault (board_at b) c.args.plan.now ≡ none) c.if-midday.false tabled.sound)
-    (runs_first tabled c.run.ensures)
+pub returns-else-midday : goal.returns-else-midday
+returns-else-midday c =
+    let r = morning_begins (rw c.if-midday.false at c.requires.tabled.sound)
+    (runs_first c.requires.tabled c.run.ensures.next) (c.run.ensures.held ∙ c.requires.held) in
+    record { begins = r.0; counted = r.1 }

@@ -1,8 +1,9 @@
--- `lines::list_verb` meets its contract: one entry of each table.
-use Rattle.std.proofs.Common.{length, take_all, arith}
+-- `lines::list_verb` meets its contract: one entry of each list.
+use Rattle.std.proofs.Common.{take_all, arith}
 use Rattle.lines.specs.Verbs.{highest_of}
 use Rattle.lines.proofs.list_verb.Goals as goal
 
-pub returns : goal.returns
+pub returns-clause-bytes : goal.returns-clause-bytes
 unfolding highest_of
-returns c = rw (c.as_number.ensures, take_all (length c.args.verb.now) c.args.verb.now (omega arith))
+returns-clause-bytes c =
+    rw (c.eight_bytes.ensures, take_all 8 c.args.word.now (omega arith))

@@ -1,8 +1,7 @@
 -- `lines::next_line` meets its contract: 1, or what is handed out at the cursor.
-use Rattle.std.proofs.Common.{refl, sym, ◌∙◌, ap}
+use Rattle.std.proofs.Common.{sym, ◌∙◌, ap}
 use Rattle.model.specs.Answers.{line_values}
 use Rattle.model.specs.Board.{board}
-use Rattle.model.specs.Text.{verbs}
 use Rattle.theory.proofs.Reader.{next_in}
 use Rattle.lines.proofs.Lines.{next_long}
 use Rattle.lines.proofs.next_line.Goals as goal
@@ -11,10 +10,6 @@ use Rattle.lines.proofs.next_line.Goals as goal
 pub returns-then-text-gt-MOST_BYTES : goal.returns-then-text-gt-MOST_BYTES
 returns-then-text-gt-MOST_BYTES c =
     record { answers = ap line_values (next_long board _ _ c.if-text-gt-MOST_BYTES.true) }
-
-pub list_verbs-requires : goal.list_verbs-requires
-unfolding verbs
-list_verbs-requires c = refl
 
 -- what is handed out
 pub returns : goal.returns

@@ -11,23 +11,20 @@ room : (p made : List ℕ) → length (text_of p) ≤ length made → 0 + length
 unfolding text_of
 room p made h = omega arith
 
-pub loop-i-init : goal.loop-i-init
+pub loop-l-init : goal.loop-l-init
 unfolding flat_map
-loop-i-init c = put_none 0 c.args.made.now (omega arith)
+loop-l-init c = put_none 0 c.args.made.now (omega arith)
 
 pub put_line-at-requires : goal.put_line-at-requires
 put_line-at-requires c =
-    let p = c.args.plan.now in
-    let i = c.loop-i.i in
-    let h = c.loop-i-test.true in
-    let r = room p c.args.made.now c.requires.1 in
-    (c.requires.0 i h, next_room line_text p i h c.loop-i.invariant r, c.verb_table-table.ensures)
+    let h = c.loop-l-test.true in
+    let r = room _ _ c.requires.1 in
+    (c.requires.0 c.loop-l.l-index h, next_room line_text _ _ h c.loop-l.invariant r)
 
-pub loop-i-preserved : goal.loop-i-preserved
-loop-i-preserved c =
-    put_more line_text c.args.plan.now c.loop-i.i c.loop-i-test.true c.loop-i.invariant
-    (room c.args.plan.now c.args.made.now c.requires.1) c.put_line-at.ensures
+pub loop-l-preserved : goal.loop-l-preserved
+loop-l-preserved c =
+    put_more line_text _ _ c.loop-l-test.true c.loop-l.invariant (room _ _ c.requires.1) c.put_line-at.ensures
 
 pub returns : goal.returns
 unfolding text_of
-returns c = rw (pieces_all line_text c.args.plan.now c.loop-i.i c.loop-i-test.false) at c.loop-i.invariant
+returns c = rw (pieces_all line_text c.args.plan.now c.loop-l.l-index c.loop-l-test.false) at c.loop-l.invariant

@@ -30,7 +30,7 @@ overflow_add-a c =
 pub put_verb-b-requires : goal.put_verb-b-requires
 put_verb-b-requires c =
     let q = asked (goal.at.put_verb-b-requires c).After-named-o in
-    (verb_fits q, verb_room q c.put_small-a.ensures, c.requires.2)
+    (verb_fits q, verb_room q c.put_small-a.ensures)
 
 pub bounds-made-b : goal.bounds-made-b
 bounds-made-b c =

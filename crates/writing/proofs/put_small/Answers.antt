@@ -13,4 +13,5 @@ pub bounds-made-b : goal.bounds-made-b
 bounds-made-b c = simp length-set (omega (arith, digits_asked c.args.n c.requires.0))
 
 pub returns : goal.returns
-returns c = put_three c.args.n c.args.at c.args.made.now c.requires.0 c.requires.1
+returns c =
+    rw (c.from.ensures, c.from-2.ensures) (put_three c.args.n c.args.at c.args.made.now c.requires.0 c.requires.1)
