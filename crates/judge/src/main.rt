@@ -44,6 +44,6 @@ fn run(stdin: &mut impl Read, rt: &impl Print) -> Result<(), Failure> {
 // The program ends with status 0 also where something failed, so `main` answers no Result.
 fn main(rt: HostRuntime) {
     if let Err(wrong) = run(&mut rt.stdin(), &rt) {
-        shell::complain(&rt, "judge", &wrong);
+        shell::complain_of(&rt, "judge", &wrong);
     }
 }

@@ -115,7 +115,7 @@ field_sound end from text n e = go (has end s) refl e
 
 -- ---- one digit more
 
-digit_range : (b : ℕ) → is_digit b ≡ true → (48 ≤ b) × (b ≤ 57)
+pub digit_range : (b : ℕ) → is_digit b ≡ true → (48 ≤ b) × (b ≤ 57)
 unfolding is_digit
 digit_range b e = let r = and_split (leb 48 b) (leb b 57) e in (leb-true 48 b r.0, leb-true b 57 r.1)
 
@@ -146,7 +146,7 @@ unfolding joined_by is_digit
 joined_end = refl
 
 -- a value that passes has the one before in front
-joined_grows : (v b : ℕ) → joined_by v b ≤ 255 → v * 10 ≤ joined_by v b
+pub joined_grows : (v b : ℕ) → joined_by v b ≤ 255 → v * 10 ≤ joined_by v b
 unfolding joined_by
 joined_grows v b = go (is_digit b)
   where

@@ -2,16 +2,17 @@
 -- rest of them, how large the number is, and how the number of the eight bytes at a place tells the word there.
 use Prim.Native.Nat.{ℕ, zero, suc, ◌+◌, ◌-◌, ◌*◌, ◌^◌, ◌%◌, ◌≤◌, ◌<◌}
 use mathlib.Core.Bool.{Bool, true, false, cond, ◌&&◌}
-use mathlib.Core.List.{List, [], ◌∷◌, ◌++◌}
+use mathlib.Core.List.{List, [], ◌∷◌}
 use mathlib.Core.Path.{◌≡◌, refl, sym, ◌∙◌, ap}
 use native.Mathlib.Nat.{eq_of_mul-eq-mul_right, mul-div_cancel}
 use native.Mathlib.Omega.{arith}
 use lib.Arith.{digits_div, digits_mod, mod-mul}
 use lib.Dec.{eqb, leb, ltb}
-use lib.ListN.{length, get_or, take, drop, replicate}
+use lib.ListN.{length, get_or, take, drop}
 use borrow.Author.Tests.{eqb-true, eqb-false, eq-eqb, ne_eqb, leb-true, ltb-true}
 use Rattle.std.specs.Int.{w64, from_le_bytes}
-use Rattle.std.proofs.lemmas.List.{get_or-drop, take-take}
+use Rattle.std.proofs.Common.{lit<}
+use Rattle.std.proofs.lemmas.List.{take-take}
 use Rattle.model.specs.Lists.{all}
 use Rattle.theory.proofs.Tests.{and_split, tests_agree, falsely}
 use Rattle.lines.specs.Verbs.{begins, as_number, highest_of}
@@ -37,20 +38,38 @@ number_front (suc n) (suc a) [] = refl
 number_front n zero (b ∷ s) = refl
 number_front n (suc a) (b ∷ s) = number_front n a s
 
--- eight bytes read as a number
-same_bytes : (p s : List ℕ) → ((i : ℕ) → get_or p i 0 ≡ get_or s i 0) → from_le_bytes w64 p ≡ as_number (take 8 s)
+-- seven bytes leave room for one more
+reach_le : (n m : ℕ) → n ≤ m → reach n ≤ reach m
+unfolding reach
+reach_le zero m h = reach_pos m
+reach_le (suc n) zero h = absurd (omega arith)
+reach_le (suc n) (suc m) h = omega (arith, reach_le n m (omega arith))
+
+module _ (s : List ℕ) (bytes : (i : ℕ) → get_or s i 0 < 256) where
+  number_small : (n a : ℕ) → as_number (take n (drop a s)) < reach n
+  unfolding as_number reach
+  number_small zero a = omega arith
+  number_small (suc n) a = omega (arith, number_front n a s, bytes a, number_small n (suc a))
+
+  pub seven_small : (n a : ℕ) → n ≤ 7 → as_number (take n (drop a s)) < 2 ^ 56
+  unfolding reach
+  seven_small n a h = omega (arith, number_small n a, reach_le n 7 h)
+
+-- eight bytes read as a number: those of a text, with noughts past its end
+pub eight_read : (p s : List ℕ) → ((i : ℕ) → i < 8 → get_or p i 0 ≡ get_or s i 0)
+    → from_le_bytes w64 p ≡ as_number (take 8 s)
 unfolding as_number
-same_bytes p s e =
+eight_read p s e =
     omega (
       arith,
-      e 0,
-      e 1,
-      e 2,
-      e 3,
-      e 4,
-      e 5,
-      e 6,
-      e 7,
+      e 0 (lit< tt),
+      e 1 (lit< tt),
+      e 2 (lit< tt),
+      e 3 (lit< tt),
+      e 4 (lit< tt),
+      e 5 (lit< tt),
+      e 6 (lit< tt),
+      e 7 (lit< tt),
       number_front 7 0 s,
       number_front 6 1 s,
       number_front 5 2 s,
@@ -63,21 +82,7 @@ same_bytes p s e =
 
 -- the first eight of a text
 pub eight_first : (s : List ℕ) → from_le_bytes w64 (take 8 s) ≡ as_number (take 8 s)
-eight_first s = same_bytes (take 8 s) (take 8 s) (λ i. refl) ∙ ap as_number (take-take 8 8 s (omega arith))
-
--- what is left of a text, with noughts behind
-pub eight_padded : (s : List ℕ) (n : ℕ) → from_le_bytes w64 (s ++ drop n (replicate 8 0)) ≡ as_number (take 8 s)
-eight_padded s n = same_bytes (s ++ drop n (replicate 8 0)) s (behind s)
-  where
-    noughts : (k i : ℕ) → get_or (replicate {A = ℕ} k 0) i 0 ≡ 0
-    noughts zero i = refl
-    noughts (suc k) zero = refl
-    noughts (suc k) (suc i) = noughts k i
-
-    behind : (s : List ℕ) (i : ℕ) → get_or (s ++ drop n (replicate 8 0)) i 0 ≡ get_or s i 0
-    behind [] i = get_or-drop n (replicate 8 0) i 0 ∙ noughts 8 (n + i)
-    behind (b ∷ s) zero = refl
-    behind (b ∷ s) (suc i) = behind s i
+eight_first s = eight_read (take 8 s) (take 8 s) (λ i h. refl) ∙ ap as_number (take-take 8 8 s (omega arith))
 
 -- ---- a word and the bytes at a place
 

@@ -18,6 +18,15 @@ use fields::Number;
 use line::{EACH_VERB, LAST_OPERAND, OPERANDS};
 use model::{Cursor, LineAnswer, Refusal};
 
+// ---- bytes
+
+// The byte at a place; past the end of the text there is nought.
+fn byte_at(text: &[u8], at: usize) -> u8
+    ensures { result ≡ slice_index text.now at }
+{
+    text.get(at).copied().unwrap_or(0)
+}
+
 // ---- an operand
 
 // The byte that ends a line.
@@ -30,13 +39,6 @@ fn joined(v: u32, b: u8) -> u32
     ensures { result ≡ joined_by v b }
 {
     choose(b.is_ascii_digit(), v * 10 + u32::from(b) % 16, OPERANDS)
-}
-
-// The byte at a place; past the end of the text there is nought.
-fn byte_at(text: &[u8], at: usize) -> u8
-    ensures { result ≡ slice_index text.now at }
-{
-    text.get(at).copied().unwrap_or(0)
 }
 
 // The operand at the place, with the newline behind it, as `fields` reads it. It has up to three digits; the values
@@ -69,6 +71,24 @@ fn operand_at(text: &[u8], from: usize) -> Option<Number>
 
 // ---- the verbs
 
+// The first eight bytes of a text; past its end there is nought. They are put one by one: a copy would call `memcpy`,
+// and the line reader does without what stands outside.
+fn put_few(bytes: &mut [u8; 8], text: &[u8])
+    ensures { (k : ℕ) → k < 8 → slice_index bytes.new k ≡ slice_index text.now k }
+{
+    for k in 0..8 {
+        bytes[k] = byte_at(text, k);
+    }
+}
+
+// The same of what a text ends with, to which few lines come: it is kept apart from what every line goes through.
+#[inline(never)]
+fn put_last(bytes: &mut [u8; 8], text: &[u8])
+    ensures { (k : ℕ) → k < 8 → slice_index bytes.new k ≡ slice_index text.now k }
+{
+    put_few(bytes, text);
+}
+
 // The eight bytes at the place as one number, the first lowest; past the end of the text there is nought.
 fn eight_bytes(text: &[u8], at: usize) -> u64
     requires { at ≤ length text.now }
@@ -79,7 +99,16 @@ fn eight_bytes(text: &[u8], at: usize) -> u64
         return u64::from_le_bytes(*bytes);
     }
     let mut bytes = [0; 8];
-    bytes[..rest.len()].copy_from_slice(rest);
+    put_last(&mut bytes, rest);
+    u64::from_le_bytes(bytes)
+}
+
+// The bytes of a word, which has fewer, as one number in the same way.
+fn few_bytes(word: &[u8]) -> u64
+    ensures { result ≡ as_number (take 8 word.now) }
+{
+    let mut bytes = [0; 8];
+    put_few(&mut bytes, word);
     u64::from_le_bytes(bytes)
 }
 
@@ -114,7 +143,7 @@ fn list_verb(by_first: &mut [Entry; LETTERS], words: &mut [u64; EACH_VERB], verb
         length: word.len() as u8,
         verb: verb as u8,
     };
-    words[verb as usize] = eight_bytes(word, 0) << (64 - word.len() * 8);
+    words[verb as usize] = few_bytes(word) << (64 - word.len() * 8);
 }
 
 impl VerbTable {

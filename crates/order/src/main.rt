@@ -36,6 +36,6 @@ fn run(stdin: &mut impl Read, rt: &impl Print) -> Result<(), Failure> {
 // stays there: each program says of its own bytes what they are.)
 fn main(rt: HostRuntime) {
     if let Err(wrong) = run(&mut rt.stdin(), &rt) {
-        shell::complain(&rt, "order", &wrong);
+        shell::complain_of(&rt, "order", &wrong);
     }
 }

@@ -1,14 +1,14 @@
 -- What each job holds after the lines so far, as the walk stores it, and after the last line.
 use Rattle.std.proofs.Common.{◌≡◌, ℕ, suc, ◌^◌, ◌<◌, ◌≤◌, true, false, eqb, ◌⊎◌, List, length, get_or, set, sym, ap}
 use Rattle.std.proofs.Common.{◌∙◌, inl, inr, arith, length-set, get_or-set_other, get_or-set_same, eqb-true}
-use lib.ListN.{length-replicate, get_or-replicate}
+use lib.ListN.{length-map, length-replicate, get_or-replicate}
 use borrow.Author.Tests.{eqb-false}
 use Rattle.model.specs.Board.{devices}
-use Rattle.model.specs.Lists.{has}
+use Rattle.model.specs.Lists.{up_from, has}
 use Rattle.model.specs.Line.{job, at, max_job}
 use Rattle.model.specs.Sets.{empty, member}
 use Rattle.model.specs.WellFormed.{before, held_by}
-use Rattle.theory.proofs.Claims.{get_or_up_from}
+use Rattle.theory.proofs.Claims.{length_up_from, get_or_up_from}
 use Rattle.theory.proofs.Held.{held_foreign}
 use Rattle.theory.proofs.Sets.{member_empty, empty_below}
 use Rattle.theory.proofs.Tests.{test}
@@ -69,6 +69,10 @@ all_held p left w =
     sym (is_where (λ d. has d (held_by j (before p (length p)))) devices (get_or left j 0) o.below o.same))
 
 -- ---- for callers
+
+pub holdings_long : (p : List ℕ) → length (holdings p) ≡ suc max_job
+unfolding holdings
+holdings_long p = length-map (up_from 0 (suc max_job)) (holding p) ∙ length_up_from 0 (suc max_job)
 
 -- the members of a job's set are the devices that it holds after the last line
 pub holding_has : (p : List ℕ) (j d : ℕ) → d < devices

@@ -1,11 +1,9 @@
 -- The first line of each job and the line that starts it, by line numbers from 1; 0 where there is none. Entry j is
 -- job j's.
-use Rattle.std.specs.Prelude.{◌≡◌, ℕ, suc, List, [], ◌∷◌, map}
+use Rattle.std.specs.Prelude.{ℕ, suc, List, [], ◌∷◌, map}
 use Rattle.std.proofs.Math.Option.{Option, none, some}
 use Rattle.model.specs.Lists.{up_from, positions, first_of}
 use Rattle.model.specs.Line.{starts, at, line_number, first_line, max_job}
-use Rattle.model.specs.WellFormed.{fault}
-use Rattle.model.specs.Board.{board}
 
 unfoldable pub number_of_first : List ℕ → ℕ
 unfolding line_number
@@ -24,8 +22,3 @@ first_lines p = map (λ j. number_of_first (first_line j p)) (up_from 0 (suc max
 unfoldable pub starters : List ℕ → List ℕ
 unfolding number_of_found first_of positions starts up_from
 starters p = map (λ j. number_of_found (first_of (λ i. starts (at p i) j) (positions p))) (up_from 0 (suc max_job))
-
--- a plan has no fault, and for each job the number of its first line is listed
-pub record FirstsListed (p first : List ℕ) : Type 0 where
-  pub sound : fault board p ≡ none
-  pub firsts : first ≡ first_lines p

@@ -12,11 +12,20 @@ use model::{Cursor, LineAnswer};
 
 // ---- the step, on a plain text
 
-// How many newlines stand before the offset, or in the whole text, if it ends earlier.
+// How many newlines stand before the offset, or in the whole text, if it ends earlier. It is no part of its
+// caller: there this loop of few steps was timed a quarter slower.
+#[inline(never)]
 fn newlines_before(text: &[u8], offset: usize) -> usize
     ensures { result ≡ count_by (λ b. b == newline) (take offset text.now) }
 {
-    text.iter().take(offset).filter(|b| **b == b'\n').count()
+    let mut lines = 0;
+    for (i, &b) in text.iter().enumerate() {
+        if i == offset {
+            return lines;
+        }
+        lines += usize::from(b == b'\n');
+    }
+    lines
 }
 
 // The line at the offset, with the cursor past it; a refusal with its place; or the end.

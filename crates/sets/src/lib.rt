@@ -29,8 +29,10 @@ pub trait Word: Copy
 
     ghost BITS: { ℕ };
 
-    // The number that it is.
+    // The number that it is, which is no other word's.
     ghost number: { Self → ℕ };
+
+    ghost number_tells: { (a b : Self) → number a ≡ number b → a ≡ b };
 
     // Its lowest member, or the number of its bits where it has none.
     fn lowest_member(self) -> u32
@@ -59,6 +61,8 @@ impl Word for Set {
 
     ghost number = { λ s. s };
 
+    ghost number_tells = { λ a b e. e };
+
     #[tactic(auto, using(theory::proofs::Sets::lowest_member))]
     fn lowest_member(self) -> u32 {
         u32::trailing_zeros(self)
@@ -85,6 +89,8 @@ impl Word for Jobs {
     ghost BITS = { max_job };
 
     ghost number = { λ s. s };
+
+    ghost number_tells = { λ a b e. e };
 
     #[tactic(auto, using(theory::proofs::Sets::lowest_member))]
     fn lowest_member(self) -> u32 {

@@ -51,7 +51,12 @@ pub fn write_output(rt: &impl Print, bytes: &[u8]) -> io::Result<()> {
 }
 
 // Says on standard error, in a line that begins with the program's name, what went wrong.
-pub fn complain(rt: &impl Eprint, program: &str, wrong: &impl Display) {
+pub fn complain(rt: &HostRuntime, line: &[u8]) {
     // Where standard error takes nothing, nobody is left to be told.
+    let _ = rt.stderr().write_all(line);
+}
+
+// The same of what went wrong as it prints.
+pub fn complain_of(rt: &impl Eprint, program: &str, wrong: &impl Display) {
     let _ = eprintln!(rt; "{program}: {wrong}");
 }

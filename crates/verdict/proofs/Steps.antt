@@ -1,7 +1,7 @@
 -- What the code of the order reads off its lists is what the definitions say.
 use Rattle.std.proofs.Common.{◌≡◌, ℕ, suc, ◌+◌, ◌-◌, ◌<◌, ◌≤◌, Bool, true, false, cond, not, ◌&&◌, eqb, ltb, lt-ltb}
 use Rattle.std.proofs.Common.{le-ltb, List, length, get_or, set, Some, None, unwrap_or, refl, add-one}
-use Rattle.std.proofs.Common.{arith}
+use Rattle.std.proofs.Common.{arith, length-set}
 use Rattle.std.specs.Bool.{then_some}
 use Rattle.std.proofs.Math.Option as found
 use Rattle.model.specs.Line.{job, operand, at, is_start, max_job}
@@ -192,3 +192,12 @@ module _ (p lasting : List ℕ) (i next : ℕ) (h : is_sound p ≡ true) (m : la
 
   pub stands_is : then_some (eqb (get_or lasting next 0) 1) next ≡ as_line p (lasting_after p i)
   stands_is = rw (follows.1, marked p lasting (i + 1) h m in_plan, after_is p i, follows.0, add-one i)
+
+-- the list of places is as long as it was
+pub length_placed : (p places : List ℕ) (i : ℕ) → length (placed p places i) ≡ length places
+unfolding placed
+length_placed p places i = go (ltb i (length p))
+  where
+    go : (b : Bool) → length (cond b (set places (place_at p i) i) places) ≡ length places
+    go true = length-set places (place_at p i) i
+    go false = refl

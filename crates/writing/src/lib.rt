@@ -29,23 +29,23 @@ struct Verb {
 static VERBS: [Verb; EACH_VERB] = [
     Verb {
         bytes: *b"do\0\0\0",
-        length: 2,
+        length: b"do".len(),
     },
     Verb {
         bytes: *b"take\0",
-        length: 4,
+        length: b"take".len(),
     },
     Verb {
         bytes: *b"give\0",
-        length: 4,
+        length: b"give".len(),
     },
     Verb {
         bytes: *b"start",
-        length: 5,
+        length: b"start".len(),
     },
     Verb {
         bytes: *b"held\0",
-        length: 4,
+        length: b"held".len(),
     },
 ];
 

@@ -10,6 +10,8 @@ use std::fs::{self, Permissions};
 use std::io::{BufRead, BufReader, Write};
 use std::os::unix::fs::{MetadataExt, PermissionsExt};
 use std::process::{Command, Stdio};
+use std::thread;
+use std::time::Duration;
 
 const RING: &str = "1 start 2; 1 take 0; 1 take 1; 1 give 1; 2 take 1; 2 take 0; 2 give 0";
 const OPEN: &str = "1 start 2; 1 take 0; 1 take 1; 1 give 1; 2 take 1; 2 take 5; 2 give 5";
@@ -257,6 +259,13 @@ fn streams_that_fail() {
     drop(child.stdout.take());
     let mut stdin = child.stdin.take().expect("standard input is a pipe");
     stdin.write_all(b"6 5\n").expect("the command reads");
+    // For a moment a child that another test starts may have the pipe open too, and an answer is taken.
+    for _ in 0..100 {
+        thread::sleep(Duration::from_millis(10));
+        if stdin.write_all(b"6 5\n").is_err() {
+            break;
+        }
+    }
     assert_eq!(ended(child).ends(2).err, "gimmerskip: standard output: Broken pipe\n");
 }
 

@@ -6,4 +6,4 @@ use Rattle.lines.proofs.list_verb.Goals as goal
 pub returns-clause-bytes : goal.returns-clause-bytes
 unfolding highest_of
 returns-clause-bytes c =
-    rw (c.eight_bytes.ensures, take_all 8 c.args.word.now (omega arith))
+    rw (c.few_bytes.ensures, take_all 8 c.args.word.now (omega arith))
